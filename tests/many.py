@@ -9,9 +9,9 @@ from unittest import mock
 from tests.support import InFolder, built, copy_many, module_folder, positions, run, write
 
 BOARD = b"-OXXXXX-XXXXXXXOXXXXXXXXXXXXXXXXXXXOXXXXXXXXXXXXXXXXXXXXXXXXXXXX"  # two empty squares
-# A script that takes the place of the program @real@ and runs it. It appends its arguments to the file $WORDS. It dies
-# or fails if its input has DIE or FAIL. For a part of a list, it first sleeps $PAUSE seconds, or 45 once $LAST parts
-# are solved, and the Python function $SPOIL changes the output. For the known line, $SPOIL_KNOWN changes the output.
+# A script that replaces the program @real@ and runs it. It appends its arguments to the file $WORDS. If its input has
+# DIE or FAIL, it kills itself or fails. For a part of a list, it first sleeps $PAUSE seconds, or 45 once $LAST parts
+# are solved, and the Python function $SPOIL changes the output. $SPOIL_KNOWN changes that for the line solve.KNOWN.
 ACTING = """\
 #!@python@ -IS
 import glob, os, signal, subprocess, sys, time
@@ -37,9 +37,9 @@ sys.stdout.buffer.write(eval(spoil)(subprocess.run(command, stdout=subprocess.PI
 
 
 def install(name, *changes, script=None):
-    """Installs ffosolve-many in a new folder, beside ffosolve and ffoscores or, if `script` is given, beside copies of
-    it that run these two. For each (module, old text, new text) of `changes`, replaces the text in a module of
-    ffosolve-many. Returns the path of ffosolve-many."""
+    """Installs ffosolve-many in the new folder BASE/`name` and returns its path. Next to it are ffosolve and ffoscores
+    or, if `script` is given, this script under both names: in it, @real@ stands for the program's path, and @python@
+    for Python's. Each (module, old, new) of `changes` replaces the text `old` in a module of ffosolve-many."""
     many = copy_many(BASE / name)
     for module, old, new in changes:
         path = many.parent.parent / f"python/src/ffosolve/_many/{module}.py"
@@ -52,13 +52,13 @@ def install(name, *changes, script=None):
     return many
 
 
-def setUpModule():
-    """Installs ffosolve-many with the programs (MANY), and with the script ACTING in their place (ACTS). Makes a list
-    (SMALL) of 60 positions, in lines of 68 bytes."""
+def setUpModule(python=sys.executable):
+    """Sets BASE to a new folder, MANY to the path of an ffosolve-many there, ACTS to one that runs the script ACTING
+    instead of the programs, and SMALL to a list of 60 positions, in lines of 68 bytes. `python` runs both."""
     global BASE, MANY, ACTS, SMALL
     BASE = module_folder()
     (BASE / "tmp").mkdir()
-    write(BASE / "python/python3", f'#!/bin/sh\nexec "{sys.executable}" "$@"\n')  # the one on the path may be slow
+    write(BASE / "python/python3", f'#!/bin/sh\nexec "{python}" "$@"\n')  # the one on the path may be slow
     places = {"TMPDIR": f"{BASE}/tmp", "PATH": f"{BASE}/python:{os.environ['PATH']}"}
     unittest.enterModuleContext(mock.patch.dict(os.environ, places))
     MANY, ACTS = install("plain"), install("acting prefix", script=ACTING)
@@ -66,8 +66,8 @@ def setUpModule():
 
 
 class Case(InFolder):
-    """A test in a folder with a list of 60 positions, `list.obf`. One run of ffosolve printed `self.one` for that list,
-    and wrote the book `one.book`."""
+    """A test in a folder with a list of 60 positions, `list.obf`, and the book that one run of ffosolve wrote for it,
+    `one.book`. `self.one` is what that run printed, as bytes."""
 
     WORDS = ("--lines=20", "work", "list.obf", "--book-out", "joined.book")
 
@@ -76,17 +76,17 @@ class Case(InFolder):
         self.write_list(SMALL)
 
     def write_list(self, text, *options):
-        """Writes `text` to list.obf, and runs ffosolve with `options`: it prints `self.one` and writes one.book."""
+        """Writes `text` to list.obf, and runs ffosolve with `options`, which prints `self.one` and writes one.book."""
         write("list.obf", text)
         ran = run(MANY.with_name("ffosolve"), "--book-out", "one.book", *options, "list.obf")
         self.assertEqual((ran.returncode, ran.stderr), (0, b""))
         self.one = ran.stdout
 
     def many(self, *words, status=0, output=None, message="", by=None, places={}, **how):
-        """Runs MANY, or the command `by` if it is given, with the variables `places` added to the environment. Asserts
-        its status, its output, and that `message` is in its errors; returns the errors. The output is by default
-        `self.one` if the status is 0, and otherwise empty. If the status is 0 and joined.book is one of `words`,
-        asserts that this book equals one.book, and removes it."""
+        """Runs MANY or the command `by` with the arguments `words`, and with `places` added to the environment. Asserts
+        that it ends with `status`, prints `output` (by default, `self.one` if `status` is 0 and otherwise nothing), and
+        has `message` in its standard error, which is returned. If `status` is 0 and joined.book is one of `words`, also
+        asserts that this book equals one.book, and removes it. `how` are other keyword arguments of `run`."""
         ran = run(by or MANY, *words, env={**os.environ, **places}, **how)
         errors = ran.stderr.decode()
         if output is None:
@@ -102,17 +102,16 @@ class Case(InFolder):
         self.assertEqual(Path(name).read_bytes(), Path("one.book").read_bytes())
 
     def files(self):
-        """Returns {path: (content, mode)} for everything in the test's folder. A folder's content is False."""
+        """Returns {path: (bytes, or False for a folder; mode)} for everything in the test's folder."""
         return {path: (path.is_file() and path.read_bytes(), path.lstat().st_mode) for path in Path(".").rglob("*")}
 
     def refused(self, status, message, *words, **how):
-        """Asserts that a run prints only an error of one line, with advice if `status` is 2, and changes no file."""
+        """Calls `many`. Asserts that no file changes, and that the error is one line, with advice if `status` is 2."""
         before = self.files()
         (line,) = self.many(*words, status=status, message=message, **how).splitlines()
         advice = "(Try 'ffosolve-many --help'|use |name |merged)" if status == 2 else ""
         self.assertRegex(line, f"^ffosolve-many: .*{advice}")
         self.assertEqual(self.files(), before)
 
-    def done(self):
-        """Returns the number of parts that are solved in the folder `work`."""
+    def parts_solved(self):
         return len(list(Path("work/results").glob("[0-9]" * 7)))

@@ -150,9 +150,7 @@ class Results(Case):
         self.many("--jobs=300", "--lines=1", *self.WORDS[1:], message=message, preexec_fn=limited(RLIMIT_NOFILE=256))
 
 
-class Words(Case):
-    """Command lines that are refused before anything is solved, and the options `--help` and `--version`."""
-
+class CommandLine(Case):
     def test_wrong_command_lines_are_refused(self):
         for name in ("two.obf", "kept", b"not\xff"):
             write(os.fsdecode(name), many.SMALL)
@@ -251,9 +249,7 @@ class Words(Case):
             self.assertIn(message, ran.stderr.decode() or Path("joined.book").read_text())
 
 
-class Merging(Case):
-    """--merge-books merges books of the same scoring into one, and refuses others."""
-
+class MergeBooks(Case):
     def test_merged_books_are_the_book_of_all(self):
         whole = Path("one.book").read_bytes()
         header, *entries = whole.splitlines(keepends=True)
@@ -283,12 +279,11 @@ class Merging(Case):
         self.many("--lines=1", *self.WORDS[1:], by=by)
 
     def test_a_book_in_another_spelling_is_merged(self):
-        board = "XXXXXXXXXXXXXXXXXXXXXXXXXXXXOXXXXXXXXXXXXXXXXXXXOXXXXXXX-XXXXXO-"
-        write("mine.book", f"% my own\n\n {board.lower()}\tb; h8:+52; a8:62 % why\r\n")
+        write("mine.book", b"% my own\n\n " + BOARD[::-1].lower() + b"\tb; h8:+52; a8:62 % why\r\n")
         first = ROOT / "examples/first.book"
         self.many("--merge-books", "mine.book", first, output=first.read_bytes())
 
-    def test_the_merged_book_is_read_before_it_is_handed_over(self):
+    def test_the_merged_book_is_checked_before_it_is_written(self):
         by = install("misprinting", ("books", "whole.seek(0)", "whole.write(b'no entry\\n'); whole.seek(0)"))
         self.many("--merge-books", "one.book", by=by, status=3, message="the merged book: book line 62: bad square")
 
@@ -309,7 +304,7 @@ class Merging(Case):
         write("bad.book", b"% ffobook 3 winner\n")
         self.refused(3, "bad.book: book line 1: unknown header", "--merge-books", "one.book", "bad.book")
 
-    def test_the_claim_of_a_line_is_the_greatest_score_and_its_moves(self):
+    def test_an_entry_of_a_book_has_the_greatest_score_of_its_line_and_the_moves_with_that_score(self):
         head = BOARD + b" X;"
         for fields, claim in ((b" A1:+02;", b" A1:+02;"), (b"b2:2 ; A1:+02;C1:-64;", b" A1:+02; B2:+02;"),
                               (b"H1:1;A2:1", b" H1:+01; A2:+01;"), (b" A1:-0; junk; A9:+3; A1:+65", b" A1:+00;"),
@@ -321,8 +316,6 @@ class Merging(Case):
 
 
 class Progress(unittest.TestCase):
-    """Progress and the time left, measured with a fake clock that each test sets."""
-
     # Seconds that bench/peer.rs took for each part of 264 positions with 8 to 18 empty squares, six in a part.
     TOOK = (0.010, 0.278, 0.010, 0.223, 0.028, 0.331, 0.060, 0.105, 0.138, 1.174, 0.240, 0.010, 0.173, 0.014, 0.264,
             0.031, 0.364, 0.055, 0.342, 0.058, 0.181, 0.220, 0.007, 0.177, 0.009, 0.164, 0.016, 0.148, 0.026, 0.172,
@@ -330,11 +323,11 @@ class Progress(unittest.TestCase):
     FULL = b"X" * 64 + b" X\n"  # a line of weight 1
 
     def setUp(self):
-        self.now = 0.0
+        self.now = 0.0  # the time of the mocked clock, in seconds
         self.enterContext(mock.patch("time.monotonic", lambda: self.now))
 
     def progress(self, texts, lines=1):
-        """Returns the Progress of a run with a part for each of `texts`; each part counts as `lines` lines."""
+        """Returns the engine.Progress of a run. `texts` are its parts; each of these counts as `lines` lines."""
         a_run = folder.Run.__new__(folder.Run)
         a_run.lines, a_run.all_lines, a_run.parts, a_run.text = lines, len(texts) * lines, len(texts), texts.__getitem__
         return engine.Progress(a_run, range(len(texts)), 20)

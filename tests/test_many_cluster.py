@@ -21,7 +21,7 @@ def setUpModule():
     global HASTY
     if PYTHON is None:
         lack("distributed (Debian: python3-distributed)")
-    many.setUpModule()
+    many.setUpModule(PYTHON)
     HASTY = install("hasty", ("cluster", "LOST_SECONDS = 30", "LOST_SECONDS = 12"),
                     ("solve", "KNOWN_SECONDS = 30", "KNOWN_SECONDS = 2"),
                     ("engine", "(1 if is_terminal else 60)", "1"), script=ACTING)
@@ -29,7 +29,7 @@ def setUpModule():
 
 class Interfaces(unittest.TestCase):
     def test_the_calls_of_later_versions_of_dask_are_used(self):
-        """Dask is a mock. Its cluster has two workers, one of which is ready; later, no worker can take the part."""
+        """Dask is a mock. Of its cluster's workers, h1 is ready and h2 is not. At last, none can take part 0."""
         dask, workers = mock.Mock(WorkerPlugin=object), {"h1": (None, 2, "h1", 2, []), "h2": (None, None, "h2", 7, [])}
         client, pool = dask.Client.return_value, dask.Client.return_value.get_executor.return_value
         client.status = "running"
@@ -59,8 +59,8 @@ class Cluster(Case):
         self.start_scheduler()
 
     def daemon(self, name, *command, **places):
-        """Starts a scheduler or worker, which logs to NAME.log and ends with the test. The scheduler gives up workers
-        that are silent for 5 seconds."""
+        """Starts a command with `places` added to its environment. It logs to NAME.log and ends with the test. If it is
+        a scheduler, it removes workers that are silent for 5 seconds."""
         settings = {"DASK_DISTRIBUTED__SCHEDULER__WORKER_TTL": "5s", "DASK_DISTRIBUTED__COMM__TIMEOUTS__CONNECT": "3s"}
         with open(f"{name}.log", "wb") as log:
             ran = self.start(*command, "--no-dashboard", stdout=log, stderr=log, start_new_session=True,
@@ -76,28 +76,25 @@ class Cluster(Case):
         self.port = Path("scheduler.json").read_text().partition("tcp://127.0.0.1:")[2].partition('"')[0]
 
     def start_workers(self, *names, **places):
-        """Starts workers with one thread each, and waits until they are registered. A worker that ends, as it does when
-        the scheduler gives it up, is started again."""
+        """Starts workers with one thread, and waits until they are registered. Workers that end are started again."""
         command = ("sh", "-c", 'while :; do "$@"; sleep 0.1; done', "sh", PYTHON, "-m")
         for name in names:
             words = (f"127.0.0.1:{self.port}", "--nthreads=1", f"--local-directory=workers/{name}")
             self.workers[name] = self.daemon(name, *command, "distributed.cli.dask_worker", *words, **places)
         wait_until(lambda: all("Registered to" in Path(f"{name}.log").read_text() for name in names))
 
-    def signal(self, number, *names):
-        """Sends a signal to all processes of the workers of these names."""
+    def signal_workers(self, number, *names):
         for name in names:
             os.killpg(self.workers[name].pid, number)
 
-    def begin(self, **places):
-        """Starts ffosolve-many on the cluster, with its standard error in the file `messages`."""
+    def begin(self):
+        """Starts ffosolve-many on the cluster, with its standard error in the file `messages`. Returns its process."""
         with open("messages", "wb") as log:
-            return self.start(PYTHON, HASTY, "--scheduler", "scheduler.json", *self.WORDS, stderr=log,
-                              env={**os.environ, **places}, preexec_fn=as_at_a_login)
+            return self.start(HASTY, "--scheduler=scheduler.json", *self.WORDS, stderr=log, preexec_fn=as_at_a_login)
 
     def ended(self, ran):
-        """Waits until a run ends. Asserts that its report and its book are those of one run of ffosolve, and that all
-        programs on the workers end. Returns the run's messages."""
+        """Waits until the run that `begin` started ends. Asserts that its report and its book are those of one run of
+        ffosolve, and that the programs on all workers end. Returns its messages."""
         output, _ = ran.communicate(timeout=2 * SECONDS)
         self.assertEqual((ran.returncode, output), (0, self.one), self.messages())
         self.same_book()
@@ -108,24 +105,25 @@ class Cluster(Case):
         return Path("messages").read_text()
 
     def programs(self, worker=""):
-        """Returns the processes that solve parts on the worker of this name, by default on all workers."""
+        """Returns {number: command line} of the processes that solve parts on a worker or, by default, on all."""
         return processes_in(self.folder / "workers" / worker)
 
     def test_report_book_and_scores_are_those_of_one_run(self):
         self.start_workers("worker1", "worker2")
         self.ended(self.begin())
         shutil.rmtree("work")
-        self.many(many.MANY, "--scheduler", f"tcp://127.0.0.1:{self.port}", *self.WORDS, by=PYTHON)
+        self.many("--scheduler", f"tcp://127.0.0.1:{self.port}", *self.WORDS)
         self.assertEqual({path.parts[0] for path in Path(".").rglob("program-?")}, {"work"})
         scores = run(many.MANY.with_name("ffoscores"), "list.obf").stdout
-        self.many(many.MANY, "--scheduler=scheduler.json", "--scores", "scores", "list.obf", by=PYTHON, output=scores)
+        self.many("--scheduler=scheduler.json", "--scores", "scores", "list.obf", output=scores)
 
-    def test_workers_may_be_killed_or_fall_silent_or_join_late(self):
-        self.start_workers("worker1", "worker2", "worker3", PAUSE="1")
+    def test_workers_are_waited_for_and_may_be_killed_or_fall_silent_or_join_late(self):
         ran = self.begin()
-        wait_until(lambda: self.done() >= 1 and self.programs("worker1") and self.programs("worker2"))
-        self.signal(signal.SIGKILL, "worker1")
-        self.signal(signal.SIGSTOP, "worker2")
+        wait_until(lambda: "0%, no machine at work, parts 0 of 15" in self.messages())
+        self.start_workers("worker1", "worker2", "worker3", PAUSE="1")
+        wait_until(lambda: self.parts_solved() >= 1 and self.programs("worker1") and self.programs("worker2"))
+        self.signal_workers(signal.SIGKILL, "worker1")
+        self.signal_workers(signal.SIGSTOP, "worker2")
         self.start_workers("worker1", PAUSE="0.1")
         wait_until(lambda: self.programs("worker1"))
         self.ended(ran)
@@ -133,22 +131,16 @@ class Cluster(Case):
     def test_all_workers_may_be_silent_for_longer_than_the_scheduler_waits(self):
         self.start_workers("worker1", "worker2", PAUSE="1")
         ran = self.begin()
-        wait_until(lambda: self.done() >= 2)
-        self.signal(signal.SIGSTOP, "worker1", "worker2")
+        wait_until(lambda: self.parts_solved() >= 2)
+        self.signal_workers(signal.SIGSTOP, "worker1", "worker2")
         wait_until(lambda: "%, no machine at work, parts " in self.messages())
-        self.signal(signal.SIGCONT, "worker1", "worker2")
-        self.ended(ran)
-
-    def test_a_cluster_without_workers_is_waited_for(self):
-        ran = self.begin()
-        wait_until(lambda: "0%, no machine at work, parts 0 of 15" in self.messages())
-        self.start_workers("worker1")
+        self.signal_workers(signal.SIGCONT, "worker1", "worker2")
         self.ended(ran)
 
     def test_a_worker_whose_program_is_wrong_or_late_gets_no_part(self):
         self.start_workers("worker1", SPOIL_KNOWN="lambda text: text.replace(b'+', b'-')")
         self.start_workers("worker2", SPOIL_KNOWN="lambda text: time.sleep(60)")
-        ran = self.begin(WORDS="words")
+        ran = self.begin()
         wait_until(lambda: self.messages().count(" is left out: ") == 2)
         self.start_workers("worker3")
         messages = self.ended(ran)
@@ -163,7 +155,7 @@ class Cluster(Case):
         self.assertRegex(messages, r" failed part 00000\d\d \(lines \d+ to \d+\): its results are not complete\n")
         self.assertRegex(messages, r" is left out: 3 parts failed in a row\n")
         shutil.rmtree("work")
-        self.signal(signal.SIGKILL, "worker2")
+        self.signal_workers(signal.SIGKILL, "worker2")
         wait_until(lambda: "Remove worker" in Path("scheduler.log").read_text())
         ran = self.begin()
         self.assertEqual((ran.communicate(timeout=SECONDS)[0], ran.returncode), (b"", 1), self.messages())
@@ -174,8 +166,8 @@ class Cluster(Case):
         self.start_workers("worker1", PAUSE="0.5")
         for count, is_lost in ((2, True), (5, False)):
             ran = self.begin()
-            wait_until(lambda: self.done() >= count)
-            self.signal(signal.SIGKILL, "worker1")
+            wait_until(lambda: self.parts_solved() >= count)
+            self.signal_workers(signal.SIGKILL, "worker1")
             self.scheduler.kill()
             self.scheduler.wait()
             wait_until(lambda: "%, no machine at work, parts " in self.messages())
@@ -189,7 +181,7 @@ class Cluster(Case):
 
     def test_signals_end_the_programs_of_the_workers_and_kills_at_random_moments_lose_nothing(self):
         self.start_workers("worker1", PAUSE="0.7")
-        self.start_workers("worker2", LAST="0")  # takes 45 seconds for a part
+        self.start_workers("worker2", PAUSE="45")
         rng = random.Random(1)
         for number in (signal.SIGINT, signal.SIGTERM, signal.SIGHUP, signal.SIGKILL, *[signal.SIGKILL] * 3):
             ran = self.begin()
@@ -203,24 +195,23 @@ class Cluster(Case):
             self.assertNotIn("Traceback", self.messages())
             if output:
                 shutil.rmtree("work")
-        self.signal(signal.SIGKILL, "worker2")
+        self.signal_workers(signal.SIGKILL, "worker2")
         self.ended(self.begin())
 
     def test_a_full_disk_ends_the_run_and_it_goes_on_when_there_is_room(self):
         self.start_workers("worker1", "worker2")
-        words = (many.MANY, "--scheduler=scheduler.json", *self.WORDS)
+        words = ("--scheduler=scheduler.json", *self.WORDS)
         run(many.MANY, "--cut", *self.WORDS)
         full = limited(RLIMIT_FSIZE=len(self.one) // 15 + 400)  # some records are longer
-        self.many(*words, by=PYTHON, preexec_fn=full, status=3,
-                  message="ffosolve-many: cannot write work: File too large\n")
+        self.many(*words, preexec_fn=full, status=3, message="ffosolve-many: cannot write work: File too large\n")
         wait_until(lambda: not self.programs())
-        self.many(*words, by=PYTHON, message=f"in 15 parts, {self.done()} of them solved before")
+        self.many(*words, message=f"in 15 parts, {self.parts_solved()} of them solved before")
 
     def test_a_scheduler_that_cannot_be_reached_is_named(self):
         self.scheduler.kill()
         by = install("impatient", ("cluster", "LOST_SECONDS = 30", "LOST_SECONDS = 1"))
         for address, why in (f"tcp://127.0.0.1:{self.port}", ""), ("nonsense", "[Errno 2] No such file or directory"):
-            self.many(by, "--scheduler", address, "work", "list.obf", by=PYTHON, status=3,
+            self.many("--scheduler", address, "work", "list.obf", by=by, status=3,
                       message=f"cannot reach the scheduler {address}: {why}")
         self.refused(4, "--scheduler needs Python's package distributed (No module named ", "-S", many.MANY,
                      "--scheduler=h1:8786", "other", "list.obf", by=PYTHON)

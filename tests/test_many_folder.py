@@ -17,7 +17,7 @@ from ffosolve._many import command, folder, solve
 
 
 class Functions(InFolder):
-    """What no output shows: how signals, incomplete results, writing to the disk and a folder's lock are handled."""
+    """Functions of ffosolve-many that are called by themselves, since a run does not show what these tests assert."""
 
     def test_signals_after_the_first_are_ignored(self):
         with mock.patch.object(signal, "signal") as handled, self.assertRaises(KeyboardInterrupt):
@@ -62,8 +62,6 @@ class Functions(InFolder):
 
 
 class Resuming(Case):
-    """The same command keeps the parts that have complete results, and solves the others."""
-
     def test_a_part_whose_results_are_not_complete_is_solved_again(self):
         self.many(*self.WORDS)
         self.many(*self.WORDS, message="in 3 parts, 3 of them solved before;")
@@ -74,7 +72,7 @@ class Resuming(Case):
         report, book = results[:int(size)], results[int(size):]
 
         def record(report=report, book=book, part=1, status=0, complete=None):
-            """Returns a record with the right digest, by default the one in the folder."""
+            """Returns a record (the content of a file in work/results) with a right digest, by default part 1's."""
             asked = {"options": {**task["options"], "--complete": complete}}
             head = b"%d %d %d %b" % (status, len(report), len(book), seconds)
             return b"%b %b\n%b%b" % (head, solve.digest_of(asked, part, head, text, report + book), report, book)
@@ -88,19 +86,16 @@ class Resuming(Case):
             self.many(*self.WORDS, message="in 3 parts, 2 of them solved before;")
             self.assertEqual(path.read_bytes().partition(b"\n")[2], results)
 
-    def test_removed_results_are_solved_again(self):
+    def test_removed_results_are_solved_again_by_the_program_that_the_folder_was_begun_with(self):
         self.many(*self.WORDS)
+        before = Path("work/program-0").read_bytes()
+        Path("work/results/0000001").unlink()
+        self.many(*self.WORDS, by=many.ACTS, message="in 3 parts, 2 of them solved before;")
+        self.assertEqual(Path("work/program-0").read_bytes(), before)
         shutil.rmtree("work/results")
         self.many(*self.WORDS, message="in 3 parts, 0 of them solved before;")
         Path("work/task.json").unlink()
         self.many(*self.WORDS, message="in 3 parts, 3 of them solved before;")
-
-    def test_the_folder_keeps_the_program_that_it_was_begun_with(self):
-        self.many(*self.WORDS)
-        before = Path("work", "program-0").read_bytes()
-        Path("work", "results/0000001").unlink()
-        self.many(*self.WORDS, by=many.ACTS, message="in 3 parts, 2 of them solved before;")
-        self.assertEqual(Path("work", "program-0").read_bytes(), before)
 
     def test_damaged_files_of_the_run_are_written_again(self):
         words = (*self.WORDS, "--book-in=one.book")
@@ -131,23 +126,19 @@ class Resuming(Case):
                      "--scores", "work", "list.obf")
         self.many(*words, "--table=9", "--workers=1", "--jobs=3", message=", 3 of them solved before")
 
-    def test_a_list_that_grew_at_its_end_goes_on(self):
-        self.many(*self.WORDS)
-        grown = many.SMALL + many.SMALL[:68 * 30]
-        more = grown + b"% more" + many.SMALL[:68 * 40]
-        for text, message in ((grown, "90 lines in 5 parts, 3 of them"), (more, "130 lines in 7 parts, 4 of them"),
-                              (more, "130 lines in 7 parts, 7 of them solved before")):
-            self.write_list(text)
-            self.many(*self.WORDS, message=message)
-
-    def test_a_list_that_changed_is_refused_by_its_first_line_that_differs(self):
+    def test_a_list_may_grow_at_its_end_and_is_otherwise_refused_by_its_first_line_that_differs(self):
         self.many(*self.WORDS)
         for text, line in ((many.SMALL[:68 * 29] + b"\n" + many.SMALL[68 * 30:], 30), (many.SMALL[:-68], 60),
                            (b"%\n" + many.SMALL, 1), (b"", 1)):
             write("list.obf", text)
             self.refused(2, f"from line {line} on: use another folder, or the same list", *self.WORDS)
-        write("list.obf", many.SMALL)
-        self.many(*self.WORDS, message="in 3 parts, 3 of them solved before;")
+        grown = many.SMALL + many.SMALL[:68 * 30]
+        more = grown + b"% more" + many.SMALL[:68 * 40]
+        for text, message in ((many.SMALL, "in 3 parts, 3 of them solved before;"),
+                              (grown, "90 lines in 5 parts, 3 of them"), (more, "130 lines in 7 parts, 4 of them"),
+                              (more, "130 lines in 7 parts, 7 of them solved before")):
+            self.write_list(text)
+            self.many(*self.WORDS, message=message)
 
     def test_only_the_parts_that_failed_are_solved_again(self):
         self.write_list(many.SMALL + b"% FAIL\n" + many.SMALL + b"% DIE\n")
@@ -182,9 +173,7 @@ class Resuming(Case):
         self.many(*words, message=", 5 of them solved before")
 
 
-class Files(Case):
-    """Which lists are read, from files and from pipes, and which folders are used."""
-
+class ListsAndFolders(Case):
     def test_a_list_is_read_from_standard_input(self):
         self.many("--lines=20", "work", "-", message="-: 60 lines in 3 parts", input=many.SMALL)
         self.many("--lines=20", "work", "/dev/stdin", message=", 3 of them solved before", input=many.SMALL)
@@ -257,25 +246,23 @@ class Files(Case):
 
 
 class Signals(Case):
-    """A signal ends every process of a run, and no solved part is lost."""
-
     WORDS = ("--jobs=2", "--lines=5", *Case.WORDS[1:])
 
     def open(self, *program, last=99):
-        """Starts `program` in a session of its own. many.ACTS takes 45 seconds for a part once `last` are solved."""
+        """Starts a command in a session of its own. In many.ACTS, parts that begin once `last` are solved take 45 s."""
         places = {**os.environ, "PAUSE": "0.15", "LAST": str(last)}
         return self.start(*program, *self.WORDS, start_new_session=True, preexec_fn=as_at_a_login, env=places)
 
     def at_work(self, done):
-        """Starts a run of twelve parts; returns it once `done` parts are solved and two others are being solved."""
+        """Starts a run of 12 parts; returns its process once `done` are solved and two others are being solved."""
         ran = self.open(many.ACTS, last=done)
-        wait_until(lambda: self.done() >= done)
+        wait_until(lambda: self.parts_solved() >= done)
         wait_until(lambda: sum("program-0" in words for words in processes_in(self.folder).values()) == 2)
         return ran
 
     def end(self, ran, *signals):
-        """Sends signals to a run, and waits until it ends. Asserts that a second later, or some seconds later on a busy
-        machine, all its processes have ended. Returns the run's output as bytes, and its errors as text."""
+        """Sends signals to a run, and waits until it ends. Asserts that all its processes have ended one second later,
+        or some seconds later if the machine is busy. Returns (its output as bytes, its errors as text)."""
         for number in signals:
             ran.send_signal(number)
         output, errors = ran.communicate(timeout=SECONDS)
@@ -291,7 +278,7 @@ class Signals(Case):
             self.assertEqual((interrupted, "Traceback" in errors), (number != signal.SIGKILL, False))
         self.many(*self.WORDS, by=many.ACTS, message="lines in 12 parts, 8 of them solved before")
 
-    def test_two_signals_together_end_it_without_a_traceback(self):
+    def test_two_signals_together_end_the_run_without_a_traceback(self):
         pairs = [(signal.SIGINT, signal.SIGTERM), (signal.SIGTERM, signal.SIGINT), (signal.SIGHUP, signal.SIGINT)]
         for pair in pairs * 2:
             ran = self.at_work(0)
@@ -312,12 +299,11 @@ class Signals(Case):
 
     def test_an_interrupt_that_the_caller_ignores_does_not_end_the_run(self):
         ran = self.open("sh", "-c", 'trap "" INT; exec "$@"', "sh", many.ACTS)
-        wait_until(lambda: self.done() > 0)
+        wait_until(lambda: self.parts_solved() > 0)
         output, _ = self.end(ran, signal.SIGINT)
         self.assertEqual((output, ran.returncode), (self.one, 0))
 
     def test_kills_at_random_moments_lose_nothing(self):
-        """Kills the program, its process group, or one of its processes."""
         rng = random.Random(1)
         for _ in range(10):
             ran = self.open(many.ACTS)

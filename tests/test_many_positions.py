@@ -16,7 +16,7 @@ REFUSED = ((SHARED, ffosolve.SharedSquare), (WIDE, ffosolve.TooManyEmpties))
 
 
 def meeting(library, count):
-    """Returns a mock of a library. Its calls wait until `count` of them have begun, and then make the real calls."""
+    """Returns a mock of a library. Its calls for many positions wait until `count` have begun, and are then made."""
     at_once, mocked = threading.Barrier(count), mock.Mock(wraps=library)
 
     def wait(*words):
@@ -35,10 +35,9 @@ class Lists(unittest.TestCase):
         cls.answers = [cls.solver.solve(position) for position in cls.positions]
         cls.scores = [cls.solver.move_scores(position) for position in cls.positions]
 
-    def test_all_calls_find_what_single_ones_find_in_order(self):
-        """The first position takes long, but its result comes first. The others are solved in several parts."""
-        long = random_positions(1, [13])
-        positions = long + 5 * self.positions
+    def test_calls_for_many_positions_return_in_order_what_calls_for_one_return(self):
+        long = random_positions(1, [13])  # whose result comes first nevertheless
+        positions = long + 5 * self.positions  # several parts
         answers = [self.solver.solve(*long), *5 * self.answers]
         scores = [self.solver.move_scores(*long), *5 * self.scores]
         for threads, given in ((1, list), (2, iter), (4, tuple), (3, iter), (1, iter)):
@@ -64,8 +63,7 @@ class Lists(unittest.TestCase):
             answers.close()
             self.assertLess(len(taken), 100_000)
 
-    def test_as_many_threads_as_asked_call_at_once(self):
-        """Each call gets the scoring and the number of table entries of the solver."""
+    def test_as_many_threads_as_asked_make_calls_at_once_with_the_scoring_and_table_of_the_solver(self):
         for threads in (3, 6):
             solver, positions = Solver(scoring=2, entries=7), random_positions(threads, [16])  # each is one part
             answers, scores = solver.solve_all(positions), solver.move_scores_all(positions)
@@ -94,13 +92,12 @@ class Lists(unittest.TestCase):
         self.assertTrue(all(waited))
         self.assertLessEqual(next(begun), 4)
 
-    def test_few_positions_are_read_ahead_of_one_that_takes_long(self):
-        """While one thread solves the first position for a second, another thread solves the positions after it."""
+    def test_few_positions_are_read_while_the_first_is_being_solved(self):
         begun, taken, solver = itertools.count(), itertools.count(), Solver()
 
         def solve_all(*words):
             if next(begun) == 0:
-                time.sleep(1)
+                time.sleep(1)  # meanwhile, another thread solves the positions that follow
             return 0
 
         solver._library = mock.Mock(ffosolve_solve_all=solve_all)
@@ -120,13 +117,12 @@ class Lists(unittest.TestCase):
             self.assertEqual((found, refused.exception.index), (wanted[:place], place))
 
     def test_a_list_is_refused_before_anything_is_solved(self):
-        """The first position would take hours. The refused position is in the same part of the list or a later one."""
-        solver, hopeless = Solver(max_empties=34), random_positions(1, [34])
+        solver, hopeless = Solver(max_empties=34), random_positions(1, [34])  # which would take hours to solve
         calls, lists = (solver.solve_all, solver.move_scores_all), (hopeless, hopeless + self.positions)
         for (bad, error), threads, before, call in itertools.product(REFUSED, (1, 2), lists, calls):
             with self.assertRaises(error) as refused:
                 call([*before, bad, SHARED], threads=threads)
-            self.assertEqual(refused.exception.index, len(before))
+            self.assertEqual(refused.exception.index, len(before))  # in the first part of the list, or in another
 
     def test_a_number_of_threads_is_refused_by_its_name(self):
         for name in ("solve_all", "solve_iter", "move_scores_all", "move_scores_iter"):
@@ -140,9 +136,8 @@ class Arrays(unittest.TestCase):
         self.solver, self.positions = Solver(), random_positions(400, range(11))
         self.own, self.opp = self.numpy.array(self.positions, "uint64").T
 
-    def check(self, solver, positions, threads):
-        """Asserts that arrays hold what lists hold: `solve_arrays` and `solve_all` find the same, and so do
-        `move_scores_arrays` and `move_scores_all`."""
+    def same_as_lists(self, solver, positions, threads):
+        """Asserts that `solve_arrays` and `move_scores_arrays` find what `solve_all` and `move_scores_all` find."""
         own, opp = self.numpy.array(positions, "uint64").reshape(-1, 2).T
         answers, scores = (call(own, opp, threads=threads) for call in (solver.solve_arrays, solver.move_scores_arrays))
         self.assertEqual([str(array.dtype) for array in (*answers, scores)], ["int32", "int32", "uint64", "int8"])
@@ -154,9 +149,8 @@ class Arrays(unittest.TestCase):
         self.assertEqual(listed, solver.move_scores_all(positions, threads=threads))
 
     def test_arrays_hold_what_lists_hold(self):
-        """Tries each scoring, one thread and several, and empty arrays."""
         for scoring, threads, count in (*((scoring, 1, 90) for scoring in ffosolve.Scoring), (0, 3, 400), (0, 2, 0)):
-            self.check(Solver(scoring=scoring), self.positions[:count], threads)
+            self.same_as_lists(Solver(scoring=scoring), self.positions[:count], threads)
 
     def test_the_table_is_for_the_most_empty_squares_of_a_call(self):
         solver, empties = Solver(), ((3, 16, 9), (16, 3), (3, 16))
@@ -170,7 +164,7 @@ class Arrays(unittest.TestCase):
         for given, entries in ((7, 7), (None, ffosolve.table_entries(16))):
             solver = Solver(scoring=2, entries=given)
             library = solver._library = meeting(solver._library, 3)
-            self.check(solver, random_positions(3, [16]), threads=3)
+            self.same_as_lists(solver, random_positions(3, [16]), threads=3)
             self.assertEqual([call.args[2:4] for call in library.method_calls], [(2, entries)] * 12)
 
     def test_wrong_positions_and_arrays_are_refused(self):

@@ -15,7 +15,6 @@ ClusterName=ffosolve
 SlurmctldHost={host}(127.0.0.1)
 AuthType=auth/none
 CredType=cred/none
-SlurmUser=root
 SlurmctldPort={ports[0]}
 SlurmdPort={ports[1]}
 StateSaveLocation={place}/state
@@ -45,8 +44,7 @@ class Slurm(Case):
         for name in ("slurmctld", "slurmd"):
             self.start(name, "-D", stdout=subprocess.DEVNULL, stderr=subprocess.DEVNULL)
         wait_until(lambda: b"idle" in run("sinfo", "-h", "-o", "%T").stdout)
-        document = stored("docs/many-machines.md").decode()
-        self.scripts = re.findall(r"```sh\n(#!/bin/sh\n#SBATCH.*?)```", document, re.DOTALL)
+        self.scripts = re.findall(b"```sh\n(#!/bin/sh\n#SBATCH.*?)```", stored("docs/many-machines.md"), re.DOTALL)
 
     def test_the_job_array_of_the_document_solves_all_parts(self):
         write("part.sh", self.scripts[1])
@@ -58,8 +56,8 @@ class Slurm(Case):
     def test_the_job_of_the_document_solves_a_list_on_its_own_cluster(self):
         need("dask")
         os.symlink(many.MANY.parent, "bin")
-        job = self.scripts[0].replace("--nodes=4", "--nodes=1").replace("--cpus-per-task=8", "--cpus-per-task=2")
-        write("job.sh", job.replace("list.obf", "--lines=3 list.obf"))
+        job = self.scripts[0].replace(b"--nodes=4", b"--nodes=1").replace(b"--cpus-per-task=8", b"--cpus-per-task=2")
+        write("job.sh", job.replace(b"list.obf", b"--lines=3 list.obf"))
         run("sbatch", "--wait", "--output=job.log", "job.sh", check=True, timeout=5 * SECONDS)
         self.assertEqual(Path("list.report").read_bytes(), self.one, Path("job.log").read_text())
         self.assertIn("60 lines in 20 parts, 0 of them solved before", Path("job.log").read_text())

@@ -1,4 +1,4 @@
-"""Threads of the programs: how many run, that any number gives the same output, and that they end with the program."""
+"""Threads of the programs: how many run, that the output is the same for any number, and that they end."""
 import os
 import random
 import signal
@@ -7,14 +7,10 @@ import time
 from tests.support import (ROOT, SECONDS, InFolder, as_at_a_login, built, limited, positions, processes_in,
                            refuse_threads, run, stored, wait_until, write)
 
-RUNS = 100  # runs with 64 files and 64 workers
-OFTEN = 500  # runs; one in fifteen hung while a fault left a thread asleep
 WORKERS = (0, 1, 3, 64)
-HOURS = b"-" * 27 + b"OX------XO" + b"-" * 27 + b" X;\n"
+HOURS = b"-" * 27 + b"OX------XO" + b"-" * 27 + b" X;\n"  # a position that takes hours
 HARD = b"-XXXXX----XOOX--XXXXOOOO-OXOOOO-OOXOOX--OOX-OOOOOXXXXXX-X----XXX O\n"  # 17 empty squares, 0.2 seconds
 EASY = stored("examples", "first.obf").splitlines(True)[1:]  # positions with two empty squares, and their scores
-HARD_FILES = ["hard-0.obf", "hard-1.obf"]
-MANY_FILES = [f"{number}.obf" for number in range(64)]
 
 
 def threads_of(process):
@@ -22,16 +18,8 @@ def threads_of(process):
 
 
 class Files(InFolder):
-    def setUp(self):
-        super().setUp()
-        for number, name in enumerate(MANY_FILES):
-            write(name, b"".join(EASY[number % 3:] + EASY))
-        for number, name in enumerate(HARD_FILES):
-            write(name, b"".join([HARD][number:] + EASY + [HARD]))
-
     def solve(self, *words, **how):
-        """Runs ffosolve, which writes its book to standard error. Returns ((report, book), the greatest number of
-        threads that it was seen with)."""
+        """Runs ffosolve, with its book on standard error. Returns ((report, book), the most threads seen)."""
         process, seen = self.start(built(), "--book-out", "/dev/stderr", *words, **how), []
 
         def has_ended():
@@ -43,11 +31,13 @@ class Files(InFolder):
         return process.communicate(), max(seen)
 
     def test_each_file_and_each_worker_has_a_thread_and_the_report_is_the_same_if_none_can_be_started(self):
-        wanted, _ = self.solve(*HARD_FILES)
+        easy = b"".join(EASY)
+        files = [write("0.obf", HARD + easy + HARD), write("1.obf", easy + HARD)]
+        wanted, _ = self.solve(*files)
         for workers in (0, 1, 4, 64):
             with self.subTest(workers=workers):
-                words = ["--workers", workers, *HARD_FILES]
-                self.assertEqual(self.solve(*words), (wanted, 1 + workers + len(HARD_FILES)))
+                words = ["--workers", workers, *files]
+                self.assertEqual(self.solve(*words), (wanted, 1 + workers + len(files)))
                 self.assertEqual(self.solve(*words, preexec_fn=refuse_threads), (wanted, 1))
 
     def test_workers_end_if_there_is_no_position(self):
@@ -55,18 +45,19 @@ class Files(InFolder):
             self.ends((0, "[1]\nsolved 0 refused 0\n", ""), built(), "--workers", workers, "/dev/null")
 
     def test_64_files_with_64_workers_always_have_the_same_report(self):
-        words = ["--workers", 64, *MANY_FILES]
+        files = [write(f"{number}.obf", b"".join(EASY[number % 3:] + EASY)) for number in range(64)]
+        words = ["--workers", 64, *files]
         wanted, _ = self.solve(*words)
         self.assertTrue(wanted[0].endswith(b"refused 0\n") and wanted[0].count(b"[") == 64, wanted[0][-100:])
         self.assertEqual(self.solve(*words, preexec_fn=refuse_threads), (wanted, 1))
-        for number in range(RUNS):
+        for number in range(100):
             self.assertEqual(self.solve(*words)[0], wanted, f"run {number}")
 
 
 class Lines(InFolder):
     def same(self, *lists, **how):
-        """Asserts that the output and the status of ffoscores for some lists do not depend on the number of workers.
-        `how` are keyword arguments of `run`. The first run is made without these, and shows what has to be printed."""
+        """Asserts that ffoscores prints for these lists, with each number of WORKERS and the keyword arguments `how` of
+        `run`, what it prints without workers and `how`, and ends with status 1 if a line is refused, otherwise 0."""
         names = [write(f"{number}.obf", text) for number, text in enumerate(lists)]
         words = built("ffoscores"), *names, "--workers"
         printed = run(*words, 0).stdout
@@ -87,7 +78,7 @@ class Lines(InFolder):
             self.same(positions(40, 7, 13), preexec_fn=prepare)
 
     def test_each_of_many_short_runs_ends(self):
-        for number in range(OFTEN):
+        for number in range(500):  # one in fifteen hung while a fault left a thread asleep
             ran = run(built("ffoscores"), "--workers", 3, ROOT / "examples/kinds.obf")
             self.assertEqual((ran.returncode, ran.stdout), (1, stored("examples", "kinds.scores")), f"run {number}")
 
@@ -112,13 +103,12 @@ class Lines(InFolder):
                 self.assertEqual(program.returncode, 0)
 
     def test_n_workers_score_n_plus_one_lines_at_once_and_each_is_printed_as_soon_as_those_before_are_scored(self):
-        """The lines before HOURS are printed, and EASY[0] after it is not. 0 workers start no thread."""
         known = [*positions(24, 10, 13).splitlines(True), b"% next\n"]
         for workers in WORKERS:
             with self.subTest(workers=workers):
                 program = self.begin(b"".join([*known, HOURS, EASY[0], HOURS * 70]), "--workers", workers)
                 self.assertEqual([program.stdout.readline()[:66] for _ in known], [line[:66] for line in known])
-                threads = workers + 2 if workers else 1
+                threads = workers + 2 if workers else 1  # 0 workers start no thread
                 wait_until(lambda: threads_of(program) >= threads)
                 time.sleep(1)  # in which one thread too many could start
                 self.assertEqual(threads_of(program), threads)
