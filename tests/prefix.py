@@ -32,7 +32,7 @@ def names_of_files():
 
 
 def copied_checkout(folder):
-    """Builds everything, copies the checkout with all that is built to `folder`, and returns `folder`. The copies keep
+    """Builds everything, copies the checkout and its folder out/ into `folder`, and returns `folder`. The copies keep
     the modification times of the files, and everybody may read them."""
     run("make", "-s", "-C", ROOT, "levels", stderr=None, timeout=None, check=True)
     shutil.copytree(ROOT / "out", folder / "out", ignore=shutil.ignore_patterns("tests", "*.log", "*.tar.gz*", "*.new"))

@@ -250,8 +250,7 @@ class Build(InFolder):
         self.ran(self.use(), 1)
 
     def test_in_a_checkout_of_another_user_a_built_program_runs_and_no_other_is_built(self):
-        """The program also runs if a source has a new modification time, and if sources can't be read nor out/ be
-        written."""
+        """The program also runs if a source has a new time, and if sources can't be read nor out/ be written."""
         def closed(*changes):
             run("sh", "-euc", "\n".join(("chmod -R a-w .", *changes)), cwd=self.root, check=True)
             ran = run(self.script, "w", input="read\n", **HOW, **NOBODY)

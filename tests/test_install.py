@@ -275,7 +275,7 @@ COMP_LINE=${COMP_LINE// = /=} COMP_POINT=${#COMP_LINE}
 $(complete -p "${0##*/}" | cut -d " " -f 3) "$0" "${!#}" "${COMP_WORDS[COMP_CWORD-1]}"
 printf "%s\n" "${COMPREPLY[@]}"
 """
-FISH = 'source $SHARE/fish/vendor_completions.d/(basename $argv[1]).fish; complete -C "$argv"'
+FISH = "fish", "-N", "-c", 'source $SHARE/fish/vendor_completions.d/(basename $argv[1]).fish; complete -C "$argv"'
 # Completes each line of the file `asked`, and appends the result to the file `completed`.
 ZSHRC = """
 fpath=($SHARE/zsh/site-functions $fpath); autoload -Uz compinit; compinit -u -d dump
@@ -329,8 +329,8 @@ class Texts(Case):
         self.assertRegex(page.split('.SH "STATUS"')[1], r"with compare: a(.|\n)*REPORT does not belong to it")
 
     def offered(self, *words):
-        """Runs a shell with one of the scripts above and the words of a command, all in `words`. Returns a sorted list
-        of the completions that the script prints, without their descriptions."""
+        """Runs bash or fish with its script above and the words of a command, all in `words`. Returns a sorted list of
+        the completions that the script prints, without their descriptions."""
         need(words[0])
         ran = run(*words, cwd="examples", text=True)
         self.assertEqual((ran.returncode, ran.stderr), (0, ""))
@@ -354,9 +354,8 @@ class Texts(Case):
         self.assertEqual(self.offered("bash", "-c", BASH, "ffosolve", "--scoring", "=", "d"), ["discs"])
 
     def test_fish_completes_options_values_and_files(self):
-        shell = ("fish", "--no-config", "-c", FISH)
-        self.completes(*shell)
-        self.assertEqual(self.offered(*shell, "ffosolve", "--scoring=d"), ["--scoring=discs"])
+        self.completes(*FISH)
+        self.assertEqual(self.offered(*FISH, "ffosolve", "--scoring=d"), ["--scoring=discs"])
 
     def test_zsh_completes_options_values_and_files(self):
         """Runs zsh on a terminal, since only its line editor completes words."""
