@@ -3,10 +3,7 @@ use std::env::{var, var_os};
 use std::path::PathBuf;
 use std::process::Command;
 
-fn folder() -> PathBuf {
-    if let Some(folder) = var_os("FFOSOLVE_LIB_DIR") {
-        return folder.into();
-    }
+fn default_folder() -> PathBuf {
     let pkg_config = var("PKG_CONFIG").unwrap_or_else(|_| "pkg-config".into());
     let ran = Command::new(pkg_config).args(["--variable=libdir", "ffosolve"]).output();
     // pkg-config writes a backslash before each blank in a path.
@@ -22,7 +19,7 @@ fn main() {
     }
     let shared = var_os("CARGO_FEATURE_SHARED").is_some();
     let (kind, file) = if shared { ("dylib", "libffosolve.so") } else { ("static", "libffosolve.a") };
-    let folder = folder();
+    let folder = var_os("FFOSOLVE_LIB_DIR").map_or_else(default_folder, PathBuf::from);
     let file = folder.join(file);
     println!("cargo:rerun-if-changed={}", file.display());
     if !file.exists() {

@@ -2,7 +2,8 @@
 use crate::{MOST_EMPTIES, MOST_ENTRIES};
 use std::fmt;
 
-/// Defines an error. A row has a status of the library, the variant, the name of the number in it, and the text.
+/// Defines an error. A row has a status of the library, the variant, the name of the number in it, and the text. This
+/// text is also the first paragraph of the variant's documentation.
 macro_rules! refusals {
     ($(#[$about:meta])* $name:ident {
         $($(#[$doc:meta])* $status:literal $variant:ident $({ $at:ident })?: $text:literal,)*
@@ -11,7 +12,7 @@ macro_rules! refusals {
         #[derive(Clone, Copy, PartialEq, Eq, Debug)]
         #[non_exhaustive]
         pub enum $name {
-            $($(#[$doc])* $variant $({ $at: usize })?,)*
+            $(#[doc = $text] $(#[doc = ""] #[$doc])* $variant $({ $at: usize })?,)*
             /// A status that this crate does not know: the library is newer.
             Other { status: i32 },
         }
@@ -46,11 +47,10 @@ refusals! {
         1 UnknownScoring: "no scoring has the number",
         2 TooManyEntries: "more than {MOST_ENTRIES} table entries",
         4 SharedSquare: "the masks share a square",
-        /// A position has more than `MOST_EMPTIES` empty squares: the first such one in a list, at `index` from 0.
+        /// The index in a list, counted from 0, of the first such position.
         5 TooManyEmpties { index }: "position at index {index}: more than {MOST_EMPTIES} empty squares",
-        /// The move is not legal.
         6 NoMove: "illegal move",
-        /// Out of memory for the table; never with 0 entries.
+        /// There is no memory for the table; never with 0 entries.
         7 NoMemory: "out of memory",
     }
 }
@@ -58,13 +58,10 @@ refusals! {
 refusals! {
     /// Why a line holds no position; columns are counted from 1, in bytes.
     ObfError {
-        /// Out of memory for the moves that the line lists.
+        /// There is no memory for the moves that the line lists.
         7 NoMemory: "out of memory",
-        /// The line is blank or a comment.
         8 NoPosition: "no position: the line is blank or a comment",
-        /// The line ends after `squares` squares, before the 64th.
         9 ShortBoard { squares }: "board has {squares} of 64 squares",
-        /// A byte in the place of a square does not stand for one.
         10 BadSquare { column }: "bad square at column {column}",
         /// The side to move is missing: another byte is in its place, or the line ends.
         11 BadSide { column }: "bad side at column {column}",

@@ -17,7 +17,6 @@
 //! some 3 to 16 times as long. A program that has to be able to stop a call makes it in a process of its own. For 14
 //! empty squares a call needs up to 32 KiB of stack, and for 60 up to 128 KiB.
 
-mod answers;
 mod errors;
 mod lines;
 mod positions;
@@ -25,9 +24,8 @@ pub mod raw;
 mod solvers;
 mod squares;
 
-pub use answers::{Answer, Best};
 pub use errors::{Error, ObfError};
 pub use lines::{Line, Listed, Side};
 pub use positions::Position;
-pub use solvers::{library_version, table_entries, Scoring, Solver, MOST_EMPTIES, MOST_ENTRIES};
+pub use solvers::{library_version, table_entries, Answer, Best, Scoring, Solver, MOST_EMPTIES, MOST_ENTRIES};
 pub use squares::{Square, SquareError, Squares};

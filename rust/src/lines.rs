@@ -1,6 +1,5 @@
 //! Lines of OBF text.
-use crate::raw;
-use crate::{ObfError, Position, Square};
+use crate::{raw, ObfError, Position, Square};
 use std::fmt;
 
 /// The colour of the side to move.
@@ -10,14 +9,11 @@ pub enum Side {
     White,
 }
 
-/// What a line lists with a score. It prints as `H1`, `PS` or `--`.
+/// What a line lists with a score: a move, a pass, or the end of the game. It prints as `H1`, `PS` or `--`.
 #[derive(Clone, Copy, PartialEq, Eq, Hash, Debug)]
 pub enum Listed {
-    /// A move.
     Move(Square),
-    /// A pass.
     Pass,
-    /// The end of the game.
     Over,
 }
 
@@ -36,7 +32,6 @@ impl fmt::Display for Listed {
 pub struct Line {
     /// The position; its mover is the side to move.
     pub position: Position,
-    /// The side to move.
     pub side: Side,
     /// The moves that the line lists, in their order, each with its score from -64 to 64. They may be illegal, and the
     /// scores wrong.
@@ -62,7 +57,8 @@ impl Line {
         ObfError::of_status(status, at)?;
         let side = if line.side == 0 { Side::Black } else { Side::White };
         let listed = listed.iter().take(line.listed).map(listed_of).collect();
-        Ok(Line { position: Position::of_raw(line.position), side, listed })
+        let raw::Position { own, opp } = line.position;
+        Ok(Line { position: Position { own, opp }, side, listed })
     }
 }
 

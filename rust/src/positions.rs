@@ -1,12 +1,11 @@
 //! A position, and the rules of the game.
-use crate::raw;
-use crate::{Error, Line, ObfError, Square, Squares};
+use crate::{raw, Error, Line, ObfError, Square, Squares};
 
 /// The discs of the mover, which is the side to move, and those of the other side. No square has both.
 #[derive(Clone, Copy, PartialEq, Eq, Hash, Debug)]
 pub struct Position {
-    own: u64,
-    opp: u64,
+    pub(crate) own: u64,
+    pub(crate) opp: u64,
 }
 
 impl Position {
@@ -15,17 +14,13 @@ impl Position {
     /// # Errors
     /// `SharedSquare` if the masks share a bit.
     pub const fn new(own: u64, opp: u64) -> Result<Position, Error> {
-        if own & opp == 0 {
-            Ok(Position { own, opp })
-        } else {
-            Err(Error::SharedSquare)
+        match own & opp {
+            0 => Ok(Position { own, opp }),
+            _ => Err(Error::SharedSquare),
         }
     }
 
-    /// The position of a line of OBF text, as `Line::from_obf` reads it.
-    ///
-    /// # Errors
-    /// Those of `Line::from_obf`.
+    /// The position of a line of OBF text, which is read or refused as by `Line::from_obf`.
     pub fn from_obf<T: AsRef<[u8]> + ?Sized>(text: &T) -> Result<Position, ObfError> {
         Ok(Line::from_obf(text)?.position)
     }
@@ -78,13 +73,9 @@ impl Position {
         let mut after = raw::Position::default();
         // SAFETY: the pointer is to a position of this call's own.
         match unsafe { raw::ffosolve_play(self.raw(), square.number(), &mut after) } {
-            0 => Ok(Position::of_raw(after)),
+            0 => Position::new(after.own, after.opp),
             _ => Err(Error::NoMove),
         }
-    }
-
-    pub(crate) const fn of_raw(position: raw::Position) -> Position {
-        Position { own: position.own, opp: position.opp }
     }
 
     pub(crate) const fn raw(self) -> raw::Position {

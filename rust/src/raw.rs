@@ -5,7 +5,7 @@ macro_rules! structures {
     ($($(#[$about:meta])* $name:ident { $($member:ident: $kind:ty),* })*) => {$(
         $(#[$about])*
         #[repr(C)]
-        #[derive(Clone, Copy, PartialEq, Eq, Hash, Debug, Default)]
+        #[derive(Clone, Copy, PartialEq, Eq, Hash, Debug)]
         pub struct $name {
             $(pub $member: $kind),*
         }
@@ -14,21 +14,19 @@ macro_rules! structures {
 
 structures! {
     /// The discs of the mover, and those of the other side.
+    #[derive(Default)]
     Position { own: u64, opp: u64 }
     /// The score, how it is reached (0 by moves, 1 by a pass, 2 the game is over), and the mask of the best moves.
+    #[derive(Default)]
     Answer { score: i32, kind: i32, best: u64 }
     /// A position that a line holds, how many moves the line lists, and the side to move (0 black, 1 white).
+    #[derive(Default)]
     Line { position: Position, listed: usize, side: i32 }
     /// A move that a line lists: its score, what it is (0 a move, 1 a pass, 2 the end of the game), and the square.
+    #[derive(Default)]
     Listed { score: i32, kind: i32, square: u8 }
-}
-
-/// The score of each move at its square's number, with 127 at the other squares; and the mask of the moves.
-#[repr(C)]
-#[derive(Clone, Copy, PartialEq, Eq, Hash, Debug)]
-pub struct MoveScores {
-    pub scores: [i8; 64],
-    pub moves: u64,
+    /// The score of each move at its square's number, with 127 at the other squares; and the mask of the moves.
+    MoveScores { scores: [i8; 64], moves: u64 }
 }
 
 extern "C" {

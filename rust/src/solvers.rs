@@ -1,6 +1,5 @@
-//! The solver, its scorings and its limits.
-use crate::raw;
-use crate::{Answer, Error, Position, Square, Squares};
+//! The solver, its scorings, its limits and its answers.
+use crate::{raw, Error, Position, Square, Squares};
 
 /// The greatest number of empty squares in a position to solve.
 pub const MOST_EMPTIES: usize = 60;
@@ -27,6 +26,43 @@ impl TryFrom<u32> for Scoring {
     }
 }
 
+/// How a score is reached.
+#[derive(Clone, Copy, PartialEq, Eq, Hash, Debug)]
+pub enum Best {
+    /// By each of these moves, and by no other.
+    Moves(Squares),
+    /// By a pass: the side to move has no move, and the other side has one.
+    Pass,
+    /// The game is over: neither side has a move.
+    Over,
+}
+
+/// The score of a position for the side to move, -64 to 64, and how it is reached.
+#[derive(Clone, Copy, PartialEq, Eq, Hash, Debug)]
+pub struct Answer {
+    pub score: i8,
+    pub best: Best,
+}
+
+impl Answer {
+    /// The best moves; none if the side to move has to pass or the game is over.
+    pub const fn squares(self) -> Squares {
+        match self.best {
+            Best::Moves(squares) => squares,
+            Best::Pass | Best::Over => Squares(0),
+        }
+    }
+
+    fn of_raw(answer: raw::Answer) -> Answer {
+        let best = match answer.kind {
+            0 => Best::Moves(Squares(answer.best)),
+            1 => Best::Pass,
+            _ => Best::Over,
+        };
+        Answer { score: answer.score as i8, best }
+    }
+}
+
 /// A suitable number of table entries, of 32 bytes each, for positions with `empties` empty squares. The size of a
 /// table changes how long an answer takes, never the answer.
 pub const fn table_entries(empties: usize) -> usize {
@@ -45,6 +81,9 @@ pub fn library_version() -> u32 {
 }
 
 /// Solves positions under a scoring. Each call searches with a new table, and keeps nothing.
+///
+/// # Errors
+/// Each call tests for `TooManyEntries`, `TooManyEmpties` and `NoMemory`, in this order.
 #[derive(Clone, Copy, PartialEq, Eq, Hash, Debug, Default)]
 pub struct Solver {
     scoring: Scoring,
@@ -70,9 +109,6 @@ impl Solver {
     }
 
     /// The answer for a position.
-    ///
-    /// # Errors
-    /// `TooManyEntries`, `TooManyEmpties` and `NoMemory`, tested in this order.
     pub fn solve(&self, position: Position) -> Result<Answer, Error> {
         let (mut answer, scoring, entries) = (raw::Answer::default(), self.scoring as u32, self.table(&[position]));
         // SAFETY: the pointer is to an answer of this call's own.
@@ -82,21 +118,15 @@ impl Solver {
 
     /// The answer for a position, found by testing the claimed score first. The claim may be wrong: it is right if the
     /// result equals it. From 6 empty squares on, this is faster than `solve` if most claimed scores are right.
-    ///
-    /// # Errors
-    /// Those of `solve`.
     pub fn confirm(&self, position: Position, claim: Answer) -> Result<Answer, Error> {
+        let claim = raw::Answer { score: claim.score.into(), ..Default::default() }; // nothing but the score matters
         let (mut answer, scoring, entries) = (raw::Answer::default(), self.scoring as u32, self.table(&[position]));
-        let claim = raw::Answer { score: claim.score.into(), ..answer }; // nothing but the score matters
         // SAFETY: the pointer is to an answer of this call's own.
         let status = unsafe { raw::ffosolve_confirm(position.raw(), scoring, entries, claim, &mut answer) };
         Error::of_status(status, 0).map(|()| Answer::of_raw(answer))
     }
 
     /// The answers for positions, in their order. One table serves them all.
-    ///
-    /// # Errors
-    /// Those of `solve`; `TooManyEmpties` has the index of the first refused position.
     pub fn solve_all(&self, positions: &[Position]) -> Result<Vec<Answer>, Error> {
         let asked: Vec<raw::Position> = positions.iter().map(|position| position.raw()).collect();
         let mut answers = vec![raw::Answer::default(); asked.len()];
@@ -110,9 +140,6 @@ impl Solver {
 
     /// Each legal move with its score for the side to move, in the order of the squares; empty without a legal move.
     /// One table serves all moves.
-    ///
-    /// # Errors
-    /// Those of `solve`.
     pub fn move_scores(&self, position: Position) -> Result<Vec<(Square, i8)>, Error> {
         let (mut scores, mut moves, entries) = ([0; 64], 0, self.table(&[position]));
         let scoring = self.scoring as u32;

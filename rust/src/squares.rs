@@ -1,6 +1,5 @@
 //! Squares, and sets of them.
 use std::fmt;
-use std::str::FromStr;
 
 /// A square: A1 is number 0, B1 is 1, H1 is 7, A2 is 8, H8 is 63.
 #[derive(Clone, Copy, PartialEq, Eq, PartialOrd, Ord, Hash)]
@@ -50,7 +49,7 @@ impl fmt::Display for SquareError {
 
 impl std::error::Error for SquareError {}
 
-impl FromStr for Square {
+impl std::str::FromStr for Square {
     type Err = SquareError;
 
     fn from_str(name: &str) -> Result<Square, SquareError> {
@@ -71,17 +70,14 @@ impl Squares {
         self.0
     }
 
-    /// How many squares there are.
     pub const fn len(self) -> usize {
         self.0.count_ones() as usize
     }
 
-    /// Whether the set is empty.
     pub const fn is_empty(self) -> bool {
         self.0 == 0
     }
 
-    /// Whether a square is in the set.
     pub const fn contains(self, square: Square) -> bool {
         self.0 >> square.0 & 1 == 1
     }

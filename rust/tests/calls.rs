@@ -1,8 +1,5 @@
 //! Makes each call with good and with bad arguments.
-use ffosolve::{
-    library_version, raw, table_entries, Answer, Best, Error, Line, Listed, ObfError, Position, Scoring, Side, Solver,
-    Square, Squares,
-};
+use ffosolve::*;
 use std::collections::HashSet;
 
 const LINE: &str = "-OXXXXX-XXXXXXXOXXXXXXXXXXXXXXXXXXXOXXXXXXXXXXXXXXXXXXXXXXXXXXXX X; H1:+62;";
@@ -56,7 +53,7 @@ fn plays() {
 fn refuses() {
     let wide = position(1, 6);
     assert_eq!(Position::new(3, 2), Err(Error::SharedSquare));
-    let (solver, large) = (Solver::new(), Solver::new().entries(ffosolve::MOST_ENTRIES + 1));
+    let (solver, large) = (Solver::new(), Solver::new().entries(MOST_ENTRIES + 1));
     let first = Error::TooManyEmpties { index: 0 };
     for (by, of, error) in [(solver, wide, first), (large, corners(), Error::TooManyEntries)] {
         assert_eq!(by.solve(of), Err(error));
@@ -65,7 +62,7 @@ fn refuses() {
     }
     assert_eq!(solver.solve_all(&[corners(), wide, wide]), Err(Error::TooManyEmpties { index: 1 }));
     assert_eq!(large.solve_all(&[]), Err(Error::TooManyEntries));
-    assert_eq!(solver.entries(ffosolve::MOST_ENTRIES).solve(corners()), Ok(ANSWER));
+    assert_eq!(solver.entries(MOST_ENTRIES).solve(corners()), Ok(ANSWER));
 }
 
 #[test]
@@ -90,7 +87,8 @@ fn positions_have_discs_and_sets_have_squares() {
     assert_eq!((set.mask(), set.len(), set.is_empty(), set.to_string()), (0x81, 2, false, "A1,H1".to_string()));
     assert_eq!((0..64).filter_map(Square::new).filter(|each| set.contains(*each)).count(), 2);
     assert!(set.contains(square("A1")) && set.contains(square("H1")));
-    assert_eq!((set.size_hint(), format!("{set:?} {:?}", square("B1"))), ((2, Some(2)), "Squares(A1,H1) B1".to_string()));
+    assert_eq!(set.size_hint(), (2, Some(2)));
+    assert_eq!(format!("{set:?} {:?}", square("B1")), "Squares(A1,H1) B1");
     assert_eq!((Squares(0).len(), Squares(0).is_empty(), Squares(0).to_string()), (0, true, String::new()));
     let scorings = [Ok(Scoring::Winner), Ok(Scoring::Discs), Ok(Scoring::Sign), Err(Error::UnknownScoring)];
     assert_eq!([0, 1, 2, 3].map(Scoring::try_from), scorings);
@@ -147,11 +145,11 @@ fn threads_may_share_all() {
 fn versions_sizes_and_limits_are_those_of_the_header() {
     let parts = include_str!("../../VERSION").trim().split('.').map(|part| part.parse::<u32>().expect("a number"));
     assert_eq!(parts.fold(0, |number, part| 100 * number + part), library_version());
-    let sizes: Vec<usize> = (0..=ffosolve::MOST_EMPTIES).map(table_entries).collect();
-    assert!(sizes.windows(2).all(|pair| pair[0] <= pair[1]) && sizes[ffosolve::MOST_EMPTIES] <= ffosolve::MOST_ENTRIES);
+    let sizes: Vec<usize> = (0..=MOST_EMPTIES).map(table_entries).collect();
+    assert!(sizes.windows(2).all(|pair| pair[0] <= pair[1]) && sizes[MOST_EMPTIES] <= MOST_ENTRIES);
     let at = [0, 10, 11, 14, 15, 22, 23, 60].map(|empties| sizes[empties]); // as ffosolve.h says
     assert_eq!(at, [0, 0, 4096, 4096, 65536, 65536, 1000000, 1000000]);
     // SAFETY: the call takes a number.
     let limits = [0, 1, 2].map(|number| unsafe { raw::ffosolve_limit(number) });
-    assert_eq!(limits, [ffosolve::MOST_ENTRIES, ffosolve::MOST_EMPTIES, 3]);
+    assert_eq!(limits, [MOST_ENTRIES, MOST_EMPTIES, 3]);
 }
