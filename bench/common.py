@@ -32,11 +32,10 @@ def options(entries, scoring="winner"):
 
 
 def published():
-    """Returns {number: (board and side, [[move, score], ..])} for positions 40 to 51 of the FFO endgame test. All but
-    the numbers are texts. The moves are those published as best."""
-    lines = [line.split("%")[0] for line in open(ROOT / "examples/ffo-40-51.obf") if line[0] != "%"]
-    positions = [(line[:66], [claim.strip().split(":") for claim in line.split(";")[1:-1]]) for line in lines]
-    return dict(enumerate(positions, 40))
+    """Returns {number: (board and side, [[move, score], ..])} for positions 40 to 51 of the FFO endgame test. All these
+    are texts, also the numbers. The moves are those published as best."""
+    rows = [line.strip().split(" % ") for line in open(ROOT / "examples/ffo-40-51.obf") if line[0] != "%"]
+    return {number: (row[:66], [claim.strip().split(":") for claim in row.split(";")[1:-1]]) for row, number in rows}
 
 
 def agrees(score, moves, claims):

@@ -3,6 +3,7 @@
 A position is two masks: the discs of the side to move, and those of the other side. A1 is bit 0, and H8 bit 63.
 """
 import functools
+import operator
 import random
 
 NOT_A, NOT_H, FULL = 0xFEFEFEFEFEFEFEFE, 0x7F7F7F7F7F7F7F7F, (1 << 64) - 1
@@ -15,28 +16,23 @@ def shifted(mask, step, reached):
     return (mask << step if step > 0 else mask >> -step) & reached
 
 
+def runs(squares, opp):
+    """Yields two masks for each direction: runs of `opp` that begin beside `squares`, and the squares after them."""
+    for step, reached in STEPS:
+        run, last = 0, squares
+        while last := shifted(last, step, reached) & opp:
+            run |= last
+        yield run, shifted(run, step, reached) & ~opp
+
+
 def moves(own, opp):
     """Returns the mask of the legal moves."""
-    found = 0
-    for step, reached in STEPS:
-        run = shifted(own, step, reached) & opp
-        while run:
-            run = shifted(run, step, reached)
-            found |= run & ~(own | opp)
-            run &= opp
-    return found
+    return functools.reduce(operator.or_, (beyond for _, beyond in runs(own, opp))) & ~own
 
 
 def after(own, opp, square):
     """Returns the position after a move to `square`, a mask of one bit; the other side is then to move."""
-    turned = 0
-    for step, reached in STEPS:
-        run, at = 0, shifted(square, step, reached)
-        while at & opp:
-            run |= at
-            at = shifted(at, step, reached)
-        if at & own:
-            turned |= run
+    turned = sum(run for run, beyond in runs(square, opp) if beyond & own)
     return opp & ~turned, own | turned | square
 
 
