@@ -17,8 +17,7 @@ fn main() {
     for name in ["FFOSOLVE_LIB_DIR", "PKG_CONFIG", "PKG_CONFIG_PATH"] {
         println!("cargo:rerun-if-env-changed={name}");
     }
-    let shared = var_os("CARGO_FEATURE_SHARED").is_some();
-    let (kind, file) = if shared { ("dylib", "libffosolve.so") } else { ("static", "libffosolve.a") };
+    let (kind, file) = if cfg!(feature = "shared") { ("dylib", "libffosolve.so") } else { ("static", "libffosolve.a") };
     let folder = var_os("FFOSOLVE_LIB_DIR").map_or_else(default_folder, PathBuf::from);
     let file = folder.join(file);
     println!("cargo:rerun-if-changed={}", file.display());

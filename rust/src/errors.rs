@@ -2,12 +2,12 @@
 use crate::{MOST_EMPTIES, MOST_ENTRIES};
 use std::fmt;
 
-/// Defines an error. A row has a status of the library, the variant, the name of the number in it, and the text. This
+/// Defines errors. A row has a status of the library, the variant, the name of the number in it, and the text. This
 /// text is also the first paragraph of the variant's documentation.
 macro_rules! refusals {
-    ($(#[$about:meta])* $name:ident {
+    ($($(#[$about:meta])* $name:ident {
         $($(#[$doc:meta])* $status:literal $variant:ident $({ $at:ident })?: $text:literal,)*
-    }) => {
+    })*) => {$(
         $(#[$about])*
         #[derive(Clone, Copy, PartialEq, Eq, Debug)]
         #[non_exhaustive]
@@ -38,7 +38,7 @@ macro_rules! refusals {
         }
 
         impl std::error::Error for $name {}
-    };
+    )*};
 }
 
 refusals! {
@@ -53,9 +53,6 @@ refusals! {
         /// There is no memory for the table; never with 0 entries.
         7 NoMemory: "out of memory",
     }
-}
-
-refusals! {
     /// Why a line holds no position; columns are counted from 1, in bytes.
     ObfError {
         /// There is no memory for the moves that the line lists.

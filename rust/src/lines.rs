@@ -56,9 +56,16 @@ impl Line {
         let status = unsafe { raw::ffosolve_read_line(from, text.len(), &mut line, to, room, &mut at) };
         ObfError::of_status(status, at)?;
         let side = if line.side == 0 { Side::Black } else { Side::White };
-        let listed = listed.iter().take(line.listed).map(listed_of).collect();
+        let listed = listed.iter().take(line.listed).map(|found| {
+            let what = match (found.kind, Square::new(found.square)) {
+                (0, Some(square)) => Listed::Move(square),
+                (1, _) => Listed::Pass,
+                _ => Listed::Over,
+            };
+            (what, found.score as i8)
+        });
         let raw::Position { own, opp } = line.position;
-        Ok(Line { position: Position { own, opp }, side, listed })
+        Ok(Line { position: Position { own, opp }, side, listed: listed.collect() })
     }
 }
 
@@ -68,13 +75,4 @@ impl std::str::FromStr for Line {
     fn from_str(text: &str) -> Result<Line, ObfError> {
         Line::from_obf(text)
     }
-}
-
-fn listed_of(listed: &raw::Listed) -> (Listed, i8) {
-    let what = match (listed.kind, Square::new(listed.square)) {
-        (0, Some(square)) => Listed::Move(square),
-        (1, _) => Listed::Pass,
-        _ => Listed::Over,
-    };
-    (what, listed.score as i8)
 }

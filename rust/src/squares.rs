@@ -14,7 +14,6 @@ impl Square {
         }
     }
 
-    /// The number, 0 to 63.
     pub const fn number(self) -> u8 {
         self.0
     }

@@ -84,11 +84,10 @@ fn positions_have_discs_and_sets_have_squares() {
     assert_eq!(two.passed(), position(2, 1));
     assert_eq!(two.to_obf(), format!("XO{} X;", "-".repeat(62)));
     let set = Squares(0x81);
-    assert_eq!((set.mask(), set.len(), set.is_empty(), set.to_string()), (0x81, 2, false, "A1,H1".to_string()));
+    assert_eq!((set.mask(), set.len(), set.size_hint(), set.is_empty()), (0x81, 2, (2, Some(2)), false));
     assert_eq!((0..64).filter_map(Square::new).filter(|each| set.contains(*each)).count(), 2);
     assert!(set.contains(square("A1")) && set.contains(square("H1")));
-    assert_eq!(set.size_hint(), (2, Some(2)));
-    assert_eq!(format!("{set:?} {:?}", square("B1")), "Squares(A1,H1) B1");
+    assert_eq!(format!("{set} {set:?} {:?}", square("B1")), "A1,H1 Squares(A1,H1) B1");
     assert_eq!((Squares(0).len(), Squares(0).is_empty(), Squares(0).to_string()), (0, true, String::new()));
     let scorings = [Ok(Scoring::Winner), Ok(Scoring::Discs), Ok(Scoring::Sign), Err(Error::UnknownScoring)];
     assert_eq!([0, 1, 2, 3].map(Scoring::try_from), scorings);
@@ -113,8 +112,8 @@ fn reads_obf() {
     let listed = vec![(Listed::Move(square("H1")), 62)];
     assert_eq!(LINE.parse(), Ok(Line { position: corners(), side: Side::Black, listed }));
     let listed = vec![(Listed::Pass, -4), (Listed::Over, 0), (Listed::Move(square("A1")), -64)];
-    let found = line("O; PS:-4;--:0; a1:-64 \r\n");
-    assert_eq!(found, Line { position: corners().passed(), side: Side::White, listed });
+    let wanted = Line { position: corners().passed(), side: Side::White, listed };
+    assert_eq!(line("O; PS:-4;--:0; a1:-64 \r\n"), wanted);
     assert_eq!(format!("{} {} {}", Listed::Pass, Listed::Over, Listed::Move(square("a1"))), "PS -- A1");
     let listed = line(&format!("X;{}", "B1:7;".repeat(1000))).listed;
     assert_eq!(listed, [(Listed::Move(square("B1")), 7); 1000]);
