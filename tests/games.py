@@ -16,15 +16,6 @@ NAMES = [column + row for row in "12345678" for column in "ABCDEFGH"]
 SQUARE_BYTES = [10 * row + column for row in range(1, 9) for column in range(1, 9)]  # for A1, B1, .. H8 in a WTHOR file
 
 
-def passed(position):
-    own, opp, is_black = position
-    return opp, own, not is_black
-
-
-def can_move(position):
-    return player.moves(*position[:2]) != 0
-
-
 def random_game(rng):
     """Returns the moves of a random game up to its end: squares from 0 (A1) to 63 (H8), and None for each pass."""
     return [move.bit_length() - 1 if move else None for *_, move in player.random_game(rng)][1:]
@@ -36,12 +27,14 @@ def random_games(count, seed):
 
 
 def positions_of(squares):
-    """Plays moves up to the first illegal one; a pass may be None or left out. Returns {number of empty squares:
+    """Plays the squares up to the first illegal move; a pass may be None or left out. Returns {number of empty squares:
     position} for the start and after each move."""
     at = (*player.START, True)
     found = {60: at}
     for square in squares_of(squares):
-        own, opp, is_black = at if can_move(at) else passed(at)
+        own, opp, is_black = at
+        if not player.moves(own, opp):
+            own, opp, is_black = opp, own, not is_black
         if not player.moves(own, opp) >> square & 1:
             break
         at = (*player.after(own, opp, 1 << square), not is_black)
@@ -49,21 +42,17 @@ def positions_of(squares):
     return found
 
 
-def score(position):
-    """Returns the exact score for the mover, in discs; the winner also gets the squares that stay empty."""
-    return player.values(*position[:2])[0]
-
-
 def discs_of_black(position):
-    return 32 + (score(position) if position[2] else -score(position)) // 2
+    """Returns the number of Black's discs after perfect play, where the winner also gets the empty squares."""
+    score = player.values(*position[:2])[0]
+    return 32 + (score if position[2] else -score) // 2
 
 
 def real_score(game):
-    """Returns the number of Black's discs after a game, where the winner also gets the empty squares; 40 if the game is
-    not over."""
+    """Returns the real score for a WTHOR file: that of `discs_of_black`, or if the game is not over, 40."""
     positions = positions_of(game)
-    last = positions[min(positions)]
-    return 40 if can_move(last) or can_move(passed(last)) else discs_of_black(last)
+    own, opp, _ = last = positions[min(positions)]
+    return 40 if player.moves(own, opp) or player.moves(opp, own) else discs_of_black(last)
 
 
 def squares_of(game):
@@ -90,8 +79,8 @@ def line_of(position, comment):
 
 
 def with_digest(lines):
-    """Returns the text `lines` and, if one of its lines has a theoretical score, after it their digest: 4 lines, each
-    with 6 bits of a SHA-256 sum."""
+    """Returns the text `lines`. If one of its lines has a theoretical score, 4 lines follow: a digest of the others,
+    each with 6 bits of their SHA-256 sum."""
     if ", theoretical score " not in lines:
         return lines
     games = [line for line in lines.splitlines(True) if line.strip() and not line.startswith("%")]
@@ -101,20 +90,21 @@ def with_digest(lines):
 
 
 def report_of(listed, refused=None):
-    """Returns the report of a list, with scores that bench/player.py finds and `--` in place of moves. `refused` is
+    """Returns ffosolve's report of a list, with scores from bench/player.py, and `--` for all moves. `refused` is
     {number of a line that the report refuses: reason}."""
     rows, refused = [], refused or {}
     for number, line in enumerate(listed.splitlines(), 1):
         if line and line[0] != "%":
-            black, white = (sum(1 << square for square in range(64) if line[square] == letter) for letter in "XO")
-            at = (black, white, True) if line[65] == "X" else (white, black, False)
-            row = f"refused: {refused[number]}" if number in refused else f"{score(at):+03} -- unlisted"
+            sides = "XO" if line[65] == "X" else "OX"
+            own, opp = (sum(1 << square for square in range(64) if line[square] == side) for side in sides)
+            exact = f"{player.values(own, opp)[0]:+03} -- unlisted"
+            row = f"refused: {refused[number]}" if number in refused else exact
             rows.append(f"{number} {row}\n")
     return f"[1]\n{''.join(rows)}solved {len(rows) - len(refused)} refused {len(refused)}\n"
 
 
 class Case(InFolder):
-    """Has the squares of a random game up to its end, its positions as `positions_of` returns them, and its record."""
+    """Has a random game up to its end: GAME are its squares, AT is `positions_of` them, and RECORD its record."""
 
     maxDiff = 2000
     GAME = squares_of(*random_games(1, seed=3))
@@ -122,9 +112,9 @@ class Case(InFolder):
     RECORD = record(GAME)
 
     def games(self, *words, status=None, out="", err="", **how):
-        """Runs ffosolve-games. Asserts that it prints `out` followed by the digest, unless `out` is None, and that its
-        errors are the lines of `err`, each after the program's name. Asserts its status, by default 1 if `err` has a
-        line and otherwise 0."""
+        """Runs ffosolve-games. Asserts that its output is `with_digest(out)`, unless `out` is None, and that its errors
+        are the lines of `err`, each after the program's name. Asserts its status, by default 1 if `err` has a line and
+        otherwise 0."""
         ran = run(sys.executable, PROGRAM, *words, **how)
         self.assertEqual(ran.stderr.decode(), "".join(f"ffosolve-games: {line}\n" for line in err.splitlines()))
         if out is not None:
@@ -132,6 +122,6 @@ class Case(InFolder):
         self.assertEqual(ran.returncode, bool(err) if status is None else status)
 
     def reads(self, name, content, *words, **expected):
-        """Writes a file, and calls `games` for it."""
+        """Writes a file, and calls `games` with its name as the last word."""
         write(name, content)
         self.games(*words, name, **expected)

@@ -15,7 +15,7 @@ from .support import ROOT, SECONDS, as_at_a_login, built, limited, run, stored, 
 
 
 class Compare(Case):
-    """Tests with three positions of examples/kinds.obf, whose scores are +62, -64 and +32. The first is also listed
+    """Tests with three positions of examples/kinds.obf, whose scores are +62, -64 and +32. GAMES also lists the first
     with colours exchanged, and the last with the other side to move."""
 
     TWO = "-OXXXXX-XXXXXXXOXXXXXXXXXXXXXXXXXXXOXXXXXXXXXXXXXXXXXXXXXXXXXXXX"
@@ -30,8 +30,8 @@ class Compare(Case):
         f"{OVER} X; % c, game 1\n"
         f"{OVER} O; % c, game 2, theoretical score 48\n"
     )
-    EXACT = GAMES.replace("score 34", "score 1").replace("score 0", "score 64")
     LISTED = with_digest(GAMES)
+    EXACT = with_digest(GAMES.replace("score 34", "score 1").replace("score 0", "score 64"))
     REPORT = report_of(LISTED).replace("+62 --", "+62 H1").replace("4 -64 --", "4 -64 PS")
 
     def compare(self, listed, report, **expected):
@@ -52,13 +52,12 @@ class Compare(Case):
         self.compare(self.LISTED.replace("\n", "\r\n"), self.REPORT, status=1, out=out)
 
     def test_exact_scores_end_with_status_0(self):
-        listed = with_digest(self.EXACT)
-        self.compare(listed, report_of(listed), out="compared 4 differ 0 refused 0 unscored 1\n")
+        self.compare(self.EXACT, report_of(self.EXACT), out="compared 4 differ 0 refused 0 unscored 1\n")
 
     def test_a_refused_position_is_not_compared(self):
-        listed = with_digest(self.EXACT)
+        out = "compared 3 differ 0 refused 1 unscored 1\n"
         for refused in ({2: "2 empties, limit 1"}, {7: "16 empties, limit 15"}):
-            self.compare(listed, report_of(listed, refused), status=1, out="compared 3 differ 0 refused 1 unscored 1\n")
+            self.compare(self.EXACT, report_of(self.EXACT, refused), status=1, out=out)
 
     def test_a_changed_list_is_refused(self):
         lines = self.LISTED.splitlines(True)
@@ -85,13 +84,11 @@ class Compare(Case):
             self.compare(listed, self.REPORT, status=3, err=f"cannot compare list: {why}")
 
     def test_comments_and_other_lists_may_be_added_to_a_list(self):
-        listed = with_digest(self.EXACT)
-        listed += "% more\n\n" + listed
+        listed = f"{self.EXACT}% more\n\n{self.EXACT}"
         self.compare(listed, report_of(listed), out="compared 8 differ 0 refused 0 unscored 2\n")
 
     def test_the_report_of_another_game_is_refused(self):
-        """Compares each of 100 lists, which have one game each, with the reports of all 100. For each list, only its
-        own report is accepted."""
+        """Compares each of 100 lists, of one game each, with all 100 reports: only the list's own is accepted."""
         from ffosolve._published import Comparison, Unfit
 
         played = [positions for positions in map(positions_of, random_games(120, seed=8)) if 4 in positions]
@@ -144,14 +141,14 @@ class Compare(Case):
 
 
 def contents():
-    """Returns {path: content} for all files below the current folder. The content of a link is the path in it."""
+    """Returns {path: content} for all files below the current folder. The content of a link is its target."""
     paths = [path for path in Path().rglob("*") if path.is_symlink() or path.is_file()]
     return {str(path): os.readlink(path) if path.is_symlink() else path.read_bytes() for path in paths}
 
 
 class Fix(Case):
-    """it.wtb has a few random games with theoretical scores, two of which are wrong, and then four more bytes. `list`
-    is what ffosolve-games prints for it, and `report` the report of that list."""
+    """The file it.wtb has a few random games with theoretical scores, two of which are wrong, and then four more bytes.
+    The file `list` is what ffosolve-games prints for it, and `report` is the report of that list."""
 
     FIX = (sys.executable, PROGRAM, "compare", "list", "report", "--fix", "new.wtb")
 
@@ -169,20 +166,20 @@ class Fix(Case):
         self.err = f"new.wtb: theoretical scores changed 2 of {len(self.exact)}, not compared 0"
 
     def differences(self, name):
-        """Returns what `compare` prints if the WTHOR file is called `name`."""
+        """Returns what `compare` prints if the WTHOR file of setUp is called `name`."""
         rows = [f"{name}, game {at + 1}: published {self.published[at]}, exact {self.exact[at]}, difference {less}\n"
                 for at, less in ((2, "-2"), (5, "+7"))]
         return "".join(rows) + f"compared {len(self.exact)} differ 2 refused 0 unscored 0\n"
 
     def write_list(self, *words, skipped=(), **how):
-        """Writes the list that `ffosolve-games WORDS` prints, and a report of it that refuses the lines `skipped`."""
+        """Writes the list that `ffosolve-games WORDS` prints, and its report: it refuses the line numbers `skipped`."""
         listed = run(PROGRAM, *words, **how).stdout.decode()
         write("list", listed)
         write("report", report_of(listed, dict.fromkeys(skipped, "5 empties, limit 4")))
 
     def fix(self, status, err, *words, place="new.wtb", written=None, out=None, **how):
-        """Runs `compare --fix`. Asserts its status, its errors and, unless it is None, its output `out`. Asserts that
-        the run writes the files of `written`, {path: content}, or none if that is None, and changes no other file."""
+        """Runs `compare --fix`. Asserts its status, its errors and, unless `out` is None, its output. Asserts that it
+        writes the files in `written`, {path: content}, or none if that is None, and changes no other file."""
         before = contents()
         self.games("compare", "list", "report", "--fix", place, *words, status=status, err=err, out=out, **how)
         self.assertEqual(contents(), {**before, **(written or {})})
@@ -273,7 +270,7 @@ class Fix(Case):
         self.fix(3, "cannot write '': No such file or directory", place="")
 
     def test_a_file_system_without_hard_links_gets_the_file(self):
-        """The file is synced to the disk before it gets its name, and it replaces no other file."""
+        """The content is on the disk before the file gets its name. With hard links, it replaces no other file."""
         from ffosolve._fix_wthor import write_new
 
         def sync(file):

@@ -20,16 +20,14 @@ from ffosolve import Position, Solver
 
 
 class RandomGames(Case):
-    """Random games played to their end: some have passes, and some end early."""
-
     @classmethod
     def setUpClass(cls):
         cls.played = random_games(1000, seed=53)
         cls.known = list(map(positions_of, cls.played))
 
     def prints(self, name, empties, known, more):
-        """Asserts what is printed for the games in a file, whose positions are `known`: a line for each game, with
-        `more` at its end, or a message if it never reaches `empties` empty squares."""
+        """Asserts that for each game in a file, a line with `more` at its end is printed, or a message if it never has
+        `empties` empty squares. `known` is a list of what `positions_of` returns for the games."""
         out = err = ""
         for number, positions in enumerate(known, 1):
             left = min(positions)
@@ -56,8 +54,6 @@ class RandomGames(Case):
 
 
 class Faults(Case):
-    """Faults of games and of files: each is reported in one line, and what can be read is printed."""
-
     LINE = line_of(Case.AT[22], "it.wtb, game 1, theoretical score 33")
 
     def test_wrong_moves_of_transcripts_are_reported(self):
@@ -192,7 +188,7 @@ class ReadByPython(InFolder):
     PLAYED = random_games(60, seed=66)
 
     def has_positions(self, read, game):
-        """Asserts that a Game or transcript, `read`, has the positions that bench/player.py finds in `game`."""
+        """Asserts that `read`, a Game or transcript, has the positions that `positions_of` returns for `game`."""
         wanted = [player.line(*position) for position in positions_of(game).values()]
         self.assertEqual([position.to_obf() for position in Solver().positions(read)], wanted, read)
 

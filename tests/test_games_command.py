@@ -37,8 +37,7 @@ class Command(Case):
         for name, shown in (("", "''"), ("it's \u00e9", "it's \u00e9")):
             self.games("--empties=20", name, status=3, err=f"cannot read {shown}: No such file or directory")
 
-    def test_files_that_cannot_be_read_are_reported(self):
-        """The status is the highest of those that the files cause."""
+    def test_the_status_is_the_highest_that_a_refused_file_causes(self):
         err = "cannot read none: No such file or directory\n"
         self.games("none", "text", status=3, err=err + "text is a text: its games need --empties N")
         err += "cannot read .: Is a directory"

@@ -1,19 +1,18 @@
-"""Writes copies of WTHOR files, with exact scores."""
+"""Writes copies of WTHOR files, with exact scores in place of wrong ones."""
 import contextlib
 import os
-from typing import BinaryIO, Dict, Iterable, Iterator, List, Mapping, Tuple
+from typing import BinaryIO, Dict, Iterable, Iterator, List, Mapping
 
 from ._games import EMPTIES_BYTE, HEADER, REAL, RECORD, SCORE
 from ._games import GameRefused, final_discs, game_of, played, read_header
-from ._library import CPosition
 from ._published import Listed, Unfit
 from ._text import NotText
 
 
 class Fixed:
-    """The bytes of a WTHOR file, in pieces, with the exact theoretical scores of the compared games and, if
-    `with_real`, with the real scores that follow from the moves. A header without the number of empty squares gets that
-    of the compared positions. No other byte changes. Raises Unfit, on iterating, if another file was compared."""
+    """Iterates over the bytes of a WTHOR file, in pieces, with exact theoretical scores of the games in `compared` and,
+    if `with_real`, with the real scores that the moves have. A header without a number of empty squares gets that of
+    the compared positions. No other byte changes. Raises Unfit if this file is not the one that was compared."""
 
     def __init__(self, name: str, file: BinaryIO, compared: List[Listed], with_real: bool) -> None:
         self._name, self._file, self._with_real = name, file, with_real
@@ -21,7 +20,7 @@ class Fixed:
         self._games = self._real_changed = self._real_unknown = 0
 
     def summary(self) -> str:
-        """Returns text: how many scores were changed and how many were not compared. Call this after iterating."""
+        """Returns a text that counts the changed scores and those not compared. Call this after iterating."""
         changed = sum(it.published != it.exact for it in self._compared.values())
         others = self._games - len(self._compared)
         text = f"theoretical scores changed {changed} of {self._games}, not compared {others}"
@@ -34,8 +33,14 @@ class Fixed:
             count, empties = read_header(self._file)
         except NotText as why:
             raise self._unfit(str(why)) from None
+        for it in self._compared.values():
+            compared = it.position.empties
+            if compared != (empties := empties or compared):
+                raise self._unfit(f"game {it.game} was compared with {compared} empty squares, and not {empties}")
         self._file.seek(0)
-        yield self._exact_header(bytearray(self._file.read(HEADER.size)), empties)
+        header = bytearray(self._file.read(HEADER.size))
+        header[EMPTIES_BYTE] = empties
+        yield header
         while self._games < count and len(record := self._file.read(RECORD)) == RECORD:
             self._games += 1
             yield self._exact(bytearray(record))
@@ -45,23 +50,14 @@ class Fixed:
         self._file.seek(HEADER.size + RECORD * self._games)
         yield from iter(lambda: self._file.read(1 << 20), b"")
 
-    def _exact_header(self, header: bytearray, empties: int) -> bytearray:
-        """Returns the header, with the compared positions' number of empty squares if `empties` is 0. Raises Unfit if
-        a compared position has another number of empty squares than the returned header."""
-        for it in self._compared.values():
-            compared = it.position.empties
-            if compared != (empties := empties or compared):
-                raise self._unfit(f"game {it.game} was compared with {compared} empty squares, and not {empties}")
-        header[EMPTIES_BYTE] = empties
-        return header
-
     def _exact(self, record: bytearray) -> bytearray:
-        """Returns a game's record, with the exact scores that are known. Raises Unfit if the position or the published
-        score that was compared under the game's number is not this game's."""
+        """Returns the record of game number `_games`, with its exact scores if they are known. Raises Unfit if the list
+        has another position or published score for the game of this number."""
         game, it = game_of(self._games, bytes(record)), self._compared.get(self._games)
-        found: List[Tuple[CPosition, str]] = []
-        with contextlib.suppress(GameRefused):
+        try:
             found = played(game)
+        except GameRefused:
+            found = []
         if it is not None:
             position = it.position
             has_it = any((at.own, at.opp, side) == (*position, position.side) for at, side in found)
@@ -82,8 +78,9 @@ class Fixed:
 
 
 def write_new(files: Mapping[str, Iterable[bytes]]) -> None:
-    """Writes new files: `files` maps each path to the pieces of its content. No file appears before all contents are on
-    the disk. Raises FileExistsError if a path exists, and OSError if writing fails; its `filename` is the path."""
+    """Writes new files: `files` maps each path to the pieces of its content. No path is used before all contents are on
+    the disk. Raises OSError if writing fails, and FileExistsError if a path exists; the error's `filename` is the path.
+    But on a file system without hard links, this replaces an existing file."""
     complete: Dict[str, str] = {}  # for each path, a temporary file next to it
     try:
         for path, pieces in files.items():

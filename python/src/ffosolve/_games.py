@@ -25,8 +25,8 @@ TEXT = bytes([*b"\t\n\v\f\r", *range(32, 256)])  # a text begins with one of the
 
 
 class GameRefused(ValueError):
-    """A game can't be read or played. `game` is its number. `move` is the number of its illegal or last move, from 1
-    and without passes, or None if the game can't be read or has no moves."""
+    """A game can't be read or played. `game` is the game's number. `move` is the number of the illegal move, or of the
+    last one if the game is too short, from 1 and without passes; None if the game can't be read or has no moves."""
 
     def __init__(self, reason: str, game: int, move: Optional[int] = None) -> None:
         super().__init__(f"game {game}" + ("" if move is None else f", move {move}") + f": {reason}")
@@ -40,10 +40,9 @@ class Game(NamedTuple):
     """A game as it stands in a file or transcript; its moves may be illegal and its scores wrong.
 
     `number` counts from 1: it is the game's line in a text, or its place in a WTHOR file. Only a WTHOR file has scores.
-    They are Black's discs, 0 to 64, where the winner gets the empty squares. `score` is the theoretical score, after
-    perfect play from the position with `empties` empty squares; `empties` is None if the file does not say. `real`
-    is the score of the game as it was played.
-    """
+    A score is the number of Black's discs, 0 to 64; the winner also gets the empty squares. `score` is the theoretical
+    score, after perfect play from the position with `empties` empty squares; `empties` is None if the file does not say
+    how many. `real` is the score of the game as it was played."""
 
     number: int
     moves: Sequence[int] = ()  # squares' numbers, PASS or NO_SQUARE
@@ -63,8 +62,8 @@ class Game(NamedTuple):
 
     @property
     def squares(self) -> List[str]:
-        """The names of the moves' squares, such as "F5", without passes. A move that is not a square stays as it is in
-        `words`, as text: a word in small letters, or the number of a byte."""
+        """The names of the moves' squares, such as "F5", without passes. For a move that is not a square, the list has
+        the word of the transcript in small letters, or the number of the byte in the WTHOR file, such as "99"."""
         names = zip(self.moves, self.words)
         return [str(word) if move == NO_SQUARE else square_name(move) for move, word in names if move != PASS]
 
@@ -96,8 +95,8 @@ def read_games(
             file = io.BufferedReader(source)  # type: ignore[arg-type]
             stack.callback(file.detach)  # the caller's file stays open
         elif not hasattr(source, "peek"):
-            wanted = "games are read from a path or from a file opened for bytes"
-            raise TypeError(f"{wanted}, not from {type(source).__name__}")
+            what = type(source).__name__
+            raise TypeError(f"games are read from a path or from a file opened for bytes, not from {what}")
         name = getattr(file, "name", None)
         for game in games_in(file, name if isinstance(name, str) else "the file")[0]:
             if game.fault is None:
@@ -110,10 +109,12 @@ def read_games(
 
 
 def games_in(file: Any, name: str) -> Tuple[Iterator[Game], Optional[int]]:
-    """Returns the games of a file, and how many squares are empty in the positions of their theoretical scores: 0 if a
-    WTHOR file does not say it, None for a text. Raises NotText, perhaps only on iterating over the games."""
+    """Returns (the games of a file, the number of empty squares in the positions that its theoretical scores are for).
+    The number is 0 if a WTHOR file does not say it, and None for a text. Raises NotText, perhaps only on iterating."""
     if not name.lower().endswith(".wtb") and file.peek(1)[:1].strip(TEXT) == b"":
-        return transcripts(file, name), None
+        lines = enumerate(text_lines(file, name), 1)
+        games = (Game.of_text(line.decode("utf-8", "replace"), number) for number, line in lines)
+        return (game for game in games if game.moves), None
     try:
         count, empties = read_header(file)
     except NotText as why:
@@ -121,17 +122,9 @@ def games_in(file: Any, name: str) -> Tuple[Iterator[Game], Optional[int]]:
     return records(file, count, empties), empties
 
 
-def transcripts(file: BinaryIO, name: str) -> Iterator[Game]:
-    """Yields the games of a text: one for each line that has a move. Raises NotText."""
-    for number, line in enumerate(text_lines(file, name), 1):
-        game = Game.of_text(line.decode("utf-8", "replace"), number)
-        if game.moves:
-            yield game
-
-
 def read_header(file: BinaryIO) -> Tuple[int, int]:
-    """Reads the header of a WTHOR file. Returns the number of games, and the number of empty squares in the positions
-    of their theoretical scores, or 0 if the header does not say it. Raises NotText."""
+    """Reads the header of a WTHOR file. Returns (number of games, number of empty squares in the positions that the
+    theoretical scores are for). The second number is 0 if the header does not say it. Raises NotText."""
     head = file.read(HEADER.size)
     if len(head) < HEADER.size:
         raise NotText(f"it ends within its header of {HEADER.size} bytes" if head else "it is empty")
@@ -150,7 +143,7 @@ def read_header(file: BinaryIO) -> Tuple[int, int]:
 
 def records(file: BinaryIO, count: int, empties: int) -> Iterator[Game]:
     """Yields the games after the header of a WTHOR file. If there are fewer or more than `count`, the last Game that is
-    yielded has no moves, and its `fault` says so."""
+    yielded has no moves, and its `fault` says why."""
     counts = f"its header counts {count} game{'s' * (count != 1)}"
     for number in range(1, count + 1):
         record = file.read(RECORD)
@@ -179,7 +172,7 @@ def position_of(masks: CPosition, side: str) -> Position:
 
 
 def played(game: Game) -> List[Tuple[CPosition, str]]:
-    """The masks and the side of each position that `positions_of` returns, which takes longer. Raises GameRefused."""
+    """Returns (masks, side to move) for each position of a game, faster than `positions_of`. Raises GameRefused."""
     if game.fault is not None:
         raise GameRefused(game.fault, game.number)
     library, at, side = loaded(), CPosition(*START), START.side
@@ -216,15 +209,14 @@ def position_with(empties: int, game: Game, found: List[Tuple[CPosition, str]]) 
 
 
 def final_discs(found: List[Tuple[CPosition, str]]) -> Optional[int]:
-    """Black's discs at the end of a game, where the winner gets the empty squares; None if the game is not over.
-    `found` is what `played` returned for the game."""
+    """The number of Black's discs at the end of a game, 32 after a draw; the winner also gets the empty squares. It is
+    None if the game is not over. `found` is what `played` returned for the game."""
     last = position_of(*found[-1])
     return discs_of_black(final_score(*last), last.side) if last.is_over else None
 
 
 def final_score(own: int, opp: int) -> int:
-    """The score of a finished game for the mover: the discs in the mask `own` minus those in `opp`; the winner gets the
-    empty squares."""
+    """The score of a finished game for the mover, whose discs are `own`; the winner also gets the empty squares."""
     mine, theirs = size_of(own), size_of(opp)
     return mine - theirs + (64 - mine - theirs) * ((mine > theirs) - (mine < theirs))
 

@@ -1,6 +1,7 @@
 """The program ffosolve-games, and its command line."""
 import argparse
 import contextlib
+import errno
 import hashlib
 import io
 import os
@@ -73,24 +74,19 @@ DONE, REMARKED, MISUSED, UNREADABLE, NO_LIBRARY, INTERRUPTED = 0, 1, 2, 3, 4, 13
 
 
 class Stop(Exception):
-    """Ends the program: `reason` is printed on standard error, and `status` is the exit status."""
+    """Ends the program, or in `list_games` only the reading of a file, with a message and the exit status `status`."""
 
     def __init__(self, reason: str, status: int = UNREADABLE) -> None:
         super().__init__(reason)
         self.status = status
 
 
-class FileRefused(Stop):
-    """A file is refused. `list_games` reports it and goes on with the next file; with `compare`, the program ends."""
-
-
 class Messages:
-    """Prints messages on standard error, each with an exit status. `status` is the highest of them so far."""
+    """Prints messages on standard error, unless writing fails. `status` is the highest exit status of them so far."""
 
     status = DONE
 
     def report(self, reason: object, status: int) -> None:
-        """Prints `reason`, if standard error can be written to."""
         self.status = max(self.status, status)
         with contextlib.suppress(OSError):
             print(f"{NAME}: {reason}", file=sys.stderr or io.StringIO(), flush=True)
@@ -103,8 +99,8 @@ def number_of_empties(word: str) -> int:
 
 
 def options_of(words: List[str]) -> argparse.Namespace:
-    """The options in `words`, the command line. If the first word is `compare`, `compares` is true, and `files` are
-    LIST and REPORT."""
+    """The options in the command line `words`. If the first is `compare`, `compares` is true, and `files` are LIST and
+    REPORT. Wrong options end the program, after the usage and the reason are printed on standard error."""
     parser = argparse.ArgumentParser(
         NAME, usage=USAGE, description=WHAT, epilog=MORE, formatter_class=argparse.RawDescriptionHelpFormatter,
         allow_abbrev=False)
@@ -166,7 +162,7 @@ def main(find: Callable[[], Optional[str]] = lambda: None) -> int:
 
 
 def list_games(options: argparse.Namespace, find: Callable[[], Optional[str]], messages: Messages) -> Iterator[bytes]:
-    """Yields the lines of a list: one for each game of the files and, if a game has a theoretical score, the digest."""
+    """Yields a list: a line for each game that has the position and, if one has a theoretical score, the digest."""
     load(find())  # for `played`
     covered, has_scores = hashlib.sha256(), False
     for name in options.files or ["-"]:
@@ -179,7 +175,7 @@ def list_games(options: argparse.Namespace, find: Callable[[], Optional[str]], m
                     covered.update(line + b"\n")
                     has_scores |= game.score is not None
                     yield line
-        except FileRefused as why:
+        except Stop as why:
             messages.report(why, why.status)
     if has_scores:
         yield from digest_of(covered)
@@ -187,16 +183,16 @@ def list_games(options: argparse.Namespace, find: Callable[[], Optional[str]], m
 
 def with_positions(file: io.BufferedReader, name: str, wanted: Optional[int],
                    messages: Messages) -> Iterator[Tuple[Game, Position]]:
-    """Yields each game of a file with one of its positions, or reports why there is none. Reports wrong scores, too.
-    The position has `wanted` empty squares, or if that is None, as many as the file says. A theoretical score for
-    another number of empty squares is left out of the game."""
+    """Yields (game, position with `wanted` empty squares) for each game of a file, or reports why there is no position.
+    If `wanted` is None, the header of the file says how many; raises Stop if it does not. A theoretical score for
+    another number of empty squares is taken out of the game. Wrong scores are reported, too."""
     games, of_scores = games_in(file, shown(name))
     empties = of_scores if wanted is None else wanted
     if empties is None:
-        raise FileRefused(f"{shown(name)} is a text: its games need --empties N", MISUSED)
+        raise Stop(f"{shown(name)} is a text: its games need --empties N", MISUSED)
     if wanted is None and empties == 0:
-        raise FileRefused(f"{shown(name)} does not say how many squares are empty at its theoretical scores; "
-                          "try --empties 22 or 24, the usual numbers", MISUSED)
+        raise Stop(f"{shown(name)} does not say how many squares are empty at its theoretical scores; "
+                   "try --empties 22 or 24, the usual numbers", MISUSED)
     for game in games:
         try:
             found = played(game)
@@ -212,8 +208,8 @@ def with_positions(file: io.BufferedReader, name: str, wanted: Optional[int],
 
 
 def wrong_scores(game: Game, discs: Optional[int]) -> Iterator[str]:
-    """Yields a message for each score of a game that is too high, differs from `discs`, Black's discs at the end of the
-    game, or can't be checked since `discs` is None."""
+    """Yields a message for each score above MOST_DISCS, and for a real score that differs from `discs` or can't be
+    checked. `discs` is the number of Black's discs at the end of the game, or None if the moves stop before that."""
     for kind, score in (("theoretical", game.score), ("real", game.real)):
         if score is not None and score > MOST_DISCS:
             yield f"its {kind} score is {score}, more than {MOST_DISCS} discs"
@@ -224,8 +220,7 @@ def wrong_scores(game: Game, discs: Optional[int]) -> Iterator[str]:
 
 
 def compare(options: argparse.Namespace, find: Callable[[], Optional[str]], messages: Messages) -> Iterator[bytes]:
-    """Yields a line for each wrong theoretical score of a list, and one of counts. With --fix, first writes corrected
-    WTHOR files."""
+    """Yields a line for each wrong theoretical score, and then one of counts. With --fix, first writes WTHOR files."""
     listed, solved = options.files
     try:
         found = Comparison(lines_of(listed), lines_of(solved))
@@ -246,8 +241,8 @@ def compare(options: argparse.Namespace, find: Callable[[], Optional[str]], mess
 
 
 def fix(place: str, compared: List[Listed], with_real: bool, messages: Messages) -> None:
-    """Writes copies of the compared WTHOR files, with exact scores: to `place`, or into it if it is a folder. Reports
-    how many scores were changed."""
+    """Writes copies of the WTHOR files that `compared` names, with exact theoretical scores and, if `with_real`, the
+    real scores that the moves have: to the new file `place`, or into it if it is a folder. Reports counts of scores."""
     of_files: Dict[str, List[Listed]] = {}
     for it in compared:
         of_files.setdefault(it.file, []).append(it)
@@ -262,14 +257,14 @@ def fix(place: str, compared: List[Listed], with_real: bool, messages: Messages)
         raise Stop("two WTHOR files of the list have one name, so --fix can't write them into one folder")
     with contextlib.ExitStack() as stack:
         fixed: Dict[str, Fixed] = {}
-        for path, (name, of_file) in zip(paths, of_files.items()):
-            if os.path.lexists(path):
-                raise would_be_lost(path)
-            fixed[path] = Fixed(shown(name), stack.enter_context(opened_again(name)), of_file, with_real)
         try:
+            for path, (name, of_file) in zip(paths, of_files.items()):
+                if os.path.lexists(path):
+                    raise FileExistsError(errno.EEXIST, "it exists", path)
+                fixed[path] = Fixed(shown(name), stack.enter_context(opened_again(name)), of_file, with_real)
             write_new(fixed)
         except FileExistsError as error:
-            raise would_be_lost(error.filename) from None
+            raise Stop(f"{shown(error.filename)} already exists and would be overwritten") from None
         except Unfit as why:
             raise Stop(str(why)) from None
         except OSError as error:
@@ -279,7 +274,7 @@ def fix(place: str, compared: List[Listed], with_real: bool, messages: Messages)
 
 
 def opened_again(name: str) -> io.BufferedReader:
-    """Opens a WTHOR file that a list names. Raises Stop if it can't be read or is not a regular file."""
+    """Opens a WTHOR file that a list names. Raises Stop if the file can't be read or is not a regular file."""
     try:
         if not stat.S_ISREG(os.stat(name).st_mode):
             raise Stop(f"{shown(name)}, which the list names, is not a regular file")
@@ -295,16 +290,11 @@ def lines_of(name: str) -> Iterator[bytes]:
 
 @contextlib.contextmanager
 def opened(name: str) -> Iterator[io.BufferedReader]:
-    """Opens a file, or standard input for `-`, for a `with` statement. If opening or reading raises OSError or NotText,
-    that becomes FileRefused."""
+    """Opens a file, or standard input for `-`. In the `with` statement for it, OSError and NotText become Stop."""
     try:
         with open(0 if name == "-" else name, "rb", closefd=name != "-") as file:
             yield file
     except NotText as why:
-        raise FileRefused(str(why)) from None
+        raise Stop(str(why)) from None
     except OSError as error:
-        raise FileRefused(f"cannot read {shown(name)}: {error.strerror}") from None
-
-
-def would_be_lost(name: str) -> Stop:
-    return Stop(f"{shown(name)} already exists and would be overwritten")
+        raise Stop(f"cannot read {shown(name)}: {error.strerror}") from None

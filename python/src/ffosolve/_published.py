@@ -1,4 +1,4 @@
-"""Compares the published scores in a list of ffosolve-games with the exact ones in the report of that list."""
+"""Compares the published scores in a list, which ffosolve-games prints, with the exact ones in ffosolve's report."""
 import hashlib
 import os
 import re
@@ -20,12 +20,12 @@ class BadList(Exception):
 
 
 class Unfit(Exception):
-    """A report is incomplete or is not that of the list, or a WTHOR file is not the one that the list names."""
+    """A report is incomplete or belongs to another list; or a WTHOR file is not the one that the list was made from."""
 
 
 class Listed(NamedTuple):
-    """A line of a list: its position and what its comment says. A line of the digest names no file and no game. Scores
-    are theoretical ones in Black's discs, where the winner gets the empty squares, or NO_SCORE."""
+    """A line of a list: its position, and the file, the game's number and the published score in its comment. A line of
+    the digest (see `digest_of`) has none of these. Scores are theoretical ones in Black's discs, or NO_SCORE."""
 
     position: Line
     file: str = ""
@@ -35,9 +35,9 @@ class Listed(NamedTuple):
 
 
 class Comparison:
-    """The theoretical scores of a list, and the exact ones of its report. `compared` are the lines that have both, and
-    `differences` those whose scores differ. `unscored` counts the positions without a theoretical score, and `refused`
-    those that have one, but are refused in the report. Raises BadList and Unfit."""
+    """The theoretical scores of a list, and the exact ones of its report. `compared` are the lines that have a score
+    in both, and `differences` those of them whose scores differ. `unscored` counts the positions without a theoretical
+    score, and `refused` the others that are refused in the report. Raises BadList and Unfit."""
 
     def __init__(self, listed: Iterable[bytes], report: Iterable[bytes]) -> None:
         lines, rows = read_list(listed), read_report(report)
@@ -65,29 +65,33 @@ class Comparison:
 
 
 def digest_of(lines: "hashlib._Hash") -> List[bytes]:
-    """Returns four lines of OBF for the first 24 bits of `lines`, the SHA-256 of a list; their scores in a report show
-    these bits. Each line stands for six bits, the number n: it is a finished game with n black discs, an empty square
-    and 63 - n white discs. Each n gives a different score, which is even under the scoring `winner` only."""
+    """Returns four OBF lines for the first 24 bits of `lines`, the SHA-256 of a list. Each line stands for six bits, a
+    number n: it is a finished game with n black discs, 63 - n white discs and an empty square. Its score in a report
+    shows n, since each n has another score. These scores are even only under the scoring `winner`."""
     black = [int.from_bytes(lines.digest()[:3], "big") >> shift & 63 for shift in (18, 12, 6, 0)]
     return [b"X" * n + b"-" + b"O" * (63 - n) + b" X; %% digest, line %d of 4" % at for at, n in enumerate(black, 1)]
 
 
 def read_list(lines: Iterable[bytes]) -> Dict[int, Listed]:
-    """Returns {number of the line, from 1: Listed} for a list, the digest included. Several lists may be joined, each
-    with its digest at its end. Raises BadList."""
+    """Returns {number of the line, from 1: Listed} for a list, including its digest. `lines` may also be those of
+    several lists, each with its digest at its end. Raises BadList."""
     found: Dict[int, Listed] = {}
     awaited: List[bytes] = []
     covered, uncovered = hashlib.sha256(), 0
     for number, text in enumerate(lines, 1):
         text = text.rstrip(b"\r\n")
         try:
-            found[number] = read_listed(text)
+            position = Position.from_obf(text)
         except NoPosition:
             continue
         except LineRefused as why:
             if number == 1 and text == b"[1]":
                 raise BadList("it is a report; LIST comes first") from None
             raise BadList(f"its line {number} is refused: {why}") from None
+        match = COMMENT.fullmatch(os.fsdecode(text))
+        found[number] = Listed(position)
+        if match is not None:
+            found[number] = Listed(position, match[1], int(match[2]), int(match[3] or NO_SCORE))
         if not awaited and not DIGEST.fullmatch(text):
             covered.update(text + b"\n")
             uncovered = number
@@ -104,18 +108,8 @@ def read_list(lines: Iterable[bytes]) -> Dict[int, Listed]:
     return found
 
 
-def read_listed(text: bytes) -> Listed:
-    """Reads a line of a list, given without its line end. Raises LineRefused."""
-    position = Position.from_obf(text)
-    match = COMMENT.fullmatch(os.fsdecode(text))
-    if match is None:
-        return Listed(position)
-    file, game, score = match.groups()
-    return Listed(position, file, int(game), int(score) if score else NO_SCORE)
-
-
 def read_report(lines: Iterable[bytes]) -> Dict[int, Optional[int]]:
-    """Returns {number of the line in the list: score for the mover, or None if refused} for a report. Raises Unfit."""
+    """Returns {number of a line in the list: score for the mover, or None if refused} for a report. Raises Unfit."""
     texts = [os.fsdecode(line.rstrip(b"\r\n")) for line in lines]
     if not texts or texts[0] != "[1]":
         raise Unfit("the report does not begin with the line `[1]`" if texts else "the report is empty")

@@ -1,4 +1,4 @@
-"""Makes the library's calls for the rules of the game, and converts positions for it."""
+"""Calls the library for the rules of the game, and converts positions to its structures."""
 import array
 import ctypes
 import itertools
@@ -30,8 +30,8 @@ def empties_of(position: Sequence[int]) -> int:
 
 
 def refusal_for(position: Sequence[int], max_empties: int, index: Optional[int] = None) -> Refused:
-    """The refusal of a position whose masks share a square, or else that has too many empty squares. Raises ValueError
-    for a mask that is out of range."""
+    """The refusal of a position: SharedSquare if its masks share a square, otherwise TooManyEmpties. `index` is the
+    position's index in a list. Raises ValueError for a mask that is out of range."""
     c_position(position)
     own, opp = position
     if own & opp:
@@ -74,7 +74,7 @@ def play(library: ctypes.CDLL, position: Sequence[int], square: Union[int, str])
 
 
 def illegal_move(library: ctypes.CDLL, position: Sequence[int], move: str) -> NoMove:
-    """The refusal of an illegal move. Its text names `move`, and has the board and the side to move as an OBF line."""
+    """The refusal of an illegal move. Its text names `move`, and ends with the board and the side as an OBF line."""
     (own, opp), side = position, getattr(position, "side", "X")
     why = f" for {SIDES[side]}"
     if not moves(library, position):
@@ -83,6 +83,6 @@ def illegal_move(library: ctypes.CDLL, position: Sequence[int], move: str) -> No
 
 
 def accept(status: int) -> None:
-    """Raises the refusal for a status, unless that is DONE."""
+    """Raises the refusal that `status` stands for, or does nothing if it is DONE."""
     if status != Status.DONE:
         raise refusal_of(status)

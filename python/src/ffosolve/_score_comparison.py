@@ -74,9 +74,9 @@ def compare_scores(listed: Source, scored: Source) -> ScoreComparison:
 
 
 def pairs_of(listed: Source, scored: Source) -> Iterator[Tuple[int, Any, Any]]:
-    """Yields (number, text, answer) for each line of the list that is neither blank nor a comment. `answer` is the Line
-    that `ffoscores` printed for it, or None if `ffoscores` refused it. Raises ValueError if the line with that number
-    in `scored` is not the answer to that line."""
+    """Yields (number, text, answer) for each line of the list that is neither blank nor a comment. `number` counts from
+    1, and `answer` is the Line that `ffoscores` printed for the text, or None if `ffoscores` refused the text. Raises
+    ValueError if a line of `scored` is not the answer to the line of `listed` with the same number."""
     both = itertools.zip_longest(lines_of(listed), lines_of(scored), fillvalue=b"")
     for number, (text, answer) in enumerate(both, 1):
         line, exact = found_in(text, number), found_in(answer, number)

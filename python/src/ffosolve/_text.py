@@ -7,7 +7,7 @@ MARKS = (b"\xef\xbb\xbf", b"\xff\xfe", b"\xfe\xff")  # byte-order marks of UTF-8
 
 
 class NotText(ValueError):
-    """A file is not a text that can be read, or also not a WTHOR file of games. The message names the file."""
+    """A file can't be read as a text or as a WTHOR file of games. The message says why."""
 
 
 def text_lines(file: BinaryIO, name: str, may_have_nul: bool = False) -> Iterator[bytes]:
@@ -29,7 +29,7 @@ def text_lines(file: BinaryIO, name: str, may_have_nul: bool = False) -> Iterato
 
 
 def shown(name: Union[str, "os.PathLike[str]"]) -> str:
-    """A file's name for a message: quoted as bash does it, if it is empty or has characters that can't be printed."""
+    """A file's name for a message. It is quoted for bash if it is empty or has characters that can't be printed."""
     name = os.fspath(name)
     if name.isprintable():
         return name or "''"
