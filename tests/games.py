@@ -1,7 +1,6 @@
 """Games for tests: transcripts, records of WTHOR files, and lists with their reports.
 
-A position is (own, opp, is_black): the masks of the mover's and the other side's discs, and whether Black is the mover.
-"""
+A position is (own, opp, is_black): the masks of the mover's and the other side's discs, and whether Black moves."""
 import hashlib
 import random
 import struct

@@ -93,9 +93,8 @@ class Faults(Case):
         self.reads("text", transcript(game), "--empties=0", err=err)
 
     def test_wrong_records_are_reported(self):
-        own, opp, is_black = self.AT[50]
-        side, whole = "Black" if is_black else "White", self.RECORD
-        illegal = f"{NAMES[self.GAME[9]]} is not a legal move for {side} in {player.line(own, opp, is_black)}"
+        side, whole = "Black" if self.AT[50][2] else "White", self.RECORD
+        illegal = f"{NAMES[self.GAME[9]]} is not a legal move for {side} in {player.line(*self.AT[50])}"
         gap, no_square, twice = (whole[:18] + bytes([byte]) + whole[19:] for byte in (0, 99, whole[17]))
         for more, count, why in (
             ([whole[:67]], 2, ": the file ends after 67 of the 68 bytes of this game, but its header counts 2 games"),

@@ -142,19 +142,15 @@ def main(find: Callable[[], Optional[str]] = lambda: None) -> int:
     try:
         if sys.stdout is None:
             raise Stop("cannot write standard output: it is closed")
-        sys.stdout = open(1, "w", closefd=False)  # Python's own, if unbuffered, loses the rest of a partial write
-        try:
+        with open(1, "w", closefd=False) as sys.stdout:  # Python's own, if unbuffered, loses the rest of a short write
             options = options_of(sys.argv[1:])
             lines = (compare if options.compares else list_games)(options, find, messages)
             sys.stdout.buffer.writelines(line + b"\n" for line in lines)
-        finally:
-            sys.stdout.flush()
     except LibraryNotFound as why:
         messages.report(why, NO_LIBRARY)
     except Stop as why:
         messages.report(why, why.status)
     except OSError as error:
-        os.dup2(os.open(os.devnull, os.O_WRONLY), 1)  # takes the rest, which Python tries to write when it ends
         messages.report(f"cannot write standard output: {error.strerror}", UNREADABLE)
     except KeyboardInterrupt:
         return INTERRUPTED
@@ -248,10 +244,8 @@ def fix(place: str, compared: List[Listed], with_real: bool, messages: Messages)
         of_files.setdefault(it.file, []).append(it)
     if not of_files:
         raise Stop("no theoretical score is compared, so --fix has none to write")
-    paths = [place]
-    if os.path.isdir(place):
-        paths = [os.path.join(place, os.path.basename(name)) for name in of_files]
-    elif len(of_files) > 1:
+    paths = [os.path.join(place, os.path.basename(name)) for name in of_files] if os.path.isdir(place) else [place]
+    if len(paths) < len(of_files):
         raise Stop(f"--fix takes a folder, since the list names {len(of_files)} WTHOR files")
     if len(set(paths)) < len(of_files):
         raise Stop("two WTHOR files of the list have one name, so --fix can't write them into one folder")

@@ -32,9 +32,8 @@ def empties_of(position: Sequence[int]) -> int:
 def refusal_for(position: Sequence[int], max_empties: int, index: Optional[int] = None) -> Refused:
     """The refusal of a position: SharedSquare if its masks share a square, otherwise TooManyEmpties. `index` is the
     position's index in a list. Raises ValueError for a mask that is out of range."""
-    c_position(position)
-    own, opp = position
-    if own & opp:
+    masks = c_position(position)
+    if masks.own & masks.opp:
         return SharedSquare(index)
     why = f"{empties_of(position)} empty squares are more than max_empties={max_empties} of the Solver"
     return TooManyEmpties(index, why)
