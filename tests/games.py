@@ -111,9 +111,8 @@ class Case(InFolder):
     RECORD = record(GAME)
 
     def games(self, *words, status=None, out="", err="", **how):
-        """Runs ffosolve-games. Asserts that its output is `with_digest(out)`, unless `out` is None, and that its errors
-        are the lines of `err`, each after the program's name. Asserts its status, by default 1 if `err` has a line and
-        otherwise 0."""
+        """Runs ffosolve-games. Asserts its output, `with_digest(out)`, unless `out` is None; its errors, the lines of
+        `err`, each after the program's name; and its status, by default 1 if `err` has a line and otherwise 0."""
         ran = run(sys.executable, PROGRAM, *words, **how)
         self.assertEqual(ran.stderr.decode(), "".join(f"ffosolve-games: {line}\n" for line in err.splitlines()))
         if out is not None:
