@@ -1,7 +1,7 @@
-"""The build backend (PEP 517): builds a wheel or a source archive with nothing but Python's standard library.
+"""The build backend that pyproject.toml names (PEP 517 and 660): builds a wheel or a source archive of the package.
 
-pyproject.toml names this module, so `pip install ./python` needs no network. The package's metadata are the file
-METADATA and the docstring of ffosolve.
+This module needs only Python's standard library, so `pip install ./python` needs no network. The package's metadata
+are the file METADATA, and after it the docstring of src/ffosolve/__init__.py.
 """
 import ast
 import base64

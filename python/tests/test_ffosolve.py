@@ -1,4 +1,4 @@
-"""Tests of the package, with the library that `Solver()` loads: that of FFOSOLVE_LIBRARY, or an installed one.
+"""Tests of the package ffosolve, installed or on PYTHONPATH, with the library that `Solver()` loads.
 
     python3 -m unittest discover python/tests
 """
@@ -70,7 +70,7 @@ class Calls(unittest.TestCase):
         self.assertEqual(repr(POSITION.show()), str(POSITION))
 
     def test_a_position_keeps_its_colours(self):
-        """In the game f5 d6 c3, Black turns E5, then White turns D5, and then Black turns D4."""
+        """`board` is the position after f5 d6 c3: Black turns E5, then White turns D5, and then Black turns D4."""
         board, at = "-" * 18 + "X" + "-" * 8 + "XX" + "-" * 6 + "OXX" + "-" * 5 + "O" + "-" * 20, START
         for square, side in (("f5", "O"), ("d6", "X"), ("c3", "O")):
             at = self.solver.play(at, square)

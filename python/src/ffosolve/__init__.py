@@ -23,15 +23,15 @@ By default, a Solver takes positions with up to 20 empty squares; `Solver(max_em
 with two more empty squares takes some 3 to 16 times as long.
 
 `read_lines("list.obf")` reads positions from a file of OBF lines, and `read_games("WTH_2001.wtb")` reads games; the
-positions of a game are `solver.positions(game)`. `compare_scores` reports how far listed scores are from exact ones.
+positions of a game are `solver.positions(game)`. `compare_scores` measures listed scores against those of `ffoscores`.
 
 A notebook shows a position as a picture. `position.show(solver.move_scores(position))` adds the scores of its moves.
 
-On the main thread, Ctrl-C interrupts every call, and so does an exception that the handler of another signal raises.
-An interrupted call goes on in the library until it is done or the program ends. Several threads may call at once.
+On the main thread, Ctrl-C interrupts a call within a fraction of a second; so does a signal whose handler raises an
+exception. The library finishes what it has begun, unless the program ends first. Several threads may call at once.
 
-The wheel that `make wheel` builds has the shared library libffosolve.so.1. Without that wheel, install the library, or
-pass its path: `Solver("FOLDER/libffosolve.so")`. Reading, writing and showing positions needs no library.
+The wheel that `make wheel` builds contains the shared library. Without that wheel, install the library, or pass the
+library's path: `Solver("FOLDER/libffosolve.so")`. Reading, writing and showing positions needs no library.
 """
 import os
 

@@ -1,4 +1,4 @@
-"""The ways of counting a score, and the answer for a position."""
+"""Scorings, and the answer for a position. A mask is a set of squares as a number: A1 is bit 0, .. H8 is bit 63."""
 import enum
 from typing import List, NamedTuple, Optional, Union
 
@@ -38,8 +38,8 @@ ENDS = {Kind.PASS: "PS", Kind.OVER: "--"}
 
 
 class Answer(NamedTuple):
-    """The score of a position for the side to move, -64 to 64; its Kind; and the mask of all best moves, which is 0 if
-    `kind` is PASS or OVER. An Answer prints as `+62 A1,H1`, for a pass as `-04 PS`, for a finished game as `+32 --`."""
+    """The score of a position for the side to move, -64 to 64; how that is reached; and the mask of all best moves, 0
+    if `kind` is PASS or OVER. Prints as `+62 A1,H1`, for a pass as `-04 PS`, for a finished game as `+32 --`."""
 
     score: int
     kind: Kind

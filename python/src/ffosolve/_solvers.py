@@ -1,4 +1,4 @@
-"""The Solver, which solves positions by calls of the library."""
+"""The Solver, which calls the shared library. A mask is a set of squares as a number: A1 is bit 0, .. H8 is bit 63."""
 import ctypes
 import os
 import reprlib
@@ -33,16 +33,14 @@ def table_entries(empties: int) -> int:
 
 
 class Solver:
-    """Solves positions under a scoring. Each call searches with a new table.
+    """Solves positions under a scoring. Keeps nothing between calls. Several threads may use the same Solver at once.
 
-    `library` is the path of the shared library. Its default is the environment variable FFOSOLVE_LIBRARY or, if that is
-    not set, the first library that loads: one in this package, in the system's library folders, or in `lib` of this
-    Python or of /usr/local. `scoring` is a Scoring, its number, or its name such as "winner". `entries` is the size of
-    the table, 0 to MOST_ENTRIES; by default, `table_entries` chooses it by the empty squares. Positions with more empty
-    squares than `max_empties`, 0 to MOST_EMPTIES, are refused, since they may take hopelessly long; 20 is also the
-    default of the programs. Raises LibraryNotFound, UnknownScoring, TooManyEntries, ValueError and TypeError.
-
-    A solver keeps nothing between calls. Several threads may use the same solver at the same time.
+    `library` is the path of the shared library. By default, it is the path in the environment variable FFOSOLVE_LIBRARY
+    or, if that is not set, the first library that loads: one in this package, in the system's library folders, in the
+    folder `lib` of this Python, or in /usr/local/lib. `scoring` is a Scoring, its number, or its name such as "winner".
+    `entries` is the size of the table, 0 to MOST_ENTRIES; by default, `table_entries` chooses it by the empty squares.
+    A position with more than `max_empties` empty squares, 0 to MOST_EMPTIES, is not solved, since that might take
+    hopelessly long. Raises LibraryNotFound, UnknownScoring, TooManyEntries, ValueError and TypeError.
     """
 
     def __init__(self, library: Union[str, "os.PathLike[str]", None] = None, *,
@@ -59,12 +57,11 @@ class Solver:
 
     @property
     def scoring(self) -> Scoring:
-        """The scoring of this solver's answers."""
         return self._scoring
 
     @property
     def max_empties(self) -> int:
-        """The greatest number of empty squares in a position that this solver takes."""
+        """The greatest number of empty squares in a position that this Solver solves."""
         return self._max_empties
 
     @property
@@ -74,13 +71,13 @@ class Solver:
         return f"{number // 10000}.{number // 100 % 100}.{number % 100}"
 
     def solve(self, position: Position) -> Answer:
-        """The answer for a position. Raises SharedSquare, TooManyEmpties and NoMemory, ValueError for a mask that is
-        not a number from 0 to 2**64 - 1, and TypeError for an object that is not a position."""
+        """The answer for a position. Raises SharedSquare, TooManyEmpties and NoMemory; ValueError for a mask below 0
+        or above 2**64 - 1; and TypeError for an object that is not a position."""
         return self._answer(self._library.ffosolve_solve, position)
 
     def confirm(self, position: Position, claim: Answer) -> Answer:
         """The answer for a position, found by testing the claimed score first; the answer is exact even if the claim is
-        wrong. From 6 empty squares on, this is faster than `solve` if most claimed scores are right. Raises the same as
+        wrong. If most claimed scores are right, this is faster than `solve` from 6 empty squares on. Raises the same as
         `solve`, and TypeError for a claim that is not an Answer."""
         if not isinstance(claim, Answer):
             raise TypeError(f"a claim is an Answer(score, kind, best), not {reprlib.repr(claim)}")
@@ -92,9 +89,9 @@ class Solver:
         return self._score_part(Part([position], self._checked_empties(position)))[0]
 
     def solve_all(self, positions: Iterable[Position], *, threads: int = 1) -> List[Answer]:
-        """The answers for positions, in their order. One thread uses one table for all positions; several threads use a
-        table for each part of the list. Raises the same as `solve`; all positions are checked before any is solved,
-        and `index` of SharedSquare and TooManyEmpties is that of the first refused position."""
+        """The answers for positions, in their order. One thread uses one table for all positions; several threads cut
+        the list into parts, and use a table for each part. Raises the same as `solve`; all positions are checked before
+        any is solved, and SharedSquare and TooManyEmpties have the `index` of the first refused position."""
         parts = self._all_parts(positions, whole=checked_threads(threads) == 1)
         return list(in_order(self._solve_part, parts, threads))
 
@@ -113,25 +110,25 @@ class Solver:
         return in_order(self._score_part, parts_of(positions, self._max_empties), checked_threads(threads))
 
     def solve_arrays(self, own: Any, opp: Any, *, threads: int = 1) -> "Answers":
-        """The answers for positions whose masks are in two arrays of uint64. The result has three arrays of the same
-        length: `score` and `kind` of int32, and `best` of uint64. Needs NumPy. Raises the same as `solve_all`, and
-        TypeError and ValueError for other arrays."""
+        """The answers for positions in arrays of uint64: `own`, the masks of the discs of the side to move, and `opp`,
+        those of the other side. The result has three arrays of the same length: `score` and `kind` of int32, and `best`
+        of uint64. Needs NumPy. Raises the same as `solve_all`, and TypeError and ValueError for other arrays."""
         from ._arrays import Answers, found_by
 
         call = self._library.ffosolve_solve_all
         return Answers(*found_by(self, call, CAnswer, own, opp, checked_threads(threads)))
 
     def move_scores_arrays(self, own: Any, opp: Any, *, threads: int = 1) -> Any:
-        """The scores of all moves in positions whose masks are in two arrays of uint64. The result is an array of int8
-        with a row of 64 scores for each position, in the order A1, B1, .. H8, with NO_SCORE for an illegal move. Needs
-        NumPy. Raises the same as `solve_arrays`."""
+        """The scores of all moves in positions. `own` and `opp` are as for `solve_arrays`. The result is an array of
+        int8 with a row of 64 scores for each position, in the order A1, B1, .. H8, with NO_SCORE for an illegal move.
+        Needs NumPy. Raises the same as `solve_arrays`."""
         from ._arrays import found_by
 
         call = self._library.ffosolve_move_scores_all
         return found_by(self, call, CMoveScores, own, opp, checked_threads(threads))[0]
 
     def moves(self, position: Position) -> int:
-        """The mask of the legal moves, 0 if there are none. `Position.legal_moves` has names. Raises SharedSquare."""
+        """The mask of the legal moves; `Position.legal_moves` has names. Raises SharedSquare, ValueError, TypeError."""
         return moves(self._library, position)
 
     def play(self, position: Position, square: Union[int, str]) -> Position:
@@ -139,9 +136,9 @@ class Solver:
         return Position(*play(self._library, position, square), OTHER[getattr(position, "side", "X")])
 
     def positions(self, game: Union[Game, str]) -> List[Position]:
-        """The positions of a game or of a transcript: the start, then the position after each move. The position at
-        index n has 60 - n empty squares; a pass adds none. Raises GameRefused for a game that can't be read, for an
-        illegal move and for a word that is not a square, and TypeError for another object."""
+        """The positions of a Game or of a transcript: the start, then the position after each move, but none after a
+        pass, so the position at index n has 60 - n empty squares. Raises GameRefused for a game that can't be read, for
+        an illegal move and for a move that is not a square, and TypeError for another object."""
         game = Game.of_text(game) if isinstance(game, str) else game
         if not isinstance(game, Game):
             raise TypeError(f"a game is a Game or the text of a transcript, not {reprlib.repr(game)}")
@@ -151,7 +148,7 @@ class Solver:
         return table_entries(empties) if self._entries is None else self._entries
 
     def _checked_empties(self, position: Sequence[int]) -> int:
-        """How many squares of a position are empty. Raises SharedSquare and TooManyEmpties."""
+        """How many squares of a position are empty. Raises SharedSquare, TooManyEmpties, ValueError and TypeError."""
         empties, (own, opp) = empties_of(position), position
         if own & opp or empties > self._max_empties:
             raise refusal_for(position, self._max_empties)
