@@ -22,10 +22,10 @@ def checked_side(side: str) -> str:
 class Board:
     """A board that a notebook shows as a picture, and that prints as text.
 
-    `own` and `opp` are the masks of the discs of the side to move and of the other side. `side` is the colour of the
-    side to move, "X" (Black) or "O" (White). Below the board, the side and the text `state` are shown. `scores` is
-    {name of an empty square: score}: each score is shown in its square, and the highest are marked. Raises ValueError
-    for another side, a wrong name or a score whose square is not empty, and TypeError unless scores are numbers."""
+    `own`, `opp` and `side` are those of a Position: the masks of the discs of the side to move and of the other side,
+    and the colour of the side to move, "X" or "O". Below the board, this colour and the text `state` are shown.
+    `scores` is {name of an empty square: score}: each score is shown in its square, and the highest are marked. Raises
+    ValueError for another side, a name that no square has or whose square has a disc; TypeError for other scores."""
 
     def __init__(self, own: int, opp: int, side: str, scores: Optional[Mapping[str, float]] = None,
                  state: str = "is to move") -> None:
@@ -68,7 +68,7 @@ class Board:
             f'<rect width="{width}" height="{height}" fill="#ffffff"/>',
             f'<rect x="{MARGIN}" y="{MARGIN}" width="{BOARD}" height="{BOARD}" fill="{GREEN}"/>',
             *(part for at in range(64) for part in self._square(at)),
-            *(line for at in range(9) for line in lines(at)),
+            *(line for at in range(9) for line in grid_lines(at)),
             disc(self.side, MARGIN + 10, height - FOOT // 2, 9),
             f'<text x="{MARGIN + 26}" y="{height - FOOT // 2 + 5}" text-anchor="start" fill="{INK}">{state}</text>',
             "</svg>",
@@ -87,9 +87,9 @@ class Board:
             yield f'<text x="{x}" y="{y + 5}" {how}>{self.scores[at]:+}</text>'
 
 
-def lines(number: int) -> Iterator[str]:
-    """Yields SVG for the line left of column `number` and the line above row `number`, counted from 0, and for the
-    labels of both. For number 8, yields only the lines, which close the board."""
+def grid_lines(number: int) -> Iterator[str]:
+    """Yields SVG for the line left of column `number` and the line above row `number`, counted from 0, and then for the
+    labels of this column and this row, such as `A` and `1`. For 8, yields only the board's right and bottom lines."""
     at, end = MARGIN + number * SQUARE, MARGIN + BOARD
     yield f'<path d="M{at} {MARGIN}V{end}M{MARGIN} {at}H{end}" stroke="{LINES}"/>'
     if number < 8:

@@ -1,4 +1,4 @@
-"""Finds the shared library, and declares its calls as ffosolve.h does."""
+"""Finds the shared library, and declares most of its calls as ffosolve.h does."""
 import ctypes
 import functools
 import os
@@ -13,7 +13,7 @@ _loaded: List[ctypes.CDLL] = []
 
 
 class LibraryNotFound(OSError):
-    """There is no shared library that this package can call."""
+    """No place that was tried has a shared library that this package can call."""
 
 
 class CPosition(ctypes.Structure):
@@ -29,9 +29,9 @@ class CMoveScores(ctypes.Structure):
 
 
 def places() -> List[str]:
-    """Returns where to look for the library if no path is given: only the path in the environment variable
-    FFOSOLVE_LIBRARY, if that is set; otherwise the libraries in this package, the one for newer processors first;
-    NAME, which the system's loader looks up; the folder `lib` of this Python; and /usr/local/lib."""
+    """The libraries to try if no path is given: only the one in the environment variable FFOSOLVE_LIBRARY, if that is
+    not empty; otherwise those in this package, the one for newer processors first; then NAME, which the system's loader
+    looks up; then NAME in the folder `lib` of the virtual environment, if there is one, of Python and of /usr/local."""
     named = os.environ.get("FFOSOLVE_LIBRARY")
     if named:
         return [named]
@@ -41,7 +41,7 @@ def places() -> List[str]:
 
 
 def load(path: Union[str, "os.PathLike[str]", None] = None) -> ctypes.CDLL:
-    """Loads the library at `path`, or if that is None, the first of `places()` that loads. Raises LibraryNotFound."""
+    """The library at `path` or, if that is None, the first of `places()` that can be called. Raises LibraryNotFound."""
     errors = []
     for place in [os.path.abspath(path)] if path is not None else places():
         try:
@@ -53,7 +53,7 @@ def load(path: Union[str, "os.PathLike[str]", None] = None) -> ctypes.CDLL:
 
 
 def loaded() -> ctypes.CDLL:
-    """Returns the library that was loaded first; if there is none, loads one. Any library has the rules of the game."""
+    """Returns the library that was loaded first, or else loads one. For the rules of the game, any library will do."""
     return _loaded[0] if _loaded else load()
 
 

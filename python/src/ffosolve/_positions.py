@@ -24,13 +24,12 @@ STATES = {Kind.PASS: "has to pass: {:+}", Kind.OVER: "scores {:+}: the game is o
 class Position(NamedTuple("Masks", [("own", int), ("opp", int)])):
     """The masks of the discs of the side to move (`own`) and of the other side (`opp`), and the mover's colour, `side`.
 
-    Square A1 is bit 0 of a mask and H8 bit 63. The masks are checked only by the rules and by a Solver, not when a
-    Position is made. `side` is "X" (Black) or "O" (White). Positions are printed and shown in their colours, but no
-    answer depends on them: positions with equal masks are equal. Raises ValueError for another side.
+    Square A1 is bit 0 of a mask and H8 bit 63. `side` is "X" (Black) or "O" (White); another raises ValueError. Only
+    texts and pictures depend on `side`: positions with equal masks are equal, and so are their answers.
 
     A position does not change: `play`, `play_all` and `passed` return a new one. The shared library knows the rules, so
-    `legal_moves`, `must_pass`, `is_over`, `play`, `play_all` and `score` raise LibraryNotFound without it. They raise
-    SharedSquare if the masks share a square.
+    `legal_moves`, `must_pass`, `is_over`, `play`, `play_all` and `score` raise LibraryNotFound without it. Only these
+    and a Solver check the masks: one outside 0 to 2**64 - 1 raises ValueError, two that share a square SharedSquare.
     """
 
     side: str = "X"
@@ -51,15 +50,15 @@ class Position(NamedTuple("Masks", [("own", int), ("opp", int)])):
         """The position of a line of OBF text, with the moves that the line lists. The line has 64 squares in the order
         A1, B1, .. H8, the side to move, and maybe moves with their scores such as `H1:+62;`.
 
-        Any of `X x * B b` stands for Black, any of `O o W w` for White, and `-` or `.` for an empty square. Blanks
-        before the squares and before the side are skipped. Raises NoPosition, ShortBoard, BadSquare and BadSide, which
-        are ValueErrors, and NoMemory. No library is needed.
+        Any of `X x * B b` stands for Black, any of `O o W w` for White, and `-` or `.` for an empty square. Blanks and
+        tabs before the squares and the side are skipped, and so is other text after the side. Raises NoPosition,
+        ShortBoard, BadSquare and BadSide, which are ValueErrors, and NoMemory and TypeError. Needs no library.
         """
         return read_line(text, None)
 
     def to_obf(self, side: Optional[str] = None) -> str:
-        """The position as an OBF line: 64 squares, and ` X;` or ` O;`. `side`, "X" or "O", may name another colour for
-        the side to move."""
+        """The position as an OBF line: 64 squares, and ` X;` or ` O;`. If `side` is given and not the position's, all
+        colours are exchanged. Raises ValueError for a side other than "X" and "O"."""
         return self.show(side=side).to_obf()
 
     @property
@@ -83,14 +82,14 @@ class Position(NamedTuple("Masks", [("own", int), ("opp", int)])):
         return not self.legal_moves and not self.passed().legal_moves
 
     def play(self, square: Union[int, str]) -> "Position":
-        """The position after a move, in which the other side is to move. `square` is a name such as "F5" or a number
-        from 0 to 63. Raises NoMove, a ValueError, for an illegal move, and ValueError for a name that no square has."""
+        """The position after a move; the other side is to move. `square` is a name such as "F5" or a number from 0 to
+        63. Raises NoMove for an illegal move and any other number, ValueError for any other name, else TypeError."""
         return Position(*play(loaded(), self, square), OTHER[self.side])
 
     def play_all(self, squares: Union[str, Iterable[Union[int, str]]]) -> "Position":
-        """The position after the moves of a transcript such as "f5d6c3", in any form that `Game.of_text` reads, or of a
-        list of squares. A pass may be written or left out. Raises NoMove for an illegal move and for a word that is
-        not a square; the message has the number of the move, from 1 and without passes."""
+        """The position after several moves: a transcript such as "f5d6c3", in any form that `Game.of_text` reads, or a
+        list of squares. A pass may be written or left out. Raises NoMove for an illegal move and for a word that is not
+        a square; the message has the number of the move, from 1 and without passes. Other objects raise TypeError."""
         if not hasattr(squares, "__iter__"):
             raise TypeError(f"moves are a transcript or a list of squares, not {reprlib.repr(squares)}")
         position = self
@@ -109,7 +108,7 @@ class Position(NamedTuple("Masks", [("own", int), ("opp", int)])):
         return position
 
     def score(self, scoring: Union[Scoring, int, str] = Scoring.WINNER) -> int:
-        """The score of a finished game for the mover. Raises ValueError if the game is not over, and UnknownScoring."""
+        """The mover's score in a finished game. Raises ValueError for any other, TooManyEmpties and UnknownScoring."""
         if not self.is_over:
             raise ValueError(f"the game is not over, so only a Solver finds the score: {self.to_obf()}")
         answer = CAnswer()
@@ -117,10 +116,10 @@ class Position(NamedTuple("Masks", [("own", int), ("opp", int)])):
         return int(answer.score)
 
     def show(self, scores: Union[Mapping[str, float], Answer, None] = None, side: Optional[str] = None) -> Board:
-        """The board, which a notebook shows as a picture and print() as text. `scores` from `Solver.move_scores` are
-        written into the moves' squares, and the best are marked. An Answer's score is written into each best move's
-        square, or below the board for a pass or a finished game. `side` may name another colour for the side to move.
-        Raises ValueError for another side or for scores of squares that are not empty, TypeError for other scores."""
+        """The board, which a notebook shows as a picture and print() as text. If `scores` is {square's name: score}, as
+        from `Solver.move_scores`, each score is written into its square, and the best are marked. If it is an Answer,
+        the score is written into each best move's square or, for a pass or a finished game, below the board. If `side`
+        is given and not the position's, all colours are exchanged. Raises the same as Board."""
         state = "is to move"
         if isinstance(scores, Answer):
             state = STATES.get(scores.kind, state).format(scores.score)
@@ -146,7 +145,7 @@ class Position(NamedTuple("Masks", [("own", int), ("opp", int)])):
         return self.show()._repr_svg_()
 
     def passed(self) -> "Position":
-        """The position after a pass, in which the other side is to move."""
+        """The position after a pass, even if a pass is not legal. The other side is to move."""
         return Position(self.opp, self.own, OTHER[self.side])
 
 
@@ -156,7 +155,7 @@ START = Position(0x0000000810000000, 0x0000001008000000)  # Black, on E4 and D5,
 class Line(Position):
     """The position of a line of OBF text, and what else the line says.
 
-    `listed` has the moves that the line lists, in their order, each with its score from -64 to 64, such as
+    `listed` has each move that the line lists with a score from -64 to 64, and the score, in the line's order, such as
     `(("H1", 62), ("A1", 52))`. "PS" is a pass, and "--" the end of the game. The moves may be illegal and the scores
     wrong. `number` is the line's number, from 1, if `read_lines` or `parse_lines` read it, and otherwise None.
     """
@@ -166,8 +165,8 @@ class Line(Position):
 
 
 def read_line(text: Union[str, bytes], number: Optional[int]) -> Line:
-    """Reads a line of OBF text. Raises LineRefused for a line without a position, and NoMemory. `number`, which may be
-    None, becomes the `number` of the Line or the `line` of the LineRefused."""
+    """Reads a line of OBF text, and raises the same as `Position.from_obf`. `number`, which may be None, becomes the
+    `number` of the Line or the `line` of the LineRefused."""
     try:
         found: Any = LINE.match(without_end(text))
         _, letters, _, side, rest = found.groups()
@@ -185,7 +184,7 @@ def read_line(text: Union[str, bytes], number: Optional[int]) -> Line:
 
 
 def fault_of(found: "re.Match[bytes]", number: Optional[int]) -> LineRefused:
-    """The refusal of a line without a position, for the first fault from the left. `found` is a match of LINE."""
+    """The refusal of a line for its first fault from the left. `found` is how the pattern LINE matches the line."""
     content, squares = found.string[found.end(1):], len(found[2])
     if not content or content.startswith(b"%"):
         return NoPosition(0, number)
@@ -216,7 +215,7 @@ def read_lines(source: Source, refused: Optional[Callable[[LineRefused], object]
         wrong = []
         positions = list(read_lines("a.obf", refused=wrong.append))
 
-    Raises OSError for a file that can't be read, and TypeError for another source. `parse_lines` reads a text.
+    Raises OSError if the file can't be read, NoMemory, and TypeError for another source. `parse_lines` reads a text.
     """
     return positions_in(lines_of(source), refused)
 
@@ -239,8 +238,8 @@ def positions_in(lines: Lines, refused: Optional[Callable[[LineRefused], object]
 
 
 def lines_of(source: Source) -> Lines:
-    """The lines of `source`, a path or an iterable of lines. The file of a path is opened at once, and closed after its
-    last line. Raises TypeError for another source."""
+    """The lines of `source`, a path or an iterable of lines. A path's file is opened at once, and closed after its last
+    line. Raises OSError for a file that can't be opened or read, and TypeError for another source."""
     is_text = isinstance(source, (bytes, bytearray)) or isinstance(source, str) and "\n" in source
     if is_text or not isinstance(source, (str, os.PathLike)) and not hasattr(source, "__iter__"):
         what = "a text, which parse_lines reads" if is_text else reprlib.repr(source)

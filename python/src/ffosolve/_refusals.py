@@ -33,7 +33,7 @@ REFUSALS: Dict[int, Type["Refused"]] = {}  # the class of each status
 
 
 class Refused(Exception):
-    """A call was refused. If one position of a list was the reason, `index` is its index, from 0; otherwise None."""
+    """A call or a line was refused. If a position of a list was the reason, `index` is its index, from 0; else None."""
 
     status: int  # a Status, except for an OtherRefusal
     reason: str
@@ -64,7 +64,7 @@ class TooManyEntries(Refused, ValueError, status=Status.TOO_MANY_ENTRIES,
 
 
 class UnequalLengths(Refused, ValueError, status=Status.UNEQUAL_LENGTHS, reason="not as many answers as positions"):
-    """The numbers of positions and answers differ. A Solver never raises this, since it makes room for all answers."""
+    """There is room for more or fewer answers than positions. A Solver never raises this, since it makes the room."""
 
 
 class SharedSquare(Refused, ValueError, status=Status.SHARED_SQUARE, reason="the masks share a square"):
@@ -73,7 +73,7 @@ class SharedSquare(Refused, ValueError, status=Status.SHARED_SQUARE, reason="the
 
 class TooManyEmpties(Refused, ValueError, status=Status.TOO_MANY_EMPTIES,
                      reason=f"more than {MOST_EMPTIES} empty squares"):
-    """The position has more empty squares than the Solver takes."""
+    """The position has more empty squares than the Solver takes or, for `Position.score`, more than MOST_EMPTIES."""
 
 
 class NoMove(Refused, ValueError, status=Status.NO_MOVE, reason="illegal move"):
@@ -82,7 +82,7 @@ class NoMove(Refused, ValueError, status=Status.NO_MOVE, reason="illegal move"):
 
 
 class NoMemory(Refused, MemoryError, status=Status.NO_MEMORY, reason="out of memory"):
-    """There is not enough memory for the table (never with 0 entries), or for the moves that a line lists."""
+    """There is not enough memory to make the table (never raised with 0 entries), or to read a line of OBF text."""
 
 
 class OtherRefusal(Refused):
@@ -94,8 +94,8 @@ class OtherRefusal(Refused):
 
 
 class LineRefused(Refused, ValueError):
-    """A line of OBF text was refused. `line` is its number, from 1, or None if the line was read alone. For BadSquare
-    and BadSide, `at` is the column, counted in bytes from 1; for ShortBoard, `at` is the number of squares."""
+    """A line of OBF text was refused. `line` is its number, from 1, or None if the line was read alone. `at` is
+    `column` for BadSquare and BadSide, the number of squares for ShortBoard, and 0 for NoPosition."""
 
     def __init__(self, at: int = 0, line: Optional[int] = None) -> None:
         self.at, self.line, self.reason = at, line, self.reason.format(at)
@@ -105,12 +105,12 @@ class LineRefused(Refused, ValueError):
 
     @property
     def column(self) -> Optional[int]:
-        """The column of the wrong byte or of the line's end, in bytes from 1; None except for BadSquare and BadSide."""
+        """Where the wrong byte or the line's end is, counted in bytes from 1; None except for BadSquare and BadSide."""
         return self.at if self.status in (Status.BAD_SQUARE, Status.BAD_SIDE) else None
 
 
 class NoPosition(LineRefused, status=Status.SKIPPED, reason="no position: the line is blank or a comment"):
-    """The line is blank or a comment. `read_lines` skips it."""
+    """The line is blank or a comment. `read_lines` and `parse_lines` skip it."""
 
 
 class ShortBoard(LineRefused, status=Status.SHORT_BOARD, reason="board has {} of 64 squares"):
@@ -126,7 +126,7 @@ class BadSide(LineRefused, status=Status.BAD_SIDE, reason="bad side at column {}
 
 
 def refusal_of(status: int) -> Refused:
-    """Returns the refusal for a status; for a status that is not in Status, an OtherRefusal."""
+    """Returns the refusal for a status other than DONE; for one that is not in Status, an OtherRefusal."""
     return REFUSALS[status]() if status in REFUSALS else OtherRefusal(status)
 
 

@@ -1,4 +1,4 @@
-"""Squares: A1 is number 0 and bit 0 of a mask, B1 is 1, H1 is 7, A2 is 8, H8 is 63."""
+"""Squares: A1 is number 0, B1 is 1, A2 is 8, H8 is 63. A mask is a set of squares: bit n stands for square n."""
 import operator
 import reprlib
 from typing import List, Union
@@ -22,8 +22,8 @@ def square_number(name: str) -> int:
 
 
 def number_of(square: Union[int, str]) -> int:
-    """The number of the square that has the name `square`. If `square` is a number, returns that, even if no square has
-    it. Raises ValueError for another name, and TypeError for another object."""
+    """Returns the number of the square with the name `square`, or `square` itself if that is a number, even one that no
+    square has. Raises ValueError for a name that no square has, and TypeError for an object of another type."""
     if not isinstance(square, str) and not hasattr(square, "__index__"):
         raise TypeError(f"a square is a name such as 'F5' or a number from 0 to 63, not {reprlib.repr(square)}")
     return square_number(square) if isinstance(square, str) else operator.index(square)
