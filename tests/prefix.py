@@ -32,8 +32,8 @@ def names_of_files():
 
 
 def copied_checkout(folder):
-    """Builds everything, copies the checkout and its folder out/ into `folder`, and returns `folder`. The copies keep
-    the modification times of the files, and everybody may read them."""
+    """Builds everything, copies the checkout's files and out/, without logs, archives and out/tests, into `folder`, and
+    returns `folder`. The copies keep the modification times of the files, and everybody may read them."""
     run("make", "-s", "-C", ROOT, "levels", stderr=None, timeout=None, check=True)
     shutil.copytree(ROOT / "out", folder / "out", ignore=shutil.ignore_patterns("tests", "*.log", "*.tar.gz*", "*.new"))
     run("cp", "--parents", "--preserve=mode,timestamps", *names_of_files(), folder, cwd=ROOT, check=True)
@@ -48,7 +48,7 @@ def files_below(folder):
 
 def path_without(tool, folder):
     """Returns a value for PATH without the command `tool`: for each folder on PATH, a new folder in `folder` with links
-    to all other commands. One folder would not do, since a user who may not run a command runs the next of its name."""
+    to its other commands. In a single folder, a command that the user may not run would hide the next of its name."""
     places = {Path(folder, f"without-{tool}-{at}"): place for at, place in enumerate(os.get_exec_path())}
     for links, place in places.items():
         links.mkdir()
@@ -58,9 +58,9 @@ def path_without(tool, folder):
 
 
 class Prefix:
-    """What is installed under a prefix, and the folder `work`, in which tests build programs that use it. Each test
-    module calls `install` once: it makes `work`, installs under a prefix in `work` if TEST_PREFIX is not set, and
-    copies the installed documents, which include the packages for Python and Rust, into `work`."""
+    """The installed files, and the folder `work`, in which tests build programs that use them. Each test module calls
+    `install` once. This makes `work`, installs under a prefix in `work` if TEST_PREFIX is not set, and copies the
+    installed documents, which include the packages for Python and Rust, into `work`."""
 
     def install(self):
         vars(self).clear()

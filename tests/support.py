@@ -21,13 +21,13 @@ sys.path.insert(0, str(ROOT / "python/src"))  # for `import ffosolve`
 
 
 def lack(what):
-    """Skips the test (in setUpModule, the module) since `what` is missing; fails if the environment has CI=true."""
+    """Skips the test or, in setUpModule, its module, since `what` is missing. Fails if the environment has CI=true."""
     kind = AssertionError if os.environ.get("CI") == "true" else unittest.SkipTest
     raise kind(f"{what} is missing")
 
 
 def need(*tools):
-    """Calls `lack` for the first of `tools`, which are names of commands, that is not installed."""
+    """Calls `lack` for the first of the commands `tools` that is not installed."""
     for tool in tools:
         if shutil.which(tool) is None:
             lack(tool)
@@ -47,8 +47,8 @@ def stored(*path):
 
 
 def worked(name):
-    """Reads the table tests/rows/NAME.tsv. Returns the cells of its last column, each a line of OBF text as bytes, and
-    {heading: cells} for the other columns. `~` in these is replaced by the board and the side of the row's line."""
+    """Reads the table tests/rows/NAME.tsv. Returns the cells of its last column, each a line of a list as bytes, and
+    {heading: cells} for the other columns, with `~` replaced by the first 66 bytes (board, side) of the row's line."""
     heads, *rows = stored("tests/rows", f"{name}.tsv").removesuffix(b"\n").split(b"\n")
     *heads, _ = heads.decode().split("\t")
     rows = [row.split(b"\t", len(heads)) for row in rows]
@@ -77,7 +77,7 @@ def write(path, text, mode=None):
 
 @functools.cache
 def positions(*words):
-    """Returns what `bench/positions COUNT LEAST MOST [SEED]` prints for these arguments: OBF lines, as bytes."""
+    """Returns what `bench/positions COUNT LEAST MOST [SEED]` prints: OBF lines with LEAST to MOST empties, as bytes."""
     return run(sys.executable, ROOT / "bench/positions", *words, check=True).stdout
 
 
@@ -96,7 +96,7 @@ def is_v3():
 
 def limited(**limits):
     """Returns a function for `preexec_fn` that sets limits of a process by their names in the module `resource`. Past a
-    limit RLIMIT_FSIZE, which is in bytes, writing to a file fails as on a full disk."""
+    limit RLIMIT_FSIZE, in bytes, no signal ends the process: writing to a file fails with `File too large`."""
     def prepare():
         signal.signal(signal.SIGXFSZ, signal.SIG_IGN)  # by default, the signal for such a write ends the program
         for name, size in limits.items():
@@ -120,14 +120,14 @@ def built(name="ffosolve"):
 
 
 def copy_many(root):
-    """Copies ffosolve-many and its package to the same relative paths in a folder; returns the program's path there."""
+    """Copies ffosolve-many, its package and VERSION to the same paths in a folder; returns the program's path there."""
     shutil.copytree(ROOT / "python/src", Path(root, "python/src"), ignore=shutil.ignore_patterns("__pycache__"))
     run("cp", "--parents", "VERSION", "bin/ffosolve-many", Path(root).absolute(), cwd=ROOT, check=True)
     return Path(root, "bin/ffosolve-many")
 
 
 class InFolder(unittest.TestCase):
-    """A test that runs in a new folder, `self.folder`, which everybody may read."""
+    """A test that runs with umask 022 in a new folder, `self.folder`, which everybody may read."""
 
     def setUp(self):
         self.folder = module_folder(self.enterContext)
@@ -135,8 +135,8 @@ class InFolder(unittest.TestCase):
         self.enterContext(contextlib.chdir(self.folder))
 
     def ends(self, wanted, *words, **how):
-        """Runs a command and asserts that it ends with `wanted`: (status, standard output, standard error), both as str
-        or both as bytes. The test goes on if this fails."""
+        """Asserts that a command ends with `wanted`: (status, standard output, standard error). Both outputs are
+        str, or both bytes; one that goes elsewhere is None. The test goes on if this fails."""
         with self.subTest(words=words, input=(how.get("input") or "")[-99:]):
             ran = run(*words, **{"text": isinstance(wanted[1], str), **how})
             self.assertEqual((ran.returncode, ran.stdout, ran.stderr), wanted)
@@ -170,13 +170,13 @@ def wait_until(holds, seconds=SECONDS):
 
 
 def as_at_a_login():
-    """For `preexec_fn`: sets the signals that end a program to their default action, even if the tests ignore some."""
+    """For `preexec_fn`: sets SIGINT, SIGTERM, SIGHUP and SIGQUIT to their defaults, even if the tests ignore some."""
     for number in (signal.SIGINT, signal.SIGTERM, signal.SIGHUP, signal.SIGQUIT):
         signal.signal(number, signal.SIG_DFL)
 
 
 def processes_in(place):
-    """Returns {process ID: command line} for all other processes whose current folder is `place` or below it."""
+    """Returns {process ID: command line} for other visible processes whose current folder is `place` or below it."""
     found = {}
     for number in set(filter(str.isdigit, os.listdir("/proc"))) - {str(os.getpid())}:
         with contextlib.suppress(OSError):  # the process has ended, or is another user's
@@ -187,8 +187,8 @@ def processes_in(place):
 
 
 def preload(folder, **variables):
-    """Returns an environment in which a program calls the functions of tests/preload.c instead of the system's;
-    `variables`, which it also has, choose what they do. The first call compiles that file into `folder`."""
+    """Returns an environment in which programs call the functions of tests/preload.c instead of the system's. It also
+    has `variables`, which choose what these functions do. The first call for a `folder` compiles the file into it."""
     library = folder / "preload.so"
     if not library.exists():
         need("cc")

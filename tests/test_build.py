@@ -68,7 +68,7 @@ class Build(InFolder):
 
     def use(self, *words, **environment):
         """Runs `self.script`, which is bin/ffosolve unless a test changes it, with the arguments `words`, by default
-        `w`; returns the ended run."""
+        `w`, the input `read` and the variables `environment`; returns the ended run."""
         return run(self.script, *(words or ("w",)), input="read\n", env={**os.environ, **environment}, **HOW)
 
     def begin(self, **environment):
@@ -78,18 +78,18 @@ class Build(InFolder):
     def builds(self):
         return self.starts.read_text().count("start")
 
-    def ran(self, ran, text, words="<w>", builds=None):
-        """Asserts that the run `ran` started a program built from the source `text`, which printed its arguments as
-        `words`; and, if given, that there were `builds` builds up to now. Returns the run's standard error."""
+    def started(self, ran, text, words="<w>", builds=None):
+        """Asserts that the run `ran` started a program that was built from the source `text` and printed its arguments
+        as `words`, and that there were `builds` builds so far (None: any). Returns the run's standard error."""
         self.assertEqual((ran.returncode, ran.stdout), (3, f"made of {text}\n{words}/\nread\n"), ran.stderr)
         self.assertEqual(self.builds(), builds or self.builds())
         return ran.stderr
 
     def after(self, change, text, builds, **environment):
-        """Runs the shell command `change` in the folder of the crate ffosolve, then `self.script`, and makes the
-        assertions of `ran` about this run. Returns the run's standard error."""
+        """Runs the shell command `change` in the folder of the crate ffosolve, then `self.script`. Checks this run with
+        `started`, which gets `text` and `builds`, and returns the run's standard error."""
         run("sh", "-euc", change, cwd=self.root / "crates/ffosolve", check=True)
-        return self.ran(self.use(**environment), text, builds=builds)
+        return self.started(self.use(**environment), text, builds=builds)
 
     def refused(self, ran, words, before="(.*\n)*"):
         """Asserts that a run ended with status 4 and without output, and that the last line on standard error says that
@@ -98,8 +98,8 @@ class Build(InFolder):
         self.assertRegex(ran.stderr, rf"\A{before}ffosolve: not built: .*{re.escape(words)}.*\n\Z")
 
     def test_the_first_use_of_each_program_builds_it_and_later_ones_only_run_it(self):
-        """The programs are started by their paths, through symlinks, and by sh in the folder bin/."""
-        printed = self.ran(self.use("one", "a b"), 1, "<one><a b>", builds=1)
+        """ffosolve is started by its path, both programs through symlinks, and ffosolve as `sh ffosolve` in bin/."""
+        printed = self.started(self.use("one", "a b"), 1, "<one><a b>", builds=1)
         self.assertTrue(all(line.startswith("ffosolve: ") for line in printed.splitlines()), printed)
         for words in ("minutes", "GB", str(self.log), "ffosolve: 0 min, crate 1 of 2, othello_rules\n"):
             self.assertEqual(printed.count(words), 1, printed)
@@ -109,8 +109,8 @@ class Build(InFolder):
         for name, builds, text in (("ffosolve", 2, 1), ("ffoscores", 3, "scores")):
             self.script = self.folder / name
             self.script.symlink_to(self.root / "bin" / name)
-            self.ran(self.use(), text, builds=builds)
-            self.assertEqual(self.ran(self.use(), text, builds=builds), "")
+            self.started(self.use(), text, builds=builds)
+            self.assertEqual(self.started(self.use(), text, builds=builds), "")
         ran = run("sh", "ffosolve", "w", **{**HOW, "cwd": self.root / "bin"})
         self.assertEqual(ran.stdout, f"made of 1\n<w>{self.root}/bin\n", ran)
 
@@ -118,7 +118,7 @@ class Build(InFolder):
         for text, builds in ((1, 1), (1, 1), (2, 2)):
             write(self.source, f"{text}\n")
             ran = run("sh", "-c", 'exec "$0" w 2>&-', self.script, input="read\n", **HOW)
-            self.assertEqual(self.ran(ran, text, builds=builds), "")
+            self.assertEqual(self.started(ran, text, builds=builds), "")
 
     def test_rt_gets_no_input_and_no_lock_and_the_program_replaces_the_caller(self):
         below = self.root / "scripts/below"
@@ -136,7 +136,7 @@ class Build(InFolder):
 
     def test_each_change_of_a_source_builds_again_and_a_new_time_does_not(self):
         """The changes are a new text, the old text with its old modification time, a new, a renamed and a removed file,
-        a file of another crate that is used, and crates.txt. If nothing was changed, no source is read."""
+        a file of a crate that ffosolve uses, and crates.txt. If only out/ or must-fail/ changes, no source is read."""
         make_old = "find ../../crates* -exec touch -d yesterday {} +; cp -p src/main.rt out"
         self.after(f"mkdir out must-fail; touch out/kept.rt must-fail/one.rt; {make_old}", 1, builds=1)
         os.link(self.root / "out/ffosolve", "old")
@@ -155,13 +155,13 @@ class Build(InFolder):
         self.after("echo >>../../crates.txt", 1, builds=9)
 
     def test_a_change_within_the_same_second_builds_again(self):
-        """Here, `date` is a second ahead, as a file's modification time may be up to a second behind the clock."""
+        """A fake `date` is a second ahead, since a file's modification time may be up to a second behind the clock."""
         write(self.tools / "date", '#!/bin/sh\necho $(($(/usr/bin/date "$@") + 1))\n')
         self.use()
         self.after("echo 2 >src/main.rt", 2, builds=2)
 
     def test_a_change_during_a_build_builds_again(self):
-        self.ran(self.use(ACTS="[ -e out ] || echo 2 >src/main.rt"), 2, builds=2)
+        self.started(self.use(ACTS="[ -e out ] || echo 2 >src/main.rt"), 2, builds=2)
 
     def test_a_program_that_was_removed_is_built_again_and_kept_proofs_are_not(self):
         self.use()
@@ -214,7 +214,7 @@ class Build(InFolder):
         last = ran.stderr.splitlines()[-1]
         self.assertEqual((ran.returncode, ran.stdout, last), (4, "", "ld.lld: error: no room"), ran)
         write(self.link, COPY + "echo linked >&2\n")
-        self.assertEqual(self.ran(self.use(), 1, builds=1), "")
+        self.assertEqual(self.started(self.use(), 1, builds=1), "")
 
     def test_kept_work_that_cannot_be_used_is_dropped_and_built_again(self):
         kept = write(self.root / "crates/othello_rules/out/kept", "")
@@ -237,7 +237,7 @@ class Build(InFolder):
         self.after("echo 1 >src/main.rt", 1, builds=4)
 
     def test_a_full_disk_is_reported_and_the_next_run_builds(self):
-        """The disk that out/ is on is full from the start, or too small for the program."""
+        """The disk with out/ is full from the start, or has less room than the program needs."""
         small = 'mount -t tmpfs -o size=40k none out && head -c "$1" /dev/zero >out/filled; shift; exec "$@"'
         (self.root / "out").mkdir()
         space = ["unshare", "-m"] if os.getuid() == 0 else ["unshare", "-r", "-m"]
@@ -247,10 +247,10 @@ class Build(InFolder):
         for filled in (40960, 20000):
             words = [*space, "sh", "-c", small, "sh", filled, self.script]
             self.refused(run(*words, **{**HOW, "cwd": self.root}), "written")
-        self.ran(self.use(), 1)
+        self.started(self.use(), 1)
 
     def test_in_a_checkout_of_another_user_a_built_program_runs_and_no_other_is_built(self):
-        """The program also runs if a source has a new time, and if sources can't be read nor out/ be written."""
+        """Sources may have new times. If one can't be read, the program runs only if out/ can't be written."""
         def closed(*changes):
             run("sh", "-euc", "\n".join(("chmod -R a-w .", *changes)), cwd=self.root, check=True)
             ran = run(self.script, "w", input="read\n", **HOW, **NOBODY)
@@ -263,7 +263,7 @@ class Build(InFolder):
         Path("starts.program").chmod(0o666)
         for changes in ((), ("chmod go= crates",), (unreadable,)):
             os.utime(self.source)
-            self.assertEqual(self.ran(closed(*changes), 1, builds=1), "")
+            self.assertEqual(self.started(closed(*changes), 1, builds=1), "")
         self.assertEqual(closed(unreadable, "chmod a+w out").returncode, 4)
         write(self.source, "2\n")
         self.refused(closed(), "can't be written", before="")
@@ -278,7 +278,7 @@ class Build(InFolder):
                 one.send_signal(number)
                 self.assertEqual((one.communicate(timeout=20)[0], one.returncode), ("", -number))
             wait_until(lambda: not processes_in(self.root), 30)  # the fake rt would wait for 45 seconds
-        self.ran(self.use(), 1, builds=5)
+        self.started(self.use(), 1, builds=5)
 
     def on_a_terminal(self, keys, shown, go=False, columns=80):
         """Runs `self.script` on a terminal with `columns` columns while the fake rt waits. When the bytes `shown` have

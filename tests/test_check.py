@@ -22,8 +22,8 @@ class Check(InFolder):
         self.environment = {name: text for name, text in os.environ.items() if name != "CI"}
 
     def prints(self, status, last, *texts, words=MAKE, **variables):
-        """Runs a command, by default MAKE, with `variables` in its environment. Asserts its status, the last line that
-        it prints, and that its output has all `texts`."""
+        """Runs a command, by default MAKE, with `variables` in its environment. Asserts that it ends with `status`,
+        that its last line of output is `last`, and that its output contains all `texts`."""
         ran = run(*words, env={**self.environment, **variables}, text=True)
         self.assertEqual((ran.returncode, ran.stdout.splitlines()[-1:]), (status, [last]), ran)
         for text in texts:

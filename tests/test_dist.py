@@ -61,8 +61,8 @@ def setUpModule():
 
 class Case(InFolder):
     def shows(self, readme, count, start):
-        """Asserts that a package's README has at most 400 words and `count` commands, and that these succeed. Those for
-        first.obf and masks.txt have to print the known results. The function `start` runs the words of a command."""
+        """Asserts that a package's README has at most 400 words, no placeholder, and `count` commands that succeed
+        (ffoscores: status 1) and print the known results for first.obf and masks.txt. `start` runs a command."""
         need("cc", "pkg-config", "man")
         text = readme.read_text()
         self.assertLessEqual(len(text.split()), 400)
@@ -129,8 +129,8 @@ class Packages(Case):
                     self.assertNotIn(os.fsencode(place), (UNPACKED / name).read_bytes())
 
     def test_files_that_texts_name_are_there(self):
-        """Texts in docs/ may also name tests, benchmarks and proofs, which only the checkout has, but not in their
-        commands."""
+        """Texts may also name files of their readers, in FOLDER/ or work/. Those in docs/ may name tests, benchmarks and
+        proofs, which only the checkout has, but not in commands that they show."""
         named = re.compile(r"(?<![\w/<}.-])((?:[\w-]+[\w.-]*/)+[\w-]+\.(?:md|py|rs|c|h|toml|txt|obf|antt|a|so))\b")
         files = files_below(UNPACKED)
         for path in [UNPACKED / name for name in files]:

@@ -89,8 +89,8 @@ class Names(unittest.TestCase):
             self.assertEqual([to for to in lost if not re.search(r"/out(/|$)|^share/doc/", to)], [], name)
 
     def test_qualified_names_are_declared(self):
-        """A name such as `Rules.flips` has to be declared in a specification Rules.antt, and one such as
-        `laws::books_are_one` in a source file that is called laws.rt, or that has an enum or an impl of `laws`."""
+        """In three documents, names like `Rules.flips` have to be declared in a specification Rules.antt, names like
+        `laws::one_meaning` in a file laws.rt, and like `Grid::plain_value` in a file with an enum or impl of `Grid`."""
         qualified = re.compile(r"`([A-Z]\w*(?=\.)|\w+(?=::))(\.(?!antt|md)|::)(\w+)`")
         sources = {path: path.read_text() for path in ROOT.glob("crates/*/src/**/*.rt")}
         for name in ("definitions.md", "guarantees.md", "architecture.md"):
@@ -102,7 +102,7 @@ class Names(unittest.TestCase):
                 self.assertTrue(any(declares.search(it.read_text()) for it in files), f"{name}: {owner}{mark}{word}")
 
     def test_other_names_of_definitions_occur_in_sources(self):
-        """These are the names in definitions.md without `.` or `::`, such as `AreRanked` and `lists_text`."""
+        """These are the names of definitions.md in CamelCase, as `AreRanked`, and those with `_`, as `lists_text`."""
         sources = [*ROOT.glob("crates/*/specs/*.antt"), *ROOT.glob("crates/*/src/**/*.rt")]
         words = set(re.findall(r"\w+", "\n".join(source.read_text() for source in sources)))
         named = re.findall(r"`([A-Z]\w*[a-z][A-Z]\w*|[a-z]+_\w+)`", TEXTS["docs/definitions.md"])

@@ -1,4 +1,4 @@
-"""make install and make uninstall in a built copy of the checkout, and the installed manual pages and completions."""
+"""make install, uninstall and library in a built copy of the checkout; make constants; manual pages, completions."""
 import ctypes
 import os
 import re
@@ -24,7 +24,7 @@ def setUpModule():
 
 
 def times(paths):
-    """Returns {path: modification time in nanoseconds} for files without *.sum, whose times any run of make may set."""
+    """Returns {path: modification time in nanoseconds} for all files except *.sum, which any run of make may touch."""
     return {path: path.lstat().st_mtime_ns for path in paths if not path.is_dir() and path.suffix != ".sum"}
 
 
@@ -46,7 +46,7 @@ class Case(InFolder):
         return ran
 
     def refused(self, ran, words):
-        """Asserts that make failed without output, and that the first of at most two lines of errors has `words`."""
+        """Asserts that make failed without output, and that the first of one or two error lines contains `words`."""
         self.assertEqual((ran.returncode, ran.stdout), (2, ""), ran)
         self.assertIn(words, ran.stderr.splitlines()[0])
         self.assertLessEqual(ran.stderr.count("\n"), 2, ran.stderr)
@@ -329,8 +329,8 @@ class Texts(Case):
         self.assertRegex(page.split('.SH "STATUS"')[1], r"with compare: a(.|\n)*REPORT does not belong to it")
 
     def offered(self, *words):
-        """Runs bash or fish with its script above and the words of a command, all in `words`. Returns a sorted list of
-        the completions that the script prints, without their descriptions."""
+        """Runs `words`: bash or fish, its options with the script above, and the words of a command. Returns a sorted
+        list of the completions that the script prints, without their descriptions."""
         need(words[0])
         ran = run(*words, cwd="examples", text=True)
         self.assertEqual((ran.returncode, ran.stderr), (0, ""))

@@ -23,7 +23,7 @@ def spent():
 
 
 def seconds(call):
-    """Makes a call three times, and returns the least processor time that one took, in seconds."""
+    """Calls `call` three times, and returns the least processor time of a call, in seconds."""
     return min(timeit.repeat(call, timer=spent, repeat=3, number=1))
 
 
