@@ -46,7 +46,7 @@ def stored(*path):
     return ROOT.joinpath(*path).read_bytes()
 
 
-def worked(name):
+def worked_rows(name):
     """Reads the table tests/rows/NAME.tsv. Returns the cells of its last column, each a line of a list as bytes, and
     {heading: cells} for the other columns, with `~` replaced by the first 66 bytes (board, side) of the row's line."""
     heads, *rows = stored("tests/rows", f"{name}.tsv").removesuffix(b"\n").split(b"\n")

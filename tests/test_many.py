@@ -8,7 +8,7 @@ from unittest import mock
 
 from tests import many
 from tests.many import ACTING, BOARD, Case, install, setUpModule
-from tests.support import NOBODY, ROOT, SECONDS, limited, positions, run, stored, worked, write
+from tests.support import NOBODY, ROOT, SECONDS, limited, positions, run, stored, worked_rows, write
 
 from ffosolve._many import books, engine, files, folder
 
@@ -65,7 +65,7 @@ class Results(Case):
 
     def test_lines_of_each_kind_and_none_at_all_are_solved(self):
         kinds, blank = stored("examples/kinds.obf"), b"\r\n \t\n\t % X\n% no end of the last line\n\r\r\n \r\n"
-        whole, best = kinds + blank + kinds.rstrip(b"\n"), b"\n".join(worked("ffosolve/best")[0])
+        whole, best = kinds + blank + kinds.rstrip(b"\n"), b"\n".join(worked_rows("ffosolve/best")[0])
         for text, lines, *words in (whole, 4), (whole, 1000), (b"", 4), (best, 4, "--complete"):
             self.write_list(text, *words)
             self.many("--lines", lines, *words, f"work {len(text)} {lines}", "list.obf", "--book-out", "joined.book")

@@ -4,7 +4,7 @@ import re
 import unittest
 
 from .prefix import PREFIX, setUpModule
-from .support import built, run, worked
+from .support import built, run, worked_rows
 import ffosolve
 from ffosolve._refusals import REFUSALS
 
@@ -47,7 +47,7 @@ def read_in_c(text):
 class OddLines(unittest.TestCase):
     @classmethod
     def setUpClass(cls):
-        chance, (cls.lines, cls.columns) = random.Random(5), worked("ffosolve/lines")
+        chance, (cls.lines, cls.columns) = random.Random(5), worked_rows("ffosolve/lines")
         cls.text = b"\n".join(odd_line(chance, cls.lines) for _ in range(10_000))
         cls.rows = read(cls.text)
 

@@ -6,10 +6,10 @@ import os
 import re
 from pathlib import Path
 
-from tests.support import MOST_BYTES, ROOT, SECONDS, InFolder, built, limited, run, stored, worked, write
+from tests.support import MOST_BYTES, ROOT, SECONDS, InFolder, built, limited, run, stored, worked_rows, write
 from ffosolve import MOST_ENTRIES
 
-LINES = worked("ffosolve/positions")[0]
+LINES = worked_rows("ffosolve/positions")[0]
 LIST = b"\n".join(LINES)
 PROGRAMS = {"ffosolve": 1, "ffoscores": 3}  # and the status of each if files are too many or too large
 NOTHING = b"[1]\nsolved 0 refused 0\n"
@@ -59,7 +59,7 @@ class Rows(InFolder):
             tables = [f"{name}/{path.stem}" for path in ROOT.glob(f"tests/rows/{name}/*.tsv")]
             self.assertTrue(tables)
             for table in tables:
-                lines, columns = worked(table)
+                lines, columns = worked_rows(table)
                 for words in columns.keys() - {"read"}:
                     wanted = (status, printed(columns[words]), b"")
                     for text in (b"\n".join(lines), whole_lines(lines)):
@@ -180,7 +180,7 @@ class Scores(InFolder):
         self.ends((1, SCORES, b""), "/dev/stdin", input=KINDS)
 
     def test_each_line_is_printed_as_one_line_that_ends_with_lf(self):
-        unlisted, columns = worked("ffoscores/unlisted")
+        unlisted, columns = worked_rows("ffoscores/unlisted")
         rows = [("", *row) for row in zip(KINDS.splitlines(), SCORES.splitlines(), strict=True)]
         rows += [(words, *row) for words, cells in columns.items() for row in zip(unlisted, cells)]
         for words, line, printed in rows:
@@ -195,7 +195,7 @@ class Scores(InFolder):
             self.ends((1, rows + SCORES + rows, b""), "--complete", *words.split(), *names)
 
     def test_ffoscores_does_not_change_its_own_output_and_ffosolve_agrees_with_it(self):
-        tables = [worked(f"ffoscores/{name}")[1]["--scoring winner"] for name in ("unlisted", "remarks")]
+        tables = [worked_rows(f"ffoscores/{name}")[1]["--scoring winner"] for name in ("unlisted", "remarks")]
         for text in (SCORES, *(whole_lines(cells).replace(b"\r\n", b"\n") for cells in tables)):
             self.ends((0, text, b""), input=text)
         rows = run(built(), input=SCORES, check=True).stdout.splitlines()[1:-1]
