@@ -1,4 +1,4 @@
-"""Helpers for the tests of ffosolve-many: they install it, run it, and compare its output and the files it leaves."""
+"""Helpers for the tests of ffosolve-many: they install it, run it, and check its output and the files it leaves."""
 import os
 import shutil
 import sys
@@ -37,9 +37,9 @@ sys.stdout.buffer.write(eval(spoil)(subprocess.run(command, stdout=subprocess.PI
 
 
 def install(name, *changes, script=None):
-    """Installs ffosolve-many in the new folder BASE/`name` and returns its path. Next to it are ffosolve and ffoscores
-    or, if `script` is given, this script under both names: in it, @real@ stands for the program's path, and @python@
-    for Python's. Each (module, old, new) of `changes` replaces the text `old` in a module of ffosolve-many."""
+    """Installs ffosolve-many in the new folder BASE/`name`; returns the path of the program. Next to this program are
+    ffosolve and ffoscores or, if `script` is given, this script under both names: in it, @real@ stands for the real
+    one's path, @python@ for Python's. Each (module, old, new) of `changes` replaces the text `old` in a module."""
     many = copy_many(BASE / name)
     for module, old, new in changes:
         path = many.parent.parent / f"python/src/ffosolve/_many/{module}.py"
@@ -53,8 +53,8 @@ def install(name, *changes, script=None):
 
 
 def setUpModule(python=sys.executable):
-    """Sets BASE to a new folder, MANY to the path of an ffosolve-many there, ACTS to one that runs the script ACTING
-    instead of the programs, and SMALL to a list of 60 positions, in lines of 68 bytes. `python` runs both."""
+    """Sets BASE to a new folder, MANY and ACTS to the paths of two copies of ffosolve-many in it, which `python` runs.
+    ACTS runs the script ACTING instead of ffosolve and ffoscores. Sets SMALL to 60 positions, in lines of 68 bytes."""
     global BASE, MANY, ACTS, SMALL
     BASE = module_folder()
     (BASE / "tmp").mkdir()
@@ -76,7 +76,7 @@ class Case(InFolder):
         self.write_list(SMALL)
 
     def write_list(self, text, *options):
-        """Writes `text` to list.obf, and runs ffosolve with `options`, which prints `self.one` and writes one.book."""
+        """Writes `text` to list.obf. Sets `self.one` to what ffosolve with `options` prints for it; writes one.book."""
         write("list.obf", text)
         ran = run(MANY.with_name("ffosolve"), "--book-out", "one.book", *options, "list.obf")
         self.assertEqual((ran.returncode, ran.stderr), (0, b""))
@@ -102,11 +102,11 @@ class Case(InFolder):
         self.assertEqual(Path(name).read_bytes(), Path("one.book").read_bytes())
 
     def files(self):
-        """Returns {path: (bytes, or False for a folder; mode)} for everything in the test's folder."""
+        """Returns {path: (content, mode)} for all below the test's folder. What is not a file has the content False."""
         return {path: (path.is_file() and path.read_bytes(), path.lstat().st_mode) for path in Path(".").rglob("*")}
 
     def refused(self, status, message, *words, **how):
-        """Calls `many`. Asserts that no file changes, and that the error is one line, with advice if `status` is 2."""
+        """Calls `many`. Asserts that no file changes, and that the error is one line: if `status` is 2, with advice."""
         before = self.files()
         (line,) = self.many(*words, status=status, message=message, **how).splitlines()
         advice = "(Try 'ffosolve-many --help'|use |name |merged)" if status == 2 else ""

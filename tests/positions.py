@@ -1,4 +1,4 @@
-"""Random positions for tests of the Python package. Sets the library that the package loads, if none is set."""
+"""Random positions of the Python package. Sets FFOSOLVE_LIBRARY, the path of its library, unless that is set."""
 import os
 import random
 
@@ -11,7 +11,7 @@ os.environ.setdefault("FFOSOLVE_LIBRARY", str(ROOT / "out/library/libffosolve.so
 
 
 def random_positions(count, empties):
-    """Returns a list of `count` Positions from random games; `empties` are their numbers of empty squares, in turn."""
+    """Returns a list of `count` Positions from random games. Their numbers of empty squares repeat `empties`."""
     rng, found = random.Random(1), []
     while len(found) < count:
         discs = 64 - empties[len(found) % len(empties)]

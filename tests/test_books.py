@@ -16,8 +16,8 @@ DENIED, IN_THE_WAY = "permission denied", "another file is in the way"
 
 
 def unwritten(cause, name="it.book", report=b""):
-    """Returns the (status, output, error) of a run that can't write the book `name`. The error has one line and, if
-    `cause` is not empty, a second one with it. The output is `report`, by default empty: nothing was solved."""
+    """Returns the (status, output, error) of a run that can't write the book `name`. Its error is a line that
+    names the book and, unless `cause` is empty, a line with this. Its output is `report`, by default empty."""
     return 3, report, "".join(f"ffosolve: {line}\n" for line in (f"cannot write {name}", cause) if line).encode()
 
 
@@ -28,24 +28,24 @@ def setUpModule():
 
 
 def content(path):
-    """Returns the bytes of a file or, for a symbolic link, the path in it."""
+    """Returns the bytes of a file or, for a symbolic link, the path to which the link points."""
     return os.readlink(path) if os.path.islink(path) else Path(path).read_bytes()
 
 
 class Books(InFolder):
     def solves(self, wanted, name="it.book", *words, **how):
-        """Runs ffosolve with `--book-out NAME` and the list TEXT; asserts that (status, output, error) is `wanted`."""
+        """Runs ffosolve --book-out NAME with `words` and input TEXT; asserts `wanted`, its (status, output, error)."""
         self.ends(wanted, PROGRAM, "--book-out", name, *words, input=TEXT, **how)
 
     def left(self, files):
-        """Asserts that the test's folder has only `files`, which is {name: content}, and removes them."""
+        """Asserts that the test's folder has exactly `files`, which is {name: content}, and removes these."""
         self.assertEqual({name: content(name) for name in os.listdir()}, files)
         for name in files:
             os.remove(name)
 
     def solves_over(self, old, wanted, place="it.book", mode=0o644, folder_mode=0o755, **how):
-        """Runs ffosolve with `--book-out it.book`, a file that holds `old` or, with another `place`, a link to it.
-        Asserts that it ends as `wanted`, and that the file has the new book if this is DONE, and otherwise `old`."""
+        """Makes it.book a file with the content `old` or, with another `place`, a link to such a file. Asserts that
+        ffosolve --book-out it.book ends as `wanted`, and the file has the new book if that is DONE, otherwise `old`."""
         write(place, old, mode)
         if place != "it.book":
             os.symlink(place, "it.book")
@@ -113,8 +113,8 @@ class Books(InFolder):
             self.left({"it.book": book, **dict.fromkeys(others, b"of another")})
 
     def changed_meanwhile(self, change, cause, files):
-        """Calls `change` while ffosolve prints its report. Asserts that it then can't write it.book, and reports
-        `cause`; and that the test's folder has only the list and `files`, which is {name: content}."""
+        """Calls `change` while ffosolve prints its report. Asserts that the program then can't write it.book,
+        reports `cause`, and leaves exactly the list and `files`, which is {name: content}, in the test's folder."""
         lines = TEXT * 2000  # their report is more than a pipe holds
         write("list", lines)
         os.chmod(".", 0o777)

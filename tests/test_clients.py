@@ -35,8 +35,8 @@ def shown(language, *names):
 
 class Examples(unittest.TestCase):
     def answers(self, *command, count=LARGE):
-        """Runs an example program three times and asserts what it prints: for the first `count` positions of masks.txt;
-        for two positions, the first with two best moves; and for two positions, the second of which is refused."""
+        """Runs an example program three times, and asserts what it prints for the first `count` lines of masks.txt, for
+        two positions of which the first has two best moves, and for two of which the second is refused."""
         masks, answers = (stored("examples", f"{name}.txt").decode().splitlines(True) for name in ("masks", "answers"))
         ran = PREFIX.run(*command, text="".join(masks[:count]))
         self.assertEqual((ran.returncode, ran.stdout), (0, "".join(answers[:count] + answers[LARGE:])), ran.stderr)
@@ -57,8 +57,8 @@ class Examples(unittest.TestCase):
                 self.answers(program, count=count)
 
     def test_examples_in_c_and_cxx_are_built_by_cmake(self):
-        """The CMake code of docs/library.md links the static library, and CMAKE also the shared one. If that code asks
-        for a newer version of ffosolve than the installed one, CMake fails."""
+        """The CMake code of docs/library.md links a program with the static library; the text CMAKE around it links two
+        with the shared one. If the code asks for a newer version than the installed one, the command cmake fails."""
         need("cmake")
         (first, second, _), (block, _) = VERSION.split("."), shown("cmake")
         for name in ("answers.c", "answers.cpp"):
@@ -86,7 +86,7 @@ class Examples(unittest.TestCase):
         self.answers(PREFIX.work / "target/debug/answers")
 
     def command(self, language, block):
-        """Returns the words of a command that runs a block of code, after building it unless it is in Python."""
+        """Builds a block of code, unless it is in Python; returns the words of a command that runs the block."""
         if language == "python":
             return PREFIX.site and sys.executable, "-c", block
         if language == "rust":
@@ -132,8 +132,8 @@ class PythonPackage(unittest.TestCase):
             self.assertTrue(is_refused if why else ran.returncode == 0, ran)
 
     def built(self, source, *kinds):
-        """Builds an archive of each kind, such as "sdist", with the build backend in the folder `source`, which has the
-        package for Python. Returns the paths of the archives."""
+        """Builds archives of the package for Python in the folder `source`, one of each kind, such as "sdist", with the
+        build backend in that folder. Returns their paths."""
         hooks = "import sys, ffosolve_wheel as made\n"
         hooks += "for kind in sys.argv[2:]: print(getattr(made, f'build_{kind}')(sys.argv[1]))"
         names = PREFIX.make(sys.executable, "-Bc", hooks, PREFIX.work, *kinds, cwd=source / "backend").stdout.split()

@@ -1,4 +1,4 @@
-"""Command lines of ffosolve and ffoscores: --help, its limits, --version, wrong command lines, and --progress."""
+"""Command lines of ffosolve and ffoscores: --help and the limits it names, --version, refused words, and --progress."""
 import re
 
 from tests.support import ROOT, SECONDS, InFolder, built, positions, run, stored, write

@@ -112,7 +112,7 @@ class Header(unittest.TestCase):
                 self.assertEqual(len(re.findall(r"\[-Werror[=,](?:-W)?unused-result\]", errors)), len(names), errors)
 
     def test_a_status_has_one_name_number_and_text_in_each_language(self):
-        """The program STATUSES_IN_RUST is linked with a library whose functions return 1, then 2, 3 and so on."""
+        """STATUSES_IN_RUST calls a library whose functions each return 1 at their first call, then 2, 3 and so on."""
         listed = re.findall(r"FFOSOLVE_(\w+) = (\d+)", PREFIX.text.split("enum ffosolve_status {")[1].split("}")[0])
         self.assertEqual(listed, [(it.name, str(it.value)) for it in ffosolve.Status])
         source = "".join(f"int {name}(void) {{ static int status; return ++status; }}\n" for name in PREFIX.calls)
@@ -144,7 +144,7 @@ class Calls(unittest.TestCase):
                 self.wanted += wanted.format_map(NAMES) + "\n"
 
     def printed(self, compiler, header, folder):
-        """Compiles library_nulls.c and library_calls.c in `folder` with `header`; returns a pair of what they print."""
+        """Compiles library_nulls.c and library_calls.c with `header` into `folder`; returns the outputs of both."""
         words = ("-I", header.parent, "-x", "none", PREFIX.archive)
         nulls, calls = (PREFIX.compile(compiler, folder / name, [TESTS / f"library_{name}.c"], *words)
                         for name in ("nulls", "calls"))
@@ -191,8 +191,8 @@ class Calls(unittest.TestCase):
         self.assertEqual(printed, ["7"] * 6 + ["0 62/0/80"])
 
     def test_the_stack_that_the_header_names_is_enough(self):
-        """Calls for 14 empty squares return on a stack of 32 KiB. On one of 128 KiB, a game's first position is still
-        being solved after two seconds."""
+        """Calls for 14 empty squares return on a stack of 32 KiB. On a stack of 128 KiB, the first position of a game
+        is still being solved after two seconds."""
         self.assertTrue("32 KiB are enough for 14 empty squares and 128 KiB for 60" in re.sub(r"\s+", " ", PREFIX.text))
         calls = "solve {} {} 0 1024", "confirm {} {} 1 0 0 0 1", "move_scores {} {} 2 1024", "solve_all 0 1024 1 {} {}"
         calls = [call.format(*position) for position in random_positions(20, [14]) for call in calls]

@@ -1,4 +1,4 @@
-"""bin/ffosolve-many prints what one run of ffosolve does. Also tests of its command line, merged books and progress."""
+"""ffosolve-many prints what one run of ffosolve or ffoscores prints; its command line, merged books and progress."""
 import os
 import re
 import sys
@@ -327,7 +327,7 @@ class Progress(unittest.TestCase):
         self.enterContext(mock.patch("time.monotonic", lambda: self.now))
 
     def progress(self, texts, lines=1):
-        """Returns the engine.Progress of a run. `texts` are its parts; each of these counts as `lines` lines."""
+        """Returns the engine.Progress (the work left) of a run of the parts `texts`, each counted as `lines` lines."""
         a_run = folder.Run.__new__(folder.Run)
         a_run.lines, a_run.all_lines, a_run.parts, a_run.text = lines, len(texts) * lines, len(texts), texts.__getitem__
         return engine.Progress(a_run, range(len(texts)), 20)

@@ -1,4 +1,4 @@
-"""bin/ffosolve-many on a Dask cluster of this machine prints what one run of ffosolve does, or says why it can't."""
+"""ffosolve-many on a Dask cluster of this machine prints what one run of ffosolve or ffoscores does, or an error."""
 import os
 import random
 import shutil
@@ -29,7 +29,7 @@ def setUpModule():
 
 class Interfaces(unittest.TestCase):
     def test_the_calls_of_later_versions_of_dask_are_used(self):
-        """Dask is a mock. Of its cluster's workers, h1 is ready and h2 is not. At last, none can take part 0."""
+        """Dask is a mock. Of its cluster's workers, h1 is ready and h2 is not. Finally, neither can solve part 0."""
         dask, workers = mock.Mock(WorkerPlugin=object), {"h1": (None, 2, "h1", 2, []), "h2": (None, None, "h2", 7, [])}
         client, pool = dask.Client.return_value, dask.Client.return_value.get_executor.return_value
         client.status = "running"
@@ -59,8 +59,8 @@ class Cluster(Case):
         self.start_scheduler()
 
     def daemon(self, name, *command, **places):
-        """Starts a command with `places` added to its environment. It logs to NAME.log and ends with the test. If it is
-        a scheduler, it removes workers that are silent for 5 seconds."""
+        """Starts a command of Dask, with `places` added to its environment, and returns its process, which logs to
+        NAME.log and ends with the test. A scheduler is told to remove workers that are silent for 5 seconds."""
         settings = {"DASK_DISTRIBUTED__SCHEDULER__WORKER_TTL": "5s", "DASK_DISTRIBUTED__COMM__TIMEOUTS__CONNECT": "3s"}
         with open(f"{name}.log", "wb") as log:
             ran = self.start(*command, "--no-dashboard", stdout=log, stderr=log, start_new_session=True,
@@ -76,7 +76,7 @@ class Cluster(Case):
         self.port = Path("scheduler.json").read_text().partition("tcp://127.0.0.1:")[2].partition('"')[0]
 
     def start_workers(self, *names, **places):
-        """Starts workers with one thread, and waits until they are registered. Workers that end are started again."""
+        """Starts workers, each with one thread, and waits until they are registered. One that ends is started again."""
         command = ("sh", "-c", 'while :; do "$@"; sleep 0.1; done', "sh", PYTHON, "-m")
         for name in names:
             words = (f"127.0.0.1:{self.port}", "--nthreads=1", f"--local-directory=workers/{name}")
@@ -93,8 +93,8 @@ class Cluster(Case):
             return self.start(HASTY, "--scheduler=scheduler.json", *self.WORDS, stderr=log, preexec_fn=as_at_a_login)
 
     def ended(self, ran):
-        """Waits until the run that `begin` started ends. Asserts that its report and its book are those of one run of
-        ffosolve, and that the programs on all workers end. Returns its messages."""
+        """Waits for the end of a run that `begin` started. Asserts that its report and its book are those of one run of
+        ffosolve, and that the programs on all workers end. Returns the run's messages."""
         output, _ = ran.communicate(timeout=2 * SECONDS)
         self.assertEqual((ran.returncode, output), (0, self.one), self.messages())
         self.same_book()
@@ -105,7 +105,7 @@ class Cluster(Case):
         return Path("messages").read_text()
 
     def programs(self, worker=""):
-        """Returns {number: command line} of the processes that solve parts on a worker or, by default, on all."""
+        """Returns {process ID: command line} of the programs that solve parts on one worker or, by default, on all."""
         return processes_in(self.folder / "workers" / worker)
 
     def test_report_book_and_scores_are_those_of_one_run(self):

@@ -1,4 +1,4 @@
-"""bin/ffosolve-many continues after any interruption, and uses only complete results."""
+"""ffosolve-many cuts a list into parts, goes on after any interruption, and uses only complete results of a part."""
 import json
 import os
 import random
@@ -17,7 +17,7 @@ from ffosolve._many import command, folder, solve
 
 
 class Functions(InFolder):
-    """Functions of ffosolve-many that are called by themselves, since a run does not show what these tests assert."""
+    """Calls single functions of ffosolve-many, since a run of the program does not show what these tests assert."""
 
     def test_signals_after_the_first_are_ignored(self):
         with mock.patch.object(signal, "signal") as handled, self.assertRaises(KeyboardInterrupt):
@@ -72,7 +72,7 @@ class Resuming(Case):
         report, book = results[:int(size)], results[int(size):]
 
         def record(report=report, book=book, part=1, status=0, complete=None):
-            """Returns a record (the content of a file in work/results) with a right digest, by default part 1's."""
+            """Returns the content of a part's file in work/results, by default part 1's, with the right checksum."""
             asked = {"options": {**task["options"], "--complete": complete}}
             head = b"%d %d %d %b" % (status, len(report), len(book), seconds)
             return b"%b %b\n%b%b" % (head, solve.digest_of(asked, part, head, text, report + book), report, book)
@@ -249,7 +249,7 @@ class Signals(Case):
     WORDS = ("--jobs=2", "--lines=5", *Case.WORDS[1:])
 
     def open(self, *program, last=99):
-        """Starts a command in a session of its own. In many.ACTS, parts that begin once `last` are solved take 45 s."""
+        """Starts `program` with WORDS in a new session. With many.ACTS, each part takes 45 s once `last` are solved."""
         places = {**os.environ, "PAUSE": "0.15", "LAST": str(last)}
         return self.start(*program, *self.WORDS, start_new_session=True, preexec_fn=as_at_a_login, env=places)
 

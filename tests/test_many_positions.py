@@ -16,7 +16,7 @@ REFUSED = ((SHARED, ffosolve.SharedSquare), (WIDE, ffosolve.TooManyEmpties))
 
 
 def meeting(library, count):
-    """Returns a mock of a library. Its calls for many positions wait until `count` have begun, and are then made."""
+    """Returns a mock that passes calls to `library`, those for many positions only once `count` of these have begun."""
     at_once, mocked = threading.Barrier(count), mock.Mock(wraps=library)
 
     def wait(*words):

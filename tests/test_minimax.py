@@ -1,5 +1,5 @@
-"""The Python package and ffoscores find what plain minimax finds in random positions: POSITIONS with at most MOST empty
-squares (the environment may set both), and DEEP with 7 or 8."""
+"""The Python package and ffoscores find what plain minimax finds in random positions. POSITIONS is the number of those
+with at most MOST empty squares (the environment may set both); DEEP is the number of those with 7 or 8."""
 import itertools
 import os
 from concurrent.futures import ProcessPoolExecutor, ThreadPoolExecutor
@@ -14,8 +14,8 @@ POSITIONS, MOST, DEEP = int(os.environ.get("POSITIONS", 2000)), int(os.environ.g
 
 
 def solved(position):
-    """Solves a position by plain minimax. Returns a list with (position, its Answer, [(name of a move, its score), ..])
-    for each scoring."""
+    """Solves a position by plain minimax. Returns a list with an item for each Scoring, in order:
+    (position, its Answer, [(name of a move, its score), ..])."""
     own, opp = position
     children = [(square, player.values(*player.after(own, opp, square)))
                 for square in player.squares_in(player.moves(own, opp))]
@@ -36,8 +36,8 @@ class RandomPositions(InFolder):
             cls.rows = list(zip(Scoring, zip(*pool.map(solved, positions, chunksize=20))))
 
     def compare(self, scoring, row, number):
-        """Asserts that each method of Solver for a single position finds what `row`, an item of `solved`, says.
-        `number` chooses the size of the table, and whether `confirm` gets a right or a wrong claim."""
+        """Asserts that a Solver's methods for one position find what `row`, an item of `solved`, says; of `play`, only
+        that it refuses what is no move. `number` chooses the table's size, and a right or wrong claim for `confirm`."""
         position, wanted, scores = row
         legal, solver = player.moves(*position), Solver(scoring=scoring, entries=(0, 1, 64, 1024)[number % 4])
         claims = wanted, wanted._replace(score=wanted.score + number % 5), wanted._replace(best=wanted.best ^ number)

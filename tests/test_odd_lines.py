@@ -1,4 +1,4 @@
-"""Python, C and ffosolve read the same from OBF lines: those of tests/rows, and lines with random faults."""
+"""Python, C and ffosolve read OBF lines with random faults alike; Python and C also tests/rows/ffosolve/lines.tsv."""
 import random
 import re
 import unittest
@@ -21,8 +21,8 @@ def odd_line(chance, lines):
 
 
 def read(source, reader=ffosolve.parse_lines):
-    """Reads a text, or lines if `reader` takes these, in Python. Returns {line number: row} without the lines that are
-    skipped. A row is `OWN OPP SIDE MOVE:SCORE ..`, with masks of 16 hex digits, or `refused: ` and the reason."""
+    """Reads a text, or lines if `reader` takes these, in Python. Returns {line number: row} without blank lines and
+    comments. A row is `OWN OPP SIDE MOVE:SCORE ..`, with masks of 16 hex digits, or `refused: ` and the reason."""
     refused = []
     rows = {line.number: f"{line.own:016x} {line.opp:016x} {line.side}" + "".join(" %s:%s" % it for it in line.listed)
             for line in reader(source, refused=refused.append)}

@@ -35,7 +35,7 @@ def outcome(*words, **how):
 
 def outcomes(*words, **how):
     """Runs a program again and again; in run n, the nth request for memory is refused. Returns a list of what `outcome`
-    returns for each run, up to the first run without a refused request."""
+    returns for each run. The last run is the first one without a refused request."""
     found, is_refused = [], True
     while is_refused:
         *ran, files = outcome(*words, env=preload(Path.cwd(), REFUSED=str(len(found) + 1)), **how)
@@ -75,8 +75,8 @@ class Programs(InFolder):
 class Crates(InFolder):
     @classmethod
     def setUpClass(cls):
-        """Builds CRATE_TESTS if it is missing or older than a source of the crates. `rt test` first proves the crates,
-        which takes minutes unless `rt ci` or `rt test` has done so."""
+        """Builds CRATE_TESTS by `rt test` if it is missing or older than a source of the crates. `rt test` proves the
+        crates first, which takes minutes unless they were proved before, by it or by `rt ci`."""
         newest = max(path.stat().st_mtime for path in ROOT.glob("crates/*/src/**/*.rt"))
         if not CRATE_TESTS.exists() or CRATE_TESTS.stat().st_mtime < newest:
             need("rt")

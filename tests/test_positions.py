@@ -1,4 +1,4 @@
-"""Position in Python: its rules, which are those of bench/player.py, and its boards as text and as pictures."""
+"""Position in Python: its rules (those of bench/player.py), its boards as text and pictures; a Solver's max_empties."""
 import functools
 import io
 import itertools

@@ -56,8 +56,8 @@ class Files(InFolder):
 
 class Lines(InFolder):
     def same(self, *lists, **how):
-        """Asserts that ffoscores prints for these lists, with each number of WORKERS and the keyword arguments `how` of
-        `run`, what it prints without workers and `how`, and ends with status 1 if a line is refused, otherwise 0."""
+        """Runs ffoscores on `lists` without workers, then with each number of WORKERS and with `how` given to `run`.
+        Asserts that all print the same, and that the latter end with status 1 if a line is refused, otherwise 0."""
         names = [write(f"{number}.obf", text) for number, text in enumerate(lists)]
         words = built("ffoscores"), *names, "--workers"
         printed = run(*words, 0).stdout
