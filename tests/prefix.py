@@ -58,9 +58,9 @@ def path_without(tool, folder):
 
 
 class Prefix:
-    """The installed files, and the folder `work`, in which tests build programs that use them. Each test module calls
-    `install` once. This makes `work`, installs under a prefix in `work` if TEST_PREFIX is not set, and copies the
-    installed documents, which include the packages for Python and Rust, into `work`."""
+    """The installed files, and the folder `work`, in which tests build programs that use them. A test module that
+    imports `setUpModule` calls `install` once: this makes `work`, installs under a prefix in `work` if TEST_PREFIX is
+    not set, and copies the installed documents, which include the packages for Python and Rust, into `work`."""
 
     def install(self):
         vars(self).clear()

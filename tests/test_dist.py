@@ -129,7 +129,7 @@ class Packages(Case):
                     self.assertNotIn(os.fsencode(place), (UNPACKED / name).read_bytes())
 
     def test_files_that_texts_name_are_there(self):
-        """Texts may also name files of readers, in FOLDER/ or work/. Those in docs/ may name tests, benchmarks and
+        """Texts may also name a reader's files in FOLDER/ or work/. Texts in docs/ may name tests, benchmarks and
         proofs, which only the checkout has, but not in commands that they show."""
         named = re.compile(r"(?<![\w/<}.-])((?:[\w-]+[\w.-]*/)+[\w-]+\.(?:md|py|rs|c|h|toml|txt|obf|antt|a|so))\b")
         files = files_below(UNPACKED)
