@@ -28,8 +28,8 @@ def lines_of(path):
 
 
 def entries_of(lines, name):
-    """Yields (masks, (name, line number), line as ffosolve writes it) for each entry of a book. `masks` has X's and O's
-    squares as numbers, by which the entries of a book rise. Raises ValueError for a wrong line."""
+    """Yields (masks, (name, line number), text) for each entry. `masks`, by which a book is sorted, are X's and O's
+    squares as numbers; `text` is as ffosolve writes it. Raises ValueError if a line is malformed or lists no move."""
     for number, text in enumerate(lines, 1):
         if not ENTRY.fullmatch(text):
             try:
@@ -44,8 +44,8 @@ def entries_of(lines, name):
 
 
 def merged(names, books):
-    """Yields the lines of a book with all entries of `books`, which are iterables of lines; messages call them `names`.
-    Refuses different scorings, and entries that disagree. Raises ValueError if a book is found to be wrong."""
+    """Yields the lines of one book with all entries of `books`, each an iterable of lines; `names` has their names for
+    messages. Refuses different scorings, and entries that disagree. Raises ValueError if it finds a book wrong."""
     books = list(map(iter, books))
     firsts = [next(book, b"") for book in books]
     scorings = [first.decode("latin-1").removeprefix("% ffobook 2 ").rstrip() if first.startswith(b"% ffobook ")
@@ -67,7 +67,7 @@ def merged(names, books):
 
 
 def book_of(run, folder):
-    """Yields the lines of the book of a run. Merges the books of the parts in batches, each to a file in `folder`."""
+    """Yields the lines of a run's book. Merges the parts' books, BATCH at a time, to files in `folder`, then these."""
     paths, books = [], (io.BytesIO(book) for _, _, book, _ in run.solved())
     while batch := list(itertools.islice(books, BATCH)):
         paths.append(Path(folder, f"{len(paths)}.book"))

@@ -24,8 +24,8 @@ MOST_FAILS = 3  # parts failed in a row, after which a worker is left out
 
 
 class Plugin(distributed.WorkerPlugin):
-    """Copies the program of a run to each worker, also to one that joins later. If the program works there, the worker
-    gets the resource `name`, which each part needs; otherwise the worker's metric `name` says why."""
+    """Copies a run's programs and --book-in to each worker, also to one that joins later. If a program works there, the
+    worker gets Dask's resource `name`, which each part needs; otherwise Dask's metric `name` says what is wrong."""
 
     def __init__(self, name, task, files):
         self.name, self.task, self.files = name, task, files
@@ -47,8 +47,8 @@ class Plugin(distributed.WorkerPlugin):
         return fit_program(self.task, self.folder)[0]
 
     def solve(self, number, text):
-        """Returns the worker's address, and the two values of `solve.solve` for a part. Kills the program once Dask has
-        taken the part from this worker, or `teardown` has removed the program's file."""
+        """Runs on the worker. Returns its address, then the two values of `solve.solve` for a part. Kills the program
+        once Dask has taken the part from this worker, or `teardown` has removed the program's file."""
         key = self.worker.get_current_task()
 
         def is_wanted():
@@ -62,9 +62,9 @@ class Plugin(distributed.WorkerPlugin):
 
 
 def look_at(name, left_out, dask_scheduler):
-    """Runs on the scheduler. Takes the resource `name` from the workers `left_out`. Returns whether the scheduler has
-    the plugin `name`; {worker's address: (metric `name` or None, resource `name` or None, host, number of threads,
-    parts sent to the worker)}; and the parts that no worker can take."""
+    """Runs on the scheduler. Sets the resource `name` of the workers `left_out` to 0. Returns three values: whether the
+    scheduler has the plugin `name`; {worker's address: (metric `name` or None, resource `name` or None, host, number of
+    threads, parts sent there)}; and the parts that no worker can take."""
     def parts_of(tasks):
         keys = sorted(task.key for task in tasks if str(task.key).startswith(name))
         return [int(key.rpartition("-")[2]) for key in keys]
@@ -76,7 +76,7 @@ def look_at(name, left_out, dask_scheduler):
 
 
 class Cluster:
-    """An engine, with the same methods as `engine.Threads`: the workers of a Dask cluster."""
+    """An engine, used in the same way as `engine.Threads`: the workers of a Dask cluster."""
 
     tries = 3  # after which a part has failed
     room = 0  # how many parts may be submitted but unfinished at a time
@@ -100,7 +100,7 @@ class Cluster:
         self.pool = self.client.get_executor(pure=False, resources={self.name: 1})
 
     def submit(self, number, failed):
-        """Submits a part, if possible to a worker that is not in `failed`; returns a future for `result`."""
+        """Submits a part, if possible to a worker whose address is not in `failed`; returns a future for `result`."""
         name, key = self.name, f"{self.name}-{time.monotonic_ns():020d}-{number}"
         others = [address for address in self.ready if address not in failed] if failed else []
         return self.pool.submit(lambda *words: distributed.get_worker().plugins[name].solve(*words), number,
@@ -123,8 +123,8 @@ class Cluster:
         self.ready.pop(machine, None)
 
     def look(self, flying):
-        """Notes which workers are ready, and leaves out those on which the program fails. Returns {part: host} of the
-        parts being solved, or {} if the scheduler does not answer; after LOST_SECONDS without an answer, refuses."""
+        """Notes ready workers, leaves out those where no program works, and cancels parts that none can take. Returns
+        {part: host} of parts being solved. If the scheduler is silent, returns {}; after LOST_SECONDS, ends the run."""
         running, self.ready, self.room = {}, {}, 0
         try:
             if self.client.status != "running":

@@ -1,4 +1,4 @@
-"""The command line of ffosolve-many: its options, and what it does."""
+"""Runs ffosolve-many: reads its command line, solves the list, and prints the results."""
 import argparse
 import contextlib
 import os
@@ -69,7 +69,7 @@ OPTIONS = {
 
 
 class Once(argparse.Action):
-    """Stores the only value of an option: UTF-8 and not empty or, if `const` is set, an int from 1 to `const`."""
+    """An option that may be given once. Its value is UTF-8, not empty; if `const` is set, an int from 1 to `const`."""
 
     def __call__(self, parser, namespace, value, option_string=None):
         if getattr(namespace, self.dest) is not None:
@@ -83,7 +83,7 @@ class Once(argparse.Action):
 
 def parse(words):
     """Returns a namespace with the options of a command line and, as `words`, its other arguments. With --help, the
-    namespace's `help` is the text to print, and `words` is not set. Refuses wrong options."""
+    namespace's `help` is the text to print, and `words` is not set. Refuses wrong options, and an empty word."""
     parser = argparse.ArgumentParser(NAME, USAGE, WHAT, MORE, allow_abbrev=False, add_help=False, exit_on_error=False,
                                      formatter_class=argparse.RawDescriptionHelpFormatter)
     for title, options in OPTIONS.items():
@@ -117,7 +117,7 @@ def parse(words):
 
 
 def begin(command, programs):
-    """Checks the words, options and files of a command, and begins or continues its run. Returns the run."""
+    """Checks a command from `parse`, adds its list, folder and defaults, and returns its Run, begun or continued."""
     if not command.words:
         raise misused("no list is named; for standard input use `-`, with a FOLDER before it")
     if len(command.words) > 2:
@@ -145,7 +145,7 @@ def begin(command, programs):
 
 
 def solve_list(command, programs):
-    """Solves a command's list and prints the results, or with --cut only cuts it into parts; returns the status."""
+    """Solves a command's list, prints results, writes a book; with --cut only cuts the list. Returns the status."""
     if command.scheduler:
         from .cluster import Cluster  # refuses if its package is missing
     run = begin(command, programs)
@@ -174,7 +174,7 @@ def solve_list(command, programs):
 
 
 def catch(number, _):
-    """Handles a signal: raises KeyboardInterrupt with its number, and makes later signals do nothing."""
+    """Handles a signal: makes later signals do nothing, and raises KeyboardInterrupt with the number of this one."""
     for other in SIGNALS:
         signal.signal(other, lambda *_: None)  # if they were set to SIG_IGN, Python could print an error
     raise KeyboardInterrupt(number)
@@ -182,7 +182,7 @@ def catch(number, _):
 
 def main(programs, words):
     """Runs ffosolve-many with the arguments `words`, and ends this process with the status, or by the signal that
-    interrupted it. `programs` is the folder with ffosolve and ffoscores."""
+    interrupted it (SIGPIPE if the output is no longer read). `programs` is the folder with ffosolve and ffoscores."""
     sys.stderr = sys.stderr or open(os.devnull, "w")
     while os.open(os.devnull, os.O_RDWR) < 3:
         pass  # so that no file that is opened later takes the place of a closed stream

@@ -17,7 +17,7 @@ GROWTH = 2.5  # factor of the work for each further empty square
 
 
 def weight_of(text, most):
-    """Returns the expected work for the lines `text`. Full boards, and boards with over `most` empties, count 1."""
+    """Returns the expected work for the lines `text`. A full board counts 1, as does one with over `most` empties."""
     fronts = [line.lstrip()[:64] for line in asked_lines(text).values()]
     empties = [front.count(b"-") + front.count(b".") for front in fronts]
     return sum(GROWTH ** count if count <= most else 1 for count in empties)
@@ -29,7 +29,7 @@ def span_of(seconds):
 
 
 class Progress:
-    """The work that is left, the seconds that solved parts took, and {(part, machine): start} of parts being solved."""
+    """What is left (parts, lines, work), work done and its seconds, {(part, machine): start} of parts being solved."""
 
     def __init__(self, run, parts, most):
         self.run, self.weights, self.running = run, array.array("d", bytes(8 * run.parts)), {}
@@ -59,7 +59,7 @@ class Progress:
         return max(rests + [(waiting * rate + sum(rests)) / max(1, len(rests))])
 
     def text(self):
-        """Returns the line that is shown. It names the part that has run longest, if that is LONG_SECONDS or more."""
+        """Returns the line to show, with the part that has run longest if it has run for LONG_SECONDS or more."""
         run, machines, now = self.run, len({machine for _, machine in self.running}), time.monotonic()
         left = self.left() if machines else None
         text = f"{100 * (run.all_lines - self.lines) // max(1, run.all_lines)}%, "
@@ -87,7 +87,7 @@ class Threads:
         self.room = 2 * most  # how many parts may be submitted but unfinished at a time
 
     def submit(self, number, failed):
-        """Submits a part; returns a future for `result`. `failed` has the machines on which the part failed before."""
+        """Submits a part; returns a future for `result`. `failed`, unused here, has machines where the part failed."""
         return self.pool.submit(self.solve, number)
 
     def solve(self, number):
@@ -95,7 +95,7 @@ class Threads:
         return HERE, record and self.run.keep(number, record), why
 
     def result(self, future, number):
-        """Returns (the part's machine, the seconds that it took or None if it failed, why it failed or "")."""
+        """Returns (the machine, the seconds that the part took or None if it failed, the program's error or "")."""
         return future.result()
 
     def look(self, flying):
@@ -107,7 +107,7 @@ class Threads:
 
 
 def solve_parts(run, engine, quiet):
-    """Solves the unsolved parts of a run on an engine. Those that fail stay unsolved."""
+    """Solves a run's unsolved parts, except those that fail `engine.tries` times. Shows the progress unless `quiet`."""
     waiting, flying, failures, done = run.unsolved(), {}, {}, queue.SimpleQueue()
     progress = Progress(run, waiting, int(run.options["--max-empties"]))
     waiting.reverse()  # since the next part is taken from its end

@@ -20,7 +20,7 @@ LIMITS = {"ffosolve": rb"\[1\]\n1 refused: 64 empties, limit (\d+)\nsolved 0 ref
 
 
 class Refusal(Exception):
-    """Ends the command. The arguments are its exit status, and the message that `say` prints."""
+    """Ends the command ("refuses" means: raises this). The arguments: the exit status, and the message for `say`."""
 
 
 def misused(text):
@@ -50,7 +50,7 @@ def say(text):
 
 
 def show(text):
-    """Shows a line on a terminal in place of the line shown before. Cuts a line that is too long at a comma."""
+    """Shows a line if standard error is a terminal, in place of the one before. If too long, it is cut at a comma."""
     with contextlib.suppress(OSError):
         columns = os.get_terminal_size(sys.stderr.fileno()).columns or 80
         line = f"{NAME}: {text}" if text else ""
@@ -104,7 +104,7 @@ def print_all(pieces):
 
 
 class Program:
-    """ffosolve or ffoscores. `start` is its path or, in a checkout, that of a script that runs it, built if needed."""
+    """ffosolve or ffoscores. `start`, in bin, is the program or a script that runs it, and in a checkout builds it."""
 
     def __init__(self, folder, name):
         self.start = Path(folder, name)
@@ -112,7 +112,7 @@ class Program:
             raise Refusal(UNBUILT, f"{name} is missing: it has to be next to {NAME}, in {folder}")
 
     def files(self):
-        """Returns the program's files, from the highest processor level down; if there are none, only `start`."""
+        """Returns the program's files, one for each level of x86-64, highest first; if there are none, only `start`."""
         root, files = self.start.parent.parent, f"x86-64-v?/{self.start.name}"
         found = [*root.glob(f"out/{files}"), *root.glob(f"libexec/ffosolve/{files}")]
         return sorted(found, reverse=True) or [self.start]
@@ -132,7 +132,7 @@ class Program:
                 raise Refusal(status if status > 0 else UNBUILT, f"{name}: {errors}")
 
     def check_book_out(self, name, source, *options):
-        """Refuses the file of --book-out if it is the list `source` or a standard stream, or if ffosolve refuses it."""
+        """Refuses a --book-out that is the list `source`, standard output or error, or that ffosolve refuses."""
         for other, what in ((1, "standard output, where the report goes"), (2, "standard error"), (source, "the list")):
             if is_same(name, other):
                 raise misused(f"--book-out {shown(name)} is {what}: name another file")
@@ -143,7 +143,7 @@ class Program:
 
     def check_options(self, options):
         """Returns, as text, how many empty squares a position may have. If the program refuses the options or their
-        book, it prints why, and this process ends with its status."""
+        book, it prints why, and this process ends with its status. Refuses a missing setpriv, and a wrong program."""
         if not shutil.which("setpriv"):
             raise Refusal(UNBUILT, "setpriv is not on the path: apt-get install util-linux")
         ran = subprocess.run(guarded([self.start, *options, "/dev/stdin"]), input=NO_DISCS, stdout=subprocess.PIPE)
@@ -155,7 +155,7 @@ class Program:
 
 
 def run_options(command, book_in):
-    """Returns the options with which a command runs ffosolve or ffoscores. `book_in` is the book to read, or None."""
+    """Returns a command's options for ffosolve or ffoscores, but --book-out. `book_in` is a book's path, or None."""
     # The parts keep all processors busy, so none of them needs more than one thread.
     options = {"max-empties": command.max_empties, "scoring": command.scoring, "workers": command.workers or 0,
                "table": command.table, "book-in": book_in}

@@ -1,4 +1,4 @@
-"""The folder of a run: a copy of the list, the options, the programs, and the results of the parts."""
+"""The folder of a run: copies of the list, programs and book, task.json with the options, and results of the parts."""
 import array
 import contextlib
 import fcntl
@@ -92,7 +92,7 @@ def lock_folder(folder):
 
 
 def begun(folder, options):
-    """Returns what a folder's task.json has, or {} if it can't be read. Refuses options other than those in it."""
+    """Returns what task.json in `folder` has, or {} if it can't be read. Refuses options other than those in it."""
     try:
         task = json.loads((folder / "task.json").read_bytes())
         before = {**task["options"]}
@@ -107,7 +107,7 @@ def begun(folder, options):
 
 
 def check_list(kept, source, command):
-    """Refuses a list that differs from `kept`, the copy in the folder, unless it has only grown at its end."""
+    """Refuses a list that differs from its earlier copy `kept`, if any, unless it has only grown at its end."""
     with source.open("rb") as new, open(kept if kept.is_file() else os.devnull, "rb") as old:
         for line, (before, now) in enumerate(itertools.zip_longest(old, new, fillvalue=b""), 1):
             if not now.startswith(before):
@@ -117,12 +117,12 @@ def check_list(kept, source, command):
 
 
 def programs_in(folder):
-    """Returns the SHA-256, in hexadecimal, of each program that a folder has for its parts."""
+    """Returns the SHA-256, in hexadecimal, of each program in the folder of a run."""
     return [hashlib.sha256(path.read_bytes()).hexdigest() for path in sorted(folder.glob("program-?"))]
 
 
 class Run:
-    """A list that is solved in a folder, in parts numbered from 0. Its folder `results` has their records."""
+    """A list solved in a folder, in parts from 0 on. `results` there has a record of each solved part: see `solve`."""
 
     def __init__(self, command, source, program, book_in):
         """Begins or continues a command's run. `source` is the list's path, and `book_in` that of a book, or None."""
@@ -171,7 +171,7 @@ class Run:
         return array.array("L", (number for number in range(self.parts) if self.statuses[number] == UNKNOWN))
 
     def read(self, number, record):
-        """Returns (status, output, book, seconds) from a part's record (see `solve`), or None if it is not complete."""
+        """Returns (status, output, book, seconds) from a part's record, or None if that is damaged or not complete."""
         head, text = HEAD.match(record), self.text(number)
         results = record[head.end():] if head else b""
         if not head or digest_of(self.task, number, head[1], text, results) != head[6]:
@@ -193,7 +193,7 @@ class Run:
             return self.read(number, (self.folder / f"results/{number:07d}").read_bytes())
 
     def keep(self, number, record):
-        """Stores a part's record. Returns the seconds that the part took, or None if the record is not complete."""
+        """If a part's record is complete, stores it and returns the seconds that the part took; otherwise None."""
         if found := self.read(number, record):
             with refusing("write", self.folder):
                 write_whole(self.folder / f"results/{number:07d}", [record])

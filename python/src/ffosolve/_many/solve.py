@@ -17,12 +17,12 @@ HEAD = re.compile(rb"(([01]) (\d+) (\d+) (\d+\.\d+)) ([0-9a-f]{64})\n")
 
 
 def guarded(words):
-    """Returns a command that runs `words`, and is killed when this process ends, even if `setpriv` has not run yet."""
+    """Returns a command that runs `words` unless this process has ended, and is killed when this process ends."""
     return ["setpriv", "--pdeathsig", "KILL", "sh", "-c", '[ "$PPID" = "$0" ] && exec "$@"', str(os.getpid()), *words]
 
 
 def digest_of(task, part, head, text, results):
-    """Returns the SHA-256, in hexadecimal, of a part's options, number, record before the digest, lines and results."""
+    """Returns the SHA-256, in hexadecimal, of the options, a part's number and lines, and its record but the digest."""
     asked = json.dumps([task["options"], part]).encode()
     return hashlib.sha256(b"\n".join((asked, head, text, results))).hexdigest().encode()
 
@@ -31,7 +31,7 @@ def solve(task, folder, program, part, text, is_wanted=lambda: True):
     """Solves the lines `text` of a part. `task` is what task.json has. The program runs in `folder` with the arguments
     `task["words"]`, and is killed once `is_wanted` returns false. Returns (record, "") or, if the program fails, (None,
     the reason). A record is a line with the program's status, the sizes of its output and its book in bytes, the
-    seconds that it took, and the digest; then the output and the book."""
+    seconds that it took, and the digest that `digest_of` returns; then the output and the book."""
     # The program writes its book to the pipe of standard error, so that it needs no room on a disk.
     has_book, most = task["options"]["--book-out"] is not None, task["options"]["--scores"] is not None
     command = guarded([program, *task["words"], *["--book-out=/dev/stderr"] * has_book])
@@ -96,7 +96,7 @@ def write_whole(path, pieces, mode=None):
 
 
 def main(folder, part):
-    """Solves a part of the list in a folder, and writes its record to `results` there. `part` is a name, as 0000000."""
+    """Solves a part of the list in `folder`; writes its record to results there. `part` is a name such as 0000000."""
     task = json.loads((folder / "task.json").read_text())
     if not re.fullmatch("[0-9]{7}", part) or int(part) >= task["parts"]:
         raise FileNotFoundError(f"the parts are 0000000 to {task['parts'] - 1:07d}")
