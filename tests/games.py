@@ -15,14 +15,11 @@ NAMES = [column + row for row in "12345678" for column in "ABCDEFGH"]
 SQUARE_BYTES = [10 * row + column for row in range(1, 9) for column in range(1, 9)]  # for A1, B1, .. H8 in a WTHOR file
 
 
-def random_game(rng):
-    """Returns the moves of a random game up to its end: squares from 0 (A1) to 63 (H8), and None for each pass."""
-    return [move.bit_length() - 1 if move else None for *_, move in player.random_game(rng)][1:]
-
-
 def random_games(count, seed):
+    """Returns the moves of random games up to their ends: squares from 0 (A1) to 63 (H8), and None for each pass."""
     rng = random.Random(seed)
-    return [random_game(rng) for _ in range(count)]
+    games = (player.random_game(rng) for _ in range(count))
+    return [[move.bit_length() - 1 if move else None for *_, move in game][1:] for game in games]
 
 
 def positions_of(squares):

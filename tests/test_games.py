@@ -194,9 +194,8 @@ class ReadByPython(InFolder):
     def test_transcripts_are_read_in_each_form(self):
         rng = random.Random(5)
         for game in self.PLAYED:
-            names = [ffosolve.square_name(square) for square in squares_of(game)]
-            names = [rng.choice((str.lower, str.upper))(name) for name in names]
-            with_passes = [name if name is None else ffosolve.square_name(name) for name in game]
+            names = [rng.choice((str.lower, str.upper))(NAMES[square]) for square in squares_of(game)]
+            with_passes = [None if square is None else NAMES[square] for square in game]
             pairs = [" ".join(names[at:at + 2]) for at in range(0, len(names), 2)]
             texts = ["".join(names), *(between.join(names) for between in (" ", ",", ", ", "-", " - ", "\t"))]
             for form in ("{}. {}", "{}.{}", "{}) {}", "{}: {}", "{} {}", "{}... {}", "{}{}"):

@@ -12,7 +12,7 @@ import xml.etree.ElementTree
 from bench import player
 
 from .support import ROOT, built, need, need_module, run
-from .games import NAMES, positions_of, random_game, squares_of, transcript
+from .games import NAMES, positions_of, random_games, squares_of, transcript
 from .positions import random_positions
 import ffosolve
 from ffosolve import NoMove, Position, Scoring, Solver
@@ -48,9 +48,8 @@ class Rules(unittest.TestCase):
         self.assertEqual(ends, 60)
 
     def test_a_transcript_plays_on_from_any_position(self):
-        rng, start = random.Random(77), Position.start()
-        for number in range(100):
-            game = random_game(rng)
+        start = Position.start()
+        for number, game in enumerate(random_games(100, seed=77)):
             squares, text = squares_of(game), transcript(game).upper()
             cut, positions = number % len(squares), positions_of(squares)
             middle, end = start.play_all(text[:2 * cut]), position_of(*positions[min(positions)])
