@@ -76,7 +76,7 @@ class Case(InFolder):
         self.write_list(SMALL)
 
     def write_list(self, text, *options):
-        """Writes `text` to list.obf. Sets `self.one` to what ffosolve with `options` prints for it; writes one.book."""
+        """Writes `text` to list.obf. Of it, ffosolve with `options` makes the report `self.one` and the book one.book."""
         write("list.obf", text)
         ran = run(MANY.with_name("ffosolve"), "--book-out", "one.book", *options, "list.obf")
         self.assertEqual((ran.returncode, ran.stderr), (0, b""))
@@ -86,7 +86,7 @@ class Case(InFolder):
         """Runs MANY or the command `by` with the arguments `words`, and with `places` added to the environment. Asserts
         that it ends with `status`, prints `output` (by default, `self.one` if `status` is 0 and otherwise nothing), and
         has `message` in its standard error, which is returned. If `status` is 0 and joined.book is one of `words`, also
-        asserts that this book equals one.book, and removes it. `how` are other keyword arguments of `run`."""
+        asserts that joined.book equals one.book, and removes the former. `how` are other keyword arguments of `run`."""
         ran = run(by or MANY, *words, env={**os.environ, **places}, **how)
         errors = ran.stderr.decode()
         if output is None:

@@ -11,7 +11,7 @@ os.environ.setdefault("FFOSOLVE_LIBRARY", str(ROOT / "out/library/libffosolve.so
 
 
 def random_positions(count, empties):
-    """Returns a list of `count` Positions from random games. Their numbers of empty squares repeat `empties`."""
+    """Returns a list of `count` Positions from random games. Their numbers of empty squares are `empties`, repeated."""
     rng, found = random.Random(1), []
     while len(found) < count:
         discs = 64 - empties[len(found) % len(empties)]
