@@ -76,7 +76,7 @@ class Case(InFolder):
         self.write_list(SMALL)
 
     def write_list(self, text, *options):
-        """Writes `text` to list.obf. Of it, ffosolve with `options` makes the report `self.one` and the book one.book."""
+        """Writes `text` to list.obf; ffosolve with `options` makes its report, `self.one`, and its book, one.book."""
         write("list.obf", text)
         ran = run(MANY.with_name("ffosolve"), "--book-out", "one.book", *options, "list.obf")
         self.assertEqual((ran.returncode, ran.stderr), (0, b""))
