@@ -1,6 +1,7 @@
 """Games for tests: transcripts, records of WTHOR files, and lists with their reports.
 
-A position is (own, opp, is_black): the masks of the mover's and the other side's discs, and whether Black moves."""
+A position is (own, opp, is_black): the masks of the mover's and the other side's discs, and whether Black moves. In a
+WTHOR file, a game has a theoretical score, by perfect play from one of its positions, and a real one, at its end."""
 import hashlib
 import random
 import struct
@@ -16,15 +17,15 @@ SQUARE_BYTES = [10 * row + column for row in range(1, 9) for column in range(1, 
 
 
 def random_games(count, seed):
-    """Returns the moves of random games up to their ends: squares from 0 (A1) to 63 (H8), and None for each pass."""
+    """Returns the moves of `count` random games up to their ends: squares 0 (A1) to 63 (H8), and None for each pass."""
     rng = random.Random(seed)
     games = (player.random_game(rng) for _ in range(count))
     return [[move.bit_length() - 1 if move else None for *_, move in game][1:] for game in games]
 
 
 def positions_of(squares):
-    """Plays the squares up to the first illegal move; a pass may be None or left out. Returns {number of empty squares:
-    position} for the start and after each move."""
+    """Returns {number of empty squares: position} for the start and for the positions after the moves to `squares`, up
+    to the first illegal move. A pass may be None or left out."""
     at = (*player.START, True)
     found = {60: at}
     for square in squares_of(squares):
@@ -39,13 +40,13 @@ def positions_of(squares):
 
 
 def discs_of_black(position):
-    """Returns the number of Black's discs after perfect play, where the winner also gets the empty squares."""
+    """The number of Black's discs after perfect play from a position; the winner also gets the empty squares."""
     score = player.values(*position[:2])[0]
     return 32 + (score if position[2] else -score) // 2
 
 
 def real_score(game):
-    """Returns the real score for a WTHOR file: that of `discs_of_black`, or if the game is not over, 40."""
+    """Returns the real score of a game: the `discs_of_black` at its end, or 40 if the moves stop before that."""
     positions = positions_of(game)
     own, opp, _ = last = positions[min(positions)]
     return 40 if player.moves(own, opp) or player.moves(opp, own) else discs_of_black(last)
@@ -60,7 +61,7 @@ def transcript(game):
 
 
 def record(game, theoretical=33, real=None):
-    """Returns the record of a game in a WTHOR file. `real` is the real score in it, by default that of `real_score`."""
+    """Returns the record of a game in a WTHOR file, with both scores; the real one is by default `real_score(game)`."""
     head = struct.pack("<HHHBB", 7, 300, 301, real_score(game) if real is None else real, theoretical)
     return head + bytes(SQUARE_BYTES[square] for square in squares_of(game)).ljust(60, b"\0")
 
@@ -75,8 +76,7 @@ def line_of(position, comment):
 
 
 def with_digest(lines):
-    """Returns the text `lines`. If one of its lines has a theoretical score, 4 lines follow: a digest of the others,
-    each with 6 bits of their SHA-256 sum."""
+    """Returns the text `lines` and, if it has a theoretical score, its digest: 4 lines with a checksum of the rest."""
     if ", theoretical score " not in lines:
         return lines
     games = [line for line in lines.splitlines(True) if line.strip() and not line.startswith("%")]
@@ -86,7 +86,7 @@ def with_digest(lines):
 
 
 def report_of(listed, refused=None):
-    """Returns ffosolve's report of a list, with scores from bench/player.py, and `--` for all moves. `refused` is
+    """Returns ffosolve's report of a list, with the right scores, but `--` in place of all best moves. `refused` is
     {number of a line that the report refuses: reason}."""
     rows, refused = [], refused or {}
     for number, line in enumerate(listed.splitlines(), 1):
@@ -100,7 +100,7 @@ def report_of(listed, refused=None):
 
 
 class Case(InFolder):
-    """Has a random game up to its end: GAME are its squares, AT is `positions_of` them, and RECORD its record."""
+    """Has a whole random game: its squares GAME, its positions AT (see `positions_of`) and its WTHOR record RECORD."""
 
     maxDiff = 2000
     GAME = squares_of(*random_games(1, seed=3))

@@ -1,4 +1,5 @@
-"""ffosolve-games compare: prints the wrong theoretical scores of a list; --fix writes corrected WTHOR files."""
+"""ffosolve-games compare: prints the wrong theoretical scores of a list, which WTHOR files have for perfect play from a
+position of each game; --fix writes corrected WTHOR files."""
 import contextlib
 import itertools
 import os
@@ -15,8 +16,8 @@ from .support import ROOT, SECONDS, as_at_a_login, built, limited, run, stored, 
 
 
 class Compare(Case):
-    """Tests with three positions of examples/kinds.obf, whose scores are +62, -64 and +32. GAMES also lists the first
-    with colours exchanged, and the last with the other side to move."""
+    """GAMES lists three positions of examples/kinds.obf, with scores +62, -64 and +32, the first also with colours
+    exchanged, and the last also with the other side to move."""
 
     TWO = "-OXXXXX-XXXXXXXOXXXXXXXXXXXXXXXXXXXOXXXXXXXXXXXXXXXXXXXXXXXXXXXX"
     PASS = "-OOOOOOXXXXXXXXXXXXXXXXXXXXXXXXXXXXXXXXXXXXXXXXXXXXXXXXXXXXXXXXX"
@@ -172,14 +173,14 @@ class Fix(Case):
         return "".join(rows) + f"compared {len(self.exact)} differ 2 refused 0 unscored 0\n"
 
     def write_list(self, *words, skipped=(), **how):
-        """Writes the list that `ffosolve-games WORDS` prints, and its report: it refuses the line numbers `skipped`."""
+        """Writes `list`, printed by `ffosolve-games WORDS`, and `report`, which refuses the line numbers `skipped`."""
         listed = run(PROGRAM, *words, **how).stdout.decode()
         write("list", listed)
         write("report", report_of(listed, dict.fromkeys(skipped, "5 empties, limit 4")))
 
     def fix(self, status, err, *words, place="new.wtb", written=None, out=None, **how):
         """Runs `compare --fix`. Asserts its status, its errors and, unless `out` is None, its output. Asserts that it
-        writes the files in `written`, {path: content}, or none if that is None, and changes no other file."""
+        writes the files in `written`, {path: content} or None for no file, and changes no other."""
         before = contents()
         self.games("compare", "list", "report", "--fix", place, *words, status=status, err=err, out=out, **how)
         self.assertEqual(contents(), {**before, **(written or {})})
@@ -270,7 +271,7 @@ class Fix(Case):
         self.fix(3, "cannot write '': No such file or directory", place="")
 
     def test_a_file_system_without_hard_links_gets_the_file(self):
-        """The content is on the disk before the file gets its name. With hard links, it replaces no other file."""
+        """The content is on the disk before the file gets its name. With hard links, no existing file is replaced."""
         from ffosolve._fix_wthor import write_new
 
         def sync(file):
@@ -320,8 +321,7 @@ class Fix(Case):
         self.assertEqual(contents(), {**before, "new.wtb": self.wanted})
 
     def test_an_interrupted_run_leaves_no_file_under_the_name(self):
-        """After Ctrl-C, the run leaves no temporary file either; after SIGKILL, it leaves one. The same command can
-        then write the file."""
+        """Ctrl-C leaves no temporary file either, SIGKILL leaves one. Then the same command can write the file."""
         write("it.wtb", wthor(self.records, empties=5, count=10 ** 8))
         os.truncate("it.wtb", 16 + 68 * 10 ** 8)
         for number in (signal.SIGINT, signal.SIGKILL):

@@ -1,4 +1,4 @@
-"""The games that the Python package reads and the positions that ffosolve-games prints agree with bench/player.py."""
+"""Games read by ffosolve-games and in Python: their positions agree with bench/player.py, the rules in plain code."""
 import contextlib
 import gzip
 import inspect
@@ -26,8 +26,8 @@ class RandomGames(Case):
         cls.known = list(map(positions_of, cls.played))
 
     def prints(self, name, empties, known, more):
-        """Asserts that for each game in a file, a line with `more` at its end is printed, or a message if it never has
-        `empties` empty squares. `known` is a list of what `positions_of` returns for the games."""
+        """Asserts that ffosolve-games prints a line with `more` at its end for each game in a file, or a message for a
+        game that ends before `empties` squares are empty. `known` has what `positions_of` returns for each game."""
         out = err = ""
         for number, positions in enumerate(known, 1):
             left = min(positions)

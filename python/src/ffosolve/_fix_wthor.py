@@ -1,4 +1,5 @@
-"""Writes copies of WTHOR files, with exact scores in place of wrong ones."""
+"""Writes copies of WTHOR files, with right scores of their games: the theoretical ones, by perfect play from positions
+with a certain number of empty squares, and if asked for the real ones, of the games as they were played."""
 import contextlib
 import os
 from typing import BinaryIO, Dict, Iterable, Iterator, List, Mapping
@@ -10,9 +11,9 @@ from ._text import NotText
 
 
 class Fixed:
-    """Iterates over the bytes of a WTHOR file, in pieces, with exact theoretical scores of the games in `compared` and,
-    if `with_real`, with the real scores that the moves have. A header without a number of empty squares gets that of
-    the compared positions. No other byte changes. Raises Unfit if this file is not the one that was compared."""
+    """Iterates over a copy of the WTHOR file `file`, in pieces. The games in `compared` have their exact theoretical
+    scores there and, if `with_real`, all finished games their real ones. A header that does not say how many squares
+    are empty gets the number from `compared`. No other byte changes. Raises Unfit if `compared` is of another file."""
 
     def __init__(self, name: str, file: BinaryIO, compared: List[Listed], with_real: bool) -> None:
         self._name, self._file, self._with_real = name, file, with_real
@@ -20,7 +21,7 @@ class Fixed:
         self._games = self._real_changed = self._real_unknown = 0
 
     def summary(self) -> str:
-        """Returns a text that counts the changed scores and those not compared. Call this after iterating."""
+        """Says how many scores were changed and how many were not checked. To be called after iterating."""
         changed = sum(it.published != it.exact for it in self._compared.values())
         others = self._games - len(self._compared)
         text = f"theoretical scores changed {changed} of {self._games}, not compared {others}"
@@ -51,8 +52,7 @@ class Fixed:
         yield from iter(lambda: self._file.read(1 << 20), b"")
 
     def _exact(self, record: bytearray) -> bytearray:
-        """Returns the record of game number `_games`, with its exact scores if they are known. Raises Unfit if the list
-        has another position or published score for the game of this number."""
+        """Returns the record of game `_games` with known exact scores. Raises Unfit if the list has another game."""
         game, it = game_of(self._games, bytes(record)), self._compared.get(self._games)
         try:
             found = played(game)
@@ -80,7 +80,7 @@ class Fixed:
 def write_new(files: Mapping[str, Iterable[bytes]]) -> None:
     """Writes new files: `files` maps each path to the pieces of its content. No path is used before all contents are on
     the disk. Raises OSError if writing fails, and FileExistsError if a path exists; the error's `filename` is the path.
-    But on a file system without hard links, this replaces an existing file."""
+    On a file system without hard links, an existing file is replaced instead."""
     complete: Dict[str, str] = {}  # for each path, a temporary file next to it
     try:
         for path, pieces in files.items():

@@ -25,8 +25,8 @@ TEXT = bytes([*b"\t\n\v\f\r", *range(32, 256)])  # a text begins with one of the
 
 
 class GameRefused(ValueError):
-    """A game can't be read or played. `game` is the game's number. `move` is the number of the illegal move, or of the
-    last one if the game is too short, from 1 and without passes; None if the game can't be read or has no moves."""
+    """A game can't be read or played, or ends before the position that is asked for. `game` is the game's number,
+    `move` that of the illegal or last move, from 1 without passes; None if the game can't be read or has no moves."""
 
     def __init__(self, reason: str, game: int, move: Optional[int] = None) -> None:
         super().__init__(f"game {game}" + ("" if move is None else f", move {move}") + f": {reason}")
@@ -63,7 +63,7 @@ class Game(NamedTuple):
     @property
     def squares(self) -> List[str]:
         """The names of the moves' squares, such as "F5", without passes. For a move that is not a square, the list has
-        the word of the transcript in small letters, or the number of the byte in the WTHOR file, such as "99"."""
+        the word of the transcript in small letters, or the value of the byte in the WTHOR file, such as "99"."""
         names = zip(self.moves, self.words)
         return [str(word) if move == NO_SQUARE else square_name(move) for move, word in names if move != PASS]
 
@@ -109,8 +109,8 @@ def read_games(
 
 
 def games_in(file: Any, name: str) -> Tuple[Iterator[Game], Optional[int]]:
-    """Returns (the games of a file, the number of empty squares in the positions that its theoretical scores are for).
-    The number is 0 if a WTHOR file does not say it, and None for a text. Raises NotText, perhaps only on iterating."""
+    """Returns (the games of a file, the number of empty squares that its header gives). The number is 0 if the header
+    of a WTHOR file gives none, and None for a text. Raises NotText, for a text only while iterating over its games."""
     if not name.lower().endswith(".wtb") and file.peek(1)[:1].strip(TEXT) == b"":
         lines = enumerate(text_lines(file, name), 1)
         games = (Game.of_text(line.decode("utf-8", "replace"), number) for number, line in lines)
@@ -123,8 +123,8 @@ def games_in(file: Any, name: str) -> Tuple[Iterator[Game], Optional[int]]:
 
 
 def read_header(file: BinaryIO) -> Tuple[int, int]:
-    """Reads the header of a WTHOR file. Returns (number of games, number of empty squares in the positions that the
-    theoretical scores are for). The second number is 0 if the header does not say it. Raises NotText."""
+    """Reads the header of a WTHOR file. Returns (number of games, `empties` of each Game); `empties` is 0 if the header
+    does not say it. Raises NotText for a file of another kind."""
     head = file.read(HEADER.size)
     if len(head) < HEADER.size:
         raise NotText(f"it ends within its header of {HEADER.size} bytes" if head else "it is empty")
@@ -142,8 +142,8 @@ def read_header(file: BinaryIO) -> Tuple[int, int]:
 
 
 def records(file: BinaryIO, count: int, empties: int) -> Iterator[Game]:
-    """Yields the games after the header of a WTHOR file. If there are fewer or more than `count`, the last Game that is
-    yielded has no moves, and its `fault` says why."""
+    """Yields the games after the header of a WTHOR file, in which `read_header` found `count` and `empties`. If there
+    are fewer or more games than `count`, the last Game that is yielded has no moves, and its `fault` says why."""
     counts = f"its header counts {count} game{'s' * (count != 1)}"
     for number in range(1, count + 1):
         record = file.read(RECORD)
@@ -157,13 +157,13 @@ def records(file: BinaryIO, count: int, empties: int) -> Iterator[Game]:
 
 
 def game_of(number: int, record: bytes) -> Game:
-    """The game in a record of a WTHOR file. `number` is its place in the file, from 1."""
+    """The game in a record of a WTHOR file, without `empties`. `number` is the record's place in the file, from 1."""
     written = record[FIRST_MOVE:].rstrip(b"\0")
     return Game(number, written.translate(SQUARES), written, record[SCORE], record[REAL])
 
 
 def positions_of(game: Game) -> List[Position]:
-    """The positions of a game: the start, and the one after each move. Raises GameRefused."""
+    """The positions of a game: the start, and the one after each move except passes. Raises GameRefused."""
     return [position_of(*it) for it in played(game)]
 
 
@@ -172,7 +172,7 @@ def position_of(masks: CPosition, side: str) -> Position:
 
 
 def played(game: Game) -> List[Tuple[CPosition, str]]:
-    """Returns (masks, side to move) for each position of a game, faster than `positions_of`. Raises GameRefused."""
+    """Returns [(masks, side to move)] for the positions of `positions_of`, but faster. Raises GameRefused."""
     if game.fault is not None:
         raise GameRefused(game.fault, game.number)
     library, at, side = loaded(), CPosition(*START), START.side
@@ -197,8 +197,8 @@ def played(game: Game) -> List[Tuple[CPosition, str]]:
 
 
 def position_with(empties: int, game: Game, found: List[Tuple[CPosition, str]]) -> Position:
-    """The first position of a game that has `empties` empty squares; `found` is what `played` returned for the game.
-    Raises GameRefused if there is none."""
+    """The first position with `empties` empty squares in a game; `found` is what `played` returned for the game.
+    Raises GameRefused if the game ends before that position."""
     left = position_of(*found[-1]).empties
     if left <= empties:
         return position_of(*found[START.empties - empties])

@@ -1,4 +1,4 @@
-"""The program ffosolve-games, and its command line."""
+"""The program ffosolve-games, and its command line. WHAT, its help, explains theoretical scores and digests."""
 import argparse
 import contextlib
 import errno
@@ -82,7 +82,7 @@ class Stop(Exception):
 
 
 class Messages:
-    """Prints messages on standard error, unless writing fails. `status` is the highest exit status of them so far."""
+    """Prints messages on standard error, unless writing fails. `status` is the exit status; messages raise it."""
 
     status = DONE
 
@@ -99,8 +99,8 @@ def number_of_empties(word: str) -> int:
 
 
 def options_of(words: List[str]) -> argparse.Namespace:
-    """The options in the command line `words`. If the first is `compare`, `compares` is true, and `files` are LIST and
-    REPORT. Wrong options end the program, after the usage and the reason are printed on standard error."""
+    """The options in the command line `words`. If the first word is `compare`, `compares` is true, and `files` are LIST
+    and REPORT. Ends the program after printing the help, the version or, for wrong options, the usage and a reason."""
     parser = argparse.ArgumentParser(
         NAME, usage=USAGE, description=WHAT, epilog=MORE, formatter_class=argparse.RawDescriptionHelpFormatter,
         allow_abbrev=False)
@@ -158,7 +158,7 @@ def main(find: Callable[[], Optional[str]] = lambda: None) -> int:
 
 
 def list_games(options: argparse.Namespace, find: Callable[[], Optional[str]], messages: Messages) -> Iterator[bytes]:
-    """Yields a list: a line for each game that has the position and, if one has a theoretical score, the digest."""
+    """Yields a list: a line for each game's position and, if any has a theoretical score, the four of `digest_of`."""
     load(find())  # for `played`
     covered, has_scores = hashlib.sha256(), False
     for name in options.files or ["-"]:
@@ -179,9 +179,9 @@ def list_games(options: argparse.Namespace, find: Callable[[], Optional[str]], m
 
 def with_positions(file: io.BufferedReader, name: str, wanted: Optional[int],
                    messages: Messages) -> Iterator[Tuple[Game, Position]]:
-    """Yields (game, position with `wanted` empty squares) for each game of a file, or reports why there is no position.
-    If `wanted` is None, the header of the file says how many; raises Stop if it does not. A theoretical score for
-    another number of empty squares is taken out of the game. Wrong scores are reported, too."""
+    """Yields (game, its first position with `wanted` empty squares) for each game of a file, or reports why a game has
+    none. If `wanted` is None, the header of the file says how many squares are empty; raises Stop if it does not. Takes
+    a theoretical score for another number of empty squares out of a game, and reports what `wrong_scores` finds."""
     games, of_scores = games_in(file, shown(name))
     empties = of_scores if wanted is None else wanted
     if empties is None:
@@ -216,7 +216,7 @@ def wrong_scores(game: Game, discs: Optional[int]) -> Iterator[str]:
 
 
 def compare(options: argparse.Namespace, find: Callable[[], Optional[str]], messages: Messages) -> Iterator[bytes]:
-    """Yields a line for each wrong theoretical score, and then one of counts. With --fix, first writes WTHOR files."""
+    """Yields a line for each wrong theoretical score, and then the counts. With --fix, first writes corrected files."""
     listed, solved = options.files
     try:
         found = Comparison(lines_of(listed), lines_of(solved))
@@ -237,8 +237,8 @@ def compare(options: argparse.Namespace, find: Callable[[], Optional[str]], mess
 
 
 def fix(place: str, compared: List[Listed], with_real: bool, messages: Messages) -> None:
-    """Writes copies of the WTHOR files that `compared` names, with exact theoretical scores and, if `with_real`, the
-    real scores that the moves have: to the new file `place`, or into it if it is a folder. Reports counts of scores."""
+    """Copies WTHOR files, which `compared` names, to the new file `place` or into the folder `place`. The copies have
+    exact theoretical scores and, if `with_real`, real scores that fit the moves. Reports how many scores changed."""
     of_files: Dict[str, List[Listed]] = {}
     for it in compared:
         of_files.setdefault(it.file, []).append(it)

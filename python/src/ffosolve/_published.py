@@ -1,4 +1,5 @@
-"""Compares the published scores in a list, which ffosolve-games prints, with the exact ones in ffosolve's report."""
+"""Compares the theoretical scores in a list by ffosolve-games, which WTHOR files claim for perfect play from positions,
+with the exact ones in ffosolve's report of that list. The list ends with its digest, a checksum (see `digest_of`)."""
 import hashlib
 import os
 import re
@@ -16,16 +17,16 @@ DIGEST = re.compile(rb"[XO-]{64} X; % digest, line [1-4] of 4")
 
 
 class BadList(Exception):
-    """A list can't be compared: it has a refused line, no theoretical score or no digest, or it was changed."""
+    """A list can't be compared: it is malformed, was changed, is a report, or has no theoretical score or no digest."""
 
 
 class Unfit(Exception):
-    """A report is incomplete or belongs to another list; or a WTHOR file is not the one that the list was made from."""
+    """A report is malformed, incomplete, or of another list or scoring; or a WTHOR file is not the one in the list."""
 
 
 class Listed(NamedTuple):
-    """A line of a list: its position, and the file, the game's number and the published score in its comment. A line of
-    the digest (see `digest_of`) has none of these. Scores are theoretical ones in Black's discs, or NO_SCORE."""
+    """A line of a list. Its comment names a file, the number of a game there and perhaps the theoretical score that the
+    file publishes; a line of the digest has only a position. Scores are Black's discs, or NO_SCORE."""
 
     position: Line
     file: str = ""
@@ -35,9 +36,9 @@ class Listed(NamedTuple):
 
 
 class Comparison:
-    """The theoretical scores of a list, and the exact ones of its report. `compared` are the lines that have a score
-    in both, and `differences` those of them whose scores differ. `unscored` counts the positions without a theoretical
-    score, and `refused` the others that are refused in the report. Raises BadList and Unfit."""
+    """Compares a list with its report. `compared` are the games' lines that have a score in both, and `differences`
+    those of them whose two scores differ. `unscored` counts the games without a theoretical score in the list, and
+    `refused` those that have one, but are refused in the report. Raises BadList and Unfit."""
 
     def __init__(self, listed: Iterable[bytes], report: Iterable[bytes]) -> None:
         lines, rows = read_list(listed), read_report(report)
@@ -67,14 +68,13 @@ class Comparison:
 def digest_of(lines: "hashlib._Hash") -> List[bytes]:
     """Returns four OBF lines for the first 24 bits of `lines`, the SHA-256 of a list. Each line stands for six bits, a
     number n: it is a finished game with n black discs, 63 - n white discs and an empty square. Its score in a report
-    shows n, since each n has another score. These scores are even only under the scoring `winner`."""
+    shows n, since no two n have the same score. The scores are even only under the scoring `winner`."""
     black = [int.from_bytes(lines.digest()[:3], "big") >> shift & 63 for shift in (18, 12, 6, 0)]
     return [b"X" * n + b"-" + b"O" * (63 - n) + b" X; %% digest, line %d of 4" % at for at, n in enumerate(black, 1)]
 
 
 def read_list(lines: Iterable[bytes]) -> Dict[int, Listed]:
-    """Returns {number of the line, from 1: Listed} for a list, including its digest. `lines` may also be those of
-    several lists, each with its digest at its end. Raises BadList."""
+    """Returns {number of the line, from 1: Listed} for a list or several, including the digests. Raises BadList."""
     found: Dict[int, Listed] = {}
     awaited: List[bytes] = []
     covered, uncovered = hashlib.sha256(), 0

@@ -1,4 +1,4 @@
-"""Calls the library for the rules of the game, and converts positions to its structures."""
+"""Asks the shared library for the rules of Othello, and converts positions to the structures that the library takes."""
 import array
 import ctypes
 import itertools

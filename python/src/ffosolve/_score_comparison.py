@@ -43,7 +43,7 @@ class ScoreComparison(NamedTuple):
 def compare_scores(listed: Source, scored: Source) -> ScoreComparison:
     """Compares the scores of a list with the exact ones, which `ffoscores` printed for the list. Each argument is a
     path, an open file or an iterable of lines. A listed score may be any decimal number, such as +61.5. Raises
-    ValueError if a line of `scored` is not what `ffoscores` prints for the same line of `listed`.
+    ValueError if a line of `scored` does not answer the position in the same line of `listed`.
 
         ffoscores list.obf >list.scores
 
@@ -74,9 +74,9 @@ def compare_scores(listed: Source, scored: Source) -> ScoreComparison:
 
 
 def pairs_of(listed: Source, scored: Source) -> Iterator[Tuple[int, Any, Any]]:
-    """Yields (number, text, answer) for each line of the list that is neither blank nor a comment. `number` counts from
-    1, and `answer` is the Line that `ffoscores` printed for the text, or None if `ffoscores` refused the text. Raises
-    ValueError if a line of `scored` is not the answer to the line of `listed` with the same number."""
+    """Yields (number, text, answer) for each line of the list that is neither blank nor a comment. `number` is the
+    line's number, from 1. `answer` is the Line that `ffoscores` printed for the text, or None if `ffoscores` refused
+    the text. Raises ValueError as `compare_scores` does."""
     both = itertools.zip_longest(lines_of(listed), lines_of(scored), fillvalue=b"")
     for number, (text, answer) in enumerate(both, 1):
         line, exact = found_in(text, number), found_in(answer, number)

@@ -11,7 +11,7 @@ class NotText(ValueError):
 
 
 def text_lines(file: BinaryIO, name: str, may_have_nul: bool = False) -> Iterator[bytes]:
-    """Yields the lines of a text, each with its end. Raises NotText, with `name` in the message, if the text
+    """Yields the lines of a text, with their line ends. Raises NotText, with `name` in the message, if the text
     begins with a byte-order mark, ends its lines with CR alone, has a line of more than MOST_BYTES bytes, or has a NUL
     byte and `may_have_nul` is false."""
     number, line = 1, file.readline(MOST_BYTES + 1)

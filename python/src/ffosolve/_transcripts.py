@@ -19,7 +19,7 @@ TOKEN = re.compile(
 
 def words_of(text: str) -> List[str]:
     """The words of a transcript, in small letters: squares without blanks inside, passes (several hyphens become `--`)
-    and words that are neither. Skips blanks, commas, a hyphen between moves, move numbers such as `1.` and `12`, a
-    result at the end such as `33-31` or `+2`, and everything from `%` on."""
+    and other text in words of one or two characters. Skips blanks, commas, a hyphen between moves, move numbers such as
+    `1.` and `12`, a result at the end such as `33-31` or `+2`, and everything from `%` on."""
     words = (move or other for move, other in TOKEN.findall(text.partition("%")[0].lower()))
     return ["--" if word.startswith("--") else "".join(word.split()) for word in words if word]
