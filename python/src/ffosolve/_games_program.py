@@ -82,7 +82,7 @@ class Stop(Exception):
 
 
 class Messages:
-    """Prints messages on standard error, unless writing fails. `status` is the exit status; messages raise it."""
+    """Prints messages on standard error, unless writing fails. `status` is the highest exit status so far."""
 
     status = DONE
 
