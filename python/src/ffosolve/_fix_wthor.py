@@ -1,5 +1,5 @@
 """Writes copies of WTHOR files, with right scores of their games: the theoretical ones, by perfect play from positions
-with a certain number of empty squares, and if asked for the real ones, of the games as they were played."""
+with a certain number of empty squares, and on request the real ones, of the games as they were played."""
 import contextlib
 import os
 from typing import BinaryIO, Dict, Iterable, Iterator, List, Mapping
