@@ -123,8 +123,8 @@ def games_in(file: Any, name: str) -> Tuple[Iterator[Game], Optional[int]]:
 
 
 def read_header(file: BinaryIO) -> Tuple[int, int]:
-    """Reads the header of a WTHOR file. Returns (number of games, number of empty squares that theoretical scores are for,
-    or 0 if the header does not say it). Raises NotText for a file of another kind."""
+    """Reads the header of a WTHOR file. Returns (number of games, number of empty squares that theoretical scores are
+    for, or 0 if the header does not say it). Raises NotText for a file of another kind."""
     head = file.read(HEADER.size)
     if len(head) < HEADER.size:
         raise NotText(f"it ends within its header of {HEADER.size} bytes" if head else "it is empty")
