@@ -250,7 +250,7 @@ class Build(InFolder):
         self.started(self.use(), 1)
 
     def test_in_a_checkout_of_another_user_a_built_program_runs_and_no_other_is_built(self):
-        """Sources may have new times. If one can't be read, the program runs only if out/ can't be written."""
+        """New times of sources do no harm. If a source can't be read, the program runs unless out/ can be written."""
         def closed(*changes):
             run("sh", "-euc", "\n".join(("chmod -R a-w .", *changes)), cwd=self.root, check=True)
             ran = run(self.script, "w", input="read\n", **HOW, **NOBODY)

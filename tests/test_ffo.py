@@ -11,8 +11,8 @@ LONGEST = 5 * SECONDS  # that a run may take for a position with 20 empty square
 
 class Results(InFolder):
     def ffo(self, *words, programs=None, kept=HEAD + KEPT):
-        """Runs bench/ffo with a file of results that contains `kept` and the programs in the folder `programs`, by
-        default the built ones. Returns the run, and what the file contains afterwards."""
+        """Runs bench/ffo with the programs in the folder `programs`, by default the built ones, and a file of results
+        that contains `kept`. Returns the run, and what the file contains afterwards."""
         Path("kept.tsv").write_text(kept)
         places = ("RESULTS=kept.tsv", f"PROGRAMS={programs or built().parent}")
         ran = run("env", *places, ROOT / "bench/ffo", *words, text=True, timeout=LONGEST)

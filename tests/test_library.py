@@ -157,7 +157,7 @@ class Calls(unittest.TestCase):
 
     def test_each_wrong_header_is_noticed(self):
         """Each wrong header has one fault: a number that is too great by 1, two members or parameters exchanged, or a
-        null pointer that is passed on."""
+        function that passes a null pointer on to the library."""
         wrong = [
             PREFIX.text[:found.start()] + found.expand(new) + PREFIX.text[found.end():]
             for pattern, new in (
@@ -191,8 +191,8 @@ class Calls(unittest.TestCase):
         self.assertEqual(printed, ["7"] * 6 + ["0 62/0/80"])
 
     def test_the_stack_that_the_header_names_is_enough(self):
-        """Calls for 14 empty squares return on a stack of 32 KiB. On a stack of 128 KiB, the first position of a game
-        is still being solved after two seconds."""
+        """Calls for 14 empty squares return on a stack of 32 KiB. On one of 128 KiB, a call for the first position of
+        a game does not crash within two seconds."""
         self.assertTrue("32 KiB are enough for 14 empty squares and 128 KiB for 60" in re.sub(r"\s+", " ", PREFIX.text))
         calls = "solve {} {} 0 1024", "confirm {} {} 1 0 0 0 1", "move_scores {} {} 2 1024", "solve_all 0 1024 1 {} {}"
         calls = [call.format(*position) for position in random_positions(20, [14]) for call in calls]

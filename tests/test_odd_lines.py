@@ -21,7 +21,7 @@ def odd_line(chance, lines):
 
 
 def read(source, reader=ffosolve.parse_lines):
-    """Reads a text, or lines if `reader` takes these, in Python. Returns {line number: row} without blank lines and
+    """Reads `source` by a function of the package for Python. Returns {line number: row} without blank lines and
     comments. A row is `OWN OPP SIDE MOVE:SCORE ..`, with masks of 16 hex digits, or `refused: ` and the reason."""
     refused = []
     rows = {line.number: f"{line.own:016x} {line.opp:016x} {line.side}" + "".join(" %s:%s" % it for it in line.listed)

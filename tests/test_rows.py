@@ -108,7 +108,7 @@ class Rows(InFolder):
         self.ends((0, b"[1]\n1 +64 -- unlisted\nsolved 1 refused 0\n", b""), built(), input=b"X" * MOST_BYTES)
 
     def test_an_error_in_any_file_is_reported_before_anything_is_printed(self):
-        """ffosolve reads a book before all lists. ffoscores reads all lists before it checks their sizes and number."""
+        """ffosolve reads a book before any list; ffoscores reads all lists before it checks how large and how many."""
         write("list", TWO)
         write("large", b" " * (MOST_BYTES + 1))
         write("bad.book", b"?\n")

@@ -41,7 +41,7 @@ def places() -> List[str]:
 
 
 def load(path: Union[str, "os.PathLike[str]", None] = None) -> ctypes.CDLL:
-    """The library at `path` or, if that is None, the first of `places()` that can be called. Raises LibraryNotFound."""
+    """The library at `path` or, if that is None, the first in `places()` that fits. Raises LibraryNotFound."""
     errors = []
     for place in [os.path.abspath(path)] if path is not None else places():
         try:

@@ -117,7 +117,7 @@ def parse(words):
 
 
 def begin(command, programs):
-    """Checks a command from `parse`, adds its list, folder and defaults, and returns its Run, begun or continued."""
+    """Checks a command from `parse`; sets its list, folder and defaults. Returns its Run, begun or continued."""
     if not command.words:
         raise misused("no list is named; for standard input use `-`, with a FOLDER before it")
     if len(command.words) > 2:
@@ -145,7 +145,7 @@ def begin(command, programs):
 
 
 def solve_list(command, programs):
-    """Solves a command's list, prints results, writes a book; with --cut only cuts the list. Returns the status."""
+    """Solves a command's list, prints results, writes any --book-out; with --cut only cuts it. Returns the status."""
     if command.scheduler:
         from .cluster import Cluster  # refuses if its package is missing
     run = begin(command, programs)

@@ -87,7 +87,7 @@ class Threads:
         self.room = 2 * most  # how many parts may be submitted but unfinished at a time
 
     def submit(self, number, failed):
-        """Submits a part; returns a future for `result`. `failed`, unused here, has machines where the part failed."""
+        """Submits a part; returns the future that `result` takes. `failed`: machines where it failed; unused here."""
         return self.pool.submit(self.solve, number)
 
     def solve(self, number):

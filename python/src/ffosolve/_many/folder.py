@@ -1,4 +1,4 @@
-"""The folder of a run: copies of the list, programs and book, task.json with the options, and results of the parts."""
+"""The folder of a run: copies of list, programs, solve.py and --book-in, task.json with options, results of parts."""
 import array
 import contextlib
 import fcntl
@@ -44,7 +44,7 @@ def cut_list(path, lines, name):
 
 
 def asked_lines(part):
-    """Returns {number from 1: line} of a part's lines, except blank ones and comments, which a report leaves out."""
+    """Returns {number in the part, from 1: line} without blank lines and comments, which a report leaves out, too."""
     return {number: line for number, line in enumerate(part.split(b"\n"), 1) if not SKIPPED.fullmatch(line)}
 
 

@@ -22,7 +22,7 @@ def guarded(words):
 
 
 def digest_of(task, part, head, text, results):
-    """Returns the SHA-256, in hexadecimal, of the options, a part's number and lines, and its record but the digest."""
+    """Returns a record's digest: the SHA-256, in hexadecimal, of the options in `task` and of the other arguments."""
     asked = json.dumps([task["options"], part]).encode()
     return hashlib.sha256(b"\n".join((asked, head, text, results))).hexdigest().encode()
 
