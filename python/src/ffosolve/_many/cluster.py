@@ -100,7 +100,7 @@ class Cluster:
         self.pool = self.client.get_executor(pure=False, resources={self.name: 1})
 
     def submit(self, number, failed):
-        """Submits a part, if possible to a worker with an address not in `failed`. `result` takes the future it returns."""
+        """Submits a part, if possible to a worker whose address is not in `failed`; returns what `result` takes."""
         name, key = self.name, f"{self.name}-{time.monotonic_ns():020d}-{number}"
         others = [address for address in self.ready if address not in failed] if failed else []
         return self.pool.submit(lambda *words: distributed.get_worker().plugins[name].solve(*words), number,
