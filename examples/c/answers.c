@@ -1,4 +1,4 @@
-/* Reads positions: on each line two hexadecimal masks, the discs of the side to move and those of the other side. Prints
+/* Reads positions: on each line two hexadecimal masks, the discs of the side to move and of the other side. Prints
    the answer for each: the score and the best moves, PS for a pass, or -- at the end of the game. Then plays the first
    position to its end, always with the first best move.
 
