@@ -1,5 +1,5 @@
-"""ffosolve-games compare: prints the wrong theoretical scores of a list, which WTHOR files have for perfect play from a
-position of each game; --fix writes corrected WTHOR files."""
+"""ffosolve-games compare prints which theoretical scores of a list are wrong; --fix writes corrected WTHOR files.
+A theoretical score is what a WTHOR file claims for perfect play from a position of a game."""
 import contextlib
 import itertools
 import os

@@ -1,4 +1,4 @@
-"""The library for C and C++: its files, its header, its calls, and their statuses in each language."""
+"""The library for C and C++: its files, header and calls, and the statuses in C, C++, Python and Rust."""
 import itertools
 import os
 import re

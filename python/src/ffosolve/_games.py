@@ -222,5 +222,5 @@ def final_score(own: int, opp: int) -> int:
 
 
 def discs_of_black(score: int, side: str) -> int:
-    """The number of Black's discs, given the score for the mover, who is "X" (Black) or "O" (White)."""
+    """Black's discs (empty squares go to the winner), given the score for the mover, "X" (Black) or "O" (White)."""
     return 32 + (score if side == "X" else -score) // 2

@@ -67,7 +67,7 @@ def merged(names, books):
 
 
 def book_of(run, folder):
-    """Yields the lines of a run's book. Merges the parts' books, BATCH at a time, to files in `folder`, then these."""
+    """Yields the lines of a run's book. Merges BATCH parts' books at a time to files in `folder`, then merges those."""
     paths, books = [], (io.BytesIO(book) for _, _, book, _ in run.solved())
     while batch := list(itertools.islice(books, BATCH)):
         paths.append(Path(folder, f"{len(paths)}.book"))

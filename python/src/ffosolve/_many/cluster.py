@@ -76,7 +76,7 @@ def look_at(name, left_out, dask_scheduler):
 
 
 class Cluster:
-    """An engine, used in the same way as `engine.Threads`: the workers of a Dask cluster."""
+    """The workers of a Dask cluster. Like `engine.Threads`, an engine: what solves parts for `engine.solve_parts`."""
 
     tries = 3  # after which a part has failed
     room = 0  # how many parts may be submitted but unfinished at a time

@@ -216,7 +216,7 @@ class Run:
                             for number, output in enumerate(outputs) for line, rest in rows_of(output))
 
     def sweep(self):
-        """Removes the unfinished files and folders that killed runs left in the folder."""
+        """Removes the unfinished files and folders that were left in the folder when runs were killed."""
         for folder in (self.folder, self.folder / "results"):
             for entry in os.scandir(folder):  # one by one: there may be a million
                 if re.search(r"\.\w{8}\.new$", entry.name):
