@@ -32,8 +32,8 @@ def names_of_files():
 
 
 def copied_checkout(folder):
-    """Builds everything, copies the checkout's files and out/, without logs, archives and out/tests, into `folder`, and
-    returns `folder`. The copies keep the modification times of the files, and everybody may read them."""
+    """Builds everything, and copies the checkout's files and out/, but not out/tests, logs, archives and unfinished
+    files, to `folder`; returns `folder`. The copies keep their modification times, and everybody may read them."""
     run("make", "-s", "-C", ROOT, "levels", stderr=None, timeout=None, check=True)
     shutil.copytree(ROOT / "out", folder / "out", ignore=shutil.ignore_patterns("tests", "*.log", "*.tar.gz*", "*.new"))
     run("cp", "--parents", "--preserve=mode,timestamps", *names_of_files(), folder, cwd=ROOT, check=True)
@@ -47,8 +47,8 @@ def files_below(folder):
 
 
 def path_without(tool, folder):
-    """Returns a value for PATH without the command `tool`: for each folder on PATH, a new folder in `folder` with links
-    to its other commands. In a single folder, a command that the user may not run would hide the next of its name."""
+    """Returns a value for PATH without the command `tool`: new folders in `folder`, one for each folder on PATH, with
+    links to all other commands. A single folder could hold only one of several commands of the same name."""
     places = {Path(folder, f"without-{tool}-{at}"): place for at, place in enumerate(os.get_exec_path())}
     for links, place in places.items():
         links.mkdir()
@@ -89,15 +89,15 @@ class Prefix:
         return run(*words, input=text, text=True, **how)
 
     def make(self, *words, **how):
-        """Runs a command, such as a compiler, and returns the ended run; raises AssertionError if it fails."""
+        """Runs a command, by default in `work`, and returns its CompletedProcess; raises AssertionError if it fails."""
         ran = self.run(*words, **how)
         if ran.returncode != 0:
             raise AssertionError(f"{' '.join(map(str, words))}\n{ran.stdout}{ran.stderr}")
         return ran
 
     def compile(self, compiler, name, sources, *words):
-        """Compiles a program in C or C++ and returns its path. `words` are the options that link the program with the
-        library, by default with libffosolve.a."""
+        """Compiles a program `name` in C or C++ and returns its path. `words` are the options that find the header and
+        link the library, by default the installed libffosolve.a."""
         need(compiler[0])
         libraries = words or ("-I", self.header.parent, "-x", "none", self.archive)
         self.make(*compiler, "-o", self.work / name, *sources, *libraries)
@@ -124,7 +124,7 @@ class Prefix:
         return self.make("cargo", verb, "--manifest-path", manifest / "Cargo.toml", *words, **how)
 
     def rust_client(self, name, source, **places):
-        """Builds a Rust program that uses the crate, with `places` added to the environment, and returns its path."""
+        """Builds a Rust program that uses the crate, and returns its path. `places` are variables for the build."""
         self.write(f"{name}/src/main.rs", source)
         needs = f'[dependencies]\nffosolve = {{ path = "{self.crate}" }}\n[workspace]\n'
         self.write(f"{name}/Cargo.toml", f'[package]\nname = "{name}"\nversion = "1.0.0"\nedition = "2021"\n{needs}')

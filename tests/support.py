@@ -21,7 +21,7 @@ sys.path.insert(0, str(ROOT / "python/src"))  # for `import ffosolve`
 
 
 def lack(what):
-    """Skips the test or, in setUpModule, its module, since `what` is missing. Fails if the environment has CI=true."""
+    """Skips the test or, in setUpModule, its module: `what` is missing. If the variable CI is true, fails instead."""
     kind = AssertionError if os.environ.get("CI") == "true" else unittest.SkipTest
     raise kind(f"{what} is missing")
 
@@ -47,8 +47,8 @@ def stored(*path):
 
 
 def worked_rows(name):
-    """Reads the table tests/rows/NAME.tsv. Returns the cells of its last column, each a line of a list as bytes, and
-    {heading: cells} for the other columns, with `~` replaced by the first 66 bytes (board, side) of the row's line."""
+    """Reads the table tests/rows/NAME.tsv. Returns the OBF lines in its last column, and {heading: cells} for the other
+    columns. Lines and cells are bytes; in a cell, the first 66 bytes (board, side) of the row's line replace `~`."""
     heads, *rows = stored("tests/rows", f"{name}.tsv").removesuffix(b"\n").split(b"\n")
     *heads, _ = heads.decode().split("\t")
     rows = [row.split(b"\t", len(heads)) for row in rows]
@@ -111,8 +111,8 @@ refuse_threads = limited(RLIMIT_STACK=1_000_000_000 << 10, RLIMIT_AS=500_000_000
 
 @functools.cache
 def built(name="ffosolve"):
-    """Returns a program's path: in the folder that the environment names as TEST_PROGRAMS or, without this variable, in
-    out/, after bin/NAME has built the program."""
+    """Returns a program's path. It is in the folder that TEST_PROGRAMS in the environment names. Without this variable,
+    `built` runs bin/NAME, which builds the program if needed, and the path is out/NAME in the checkout."""
     if "TEST_PROGRAMS" in os.environ:
         return Path(os.environ["TEST_PROGRAMS"], name)
     run(ROOT / "bin" / name, "/dev/null", stderr=None, timeout=None, check=True)
@@ -176,7 +176,7 @@ def as_at_a_login():
 
 
 def processes_in(place):
-    """Returns {process ID: command line} for other visible processes whose current folder is `place` or below it."""
+    """Returns {process ID: command line} for other visible processes in folders whose paths begin with `place`."""
     found = {}
     for number in set(filter(str.isdigit, os.listdir("/proc"))) - {str(os.getpid())}:
         with contextlib.suppress(OSError):  # the process has ended, or is another user's
@@ -188,7 +188,7 @@ def processes_in(place):
 
 def preload(folder, **variables):
     """Returns an environment in which programs call the functions of tests/preload.c instead of the system's. It also
-    has `variables`, which choose what these functions do. The first call for a `folder` compiles the file into it."""
+    has `variables`, which choose what these functions do. The first call for a `folder` compiles preload.c into it."""
     library = folder / "preload.so"
     if not library.exists():
         need("cc")

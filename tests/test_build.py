@@ -67,12 +67,12 @@ class Build(InFolder):
         self.enterContext(mock.patch.dict(os.environ, places, clear=True))
 
     def use(self, *words, **environment):
-        """Runs `self.script`, which is bin/ffosolve unless a test changes it, with the arguments `words`, by default
-        `w`, the input `read` and the variables `environment`; returns the ended run."""
+        """Runs `self.script`, which is bin/ffosolve unless a test changes it, and returns its CompletedProcess. `words`
+        are the arguments, by default `w`; the input is the line `read`; `environment` are added variables."""
         return run(self.script, *(words or ("w",)), input="read\n", env={**os.environ, **environment}, **HOW)
 
     def begin(self, **environment):
-        """Starts `self.script` with the argument `w` and returns its process."""
+        """Starts `self.script` with the argument `w` and added variables `environment`, and returns its Popen."""
         return self.start(self.script, "w", env={**os.environ, **environment}, **HOW)
 
     def builds(self):
@@ -93,12 +93,12 @@ class Build(InFolder):
 
     def refused(self, ran, words, before="(.*\n)*"):
         """Asserts that a run ended with status 4 and without output, and that the last line on standard error says that
-        ffosolve was not built and contains `words`. The lines before match `before`, by default any lines."""
+        ffosolve was not built and contains `words`. The lines before match the pattern `before`, by default any."""
         self.assertEqual((ran.returncode, ran.stdout), (4, ""), ran)
         self.assertRegex(ran.stderr, rf"\A{before}ffosolve: not built: .*{re.escape(words)}.*\n\Z")
 
     def test_the_first_use_of_each_program_builds_it_and_later_ones_only_run_it(self):
-        """ffosolve is started by its path, both programs through symlinks, and ffosolve as `sh ffosolve` in bin/."""
+        """Runs ffosolve by its path, ffosolve and ffoscores through symlinks, and `sh ffosolve` in the folder bin/."""
         printed = self.started(self.use("one", "a b"), 1, "<one><a b>", builds=1)
         self.assertTrue(all(line.startswith("ffosolve: ") for line in printed.splitlines()), printed)
         for words in ("minutes", "GB", str(self.log), "ffosolve: 0 min, crate 1 of 2, othello_rules\n"):
@@ -155,7 +155,7 @@ class Build(InFolder):
         self.after("echo >>../../crates.txt", 1, builds=9)
 
     def test_a_change_within_the_same_second_builds_again(self):
-        """A fake `date` is a second ahead, since a file's modification time may be up to a second behind the clock."""
+        """A fake command `date` is a second ahead of file times, since these may be up to a second behind the clock."""
         write(self.tools / "date", '#!/bin/sh\necho $(($(/usr/bin/date "$@") + 1))\n')
         self.use()
         self.after("echo 2 >src/main.rt", 2, builds=2)
@@ -250,7 +250,7 @@ class Build(InFolder):
         self.started(self.use(), 1)
 
     def test_in_a_checkout_of_another_user_a_built_program_runs_and_no_other_is_built(self):
-        """New times of sources do no harm. If a source can't be read, the program runs unless out/ can be written."""
+        """New times of sources do no harm. A source that can't be read does harm only if out/ can be written."""
         def closed(*changes):
             run("sh", "-euc", "\n".join(("chmod -R a-w .", *changes)), cwd=self.root, check=True)
             ran = run(self.script, "w", input="read\n", **HOW, **NOBODY)

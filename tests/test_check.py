@@ -1,4 +1,4 @@
-"""In a small checkout, tests/check.mk runs and counts tests; .ci/run adds the counts of `rt ci` and `make check`."""
+"""tests/check.mk runs and counts tests, .ci/run adds up the counts of `rt ci` and `make check`, in a small checkout."""
 import os
 import signal
 from pathlib import Path

@@ -129,8 +129,8 @@ class Packages(Case):
                     self.assertNotIn(os.fsencode(place), (UNPACKED / name).read_bytes())
 
     def test_files_that_texts_name_are_there(self):
-        """Texts may also name a reader's files in FOLDER/ or work/. Texts in docs/ may name tests, benchmarks and
-        proofs, which only the checkout has, but not in commands that they show."""
+        """Documents, sources and manual pages may also name a reader's own files, in FOLDER/ or work/. Those in docs/
+        may name tests, benchmarks and proofs, which only the checkout has, but not in commands that they show."""
         named = re.compile(r"(?<![\w/<}.-])((?:[\w-]+[\w.-]*/)+[\w-]+\.(?:md|py|rs|c|h|toml|txt|obf|antt|a|so))\b")
         files = files_below(UNPACKED)
         for path in [UNPACKED / name for name in files]:
@@ -171,7 +171,7 @@ class Packages(Case):
                 self.ends((3, f"{level} 1 a b\n", ""), words, "a b")
 
     def needs_libc_alone(self, path):
-        """Asserts that a program or library needs no library but glibc, and no glibc newer than 2.34."""
+        """Asserts that a program or library needs no shared library but libc.so.6, and no glibc newer than 2.34."""
         need("readelf")
         printed = run("readelf", "-d", "-V", path, text=True).stdout
         versions = re.findall(r"GLIBC_([\d.]+)", printed)
@@ -269,8 +269,8 @@ class Debian(Case):
         self.ends((0, FIRST, ""), *(Path("root", word) for word in words), env=WITHOUT_RT)
 
     def apart(self, *words, check=True):
-        """Runs a command with an overlay over each of the folders /usr, /etc and /var. The command writes into the
-        overlays, and later commands of the test use them again. If `check` is true, asserts that it succeeds."""
+        """Runs a command with an overlay over each of /usr, /etc and /var, and returns its CompletedProcess. Later
+        commands of the same test alone see what it writes there. If `check` is true, asserts that it succeeds."""
         how = {"env": {"PATH": "/usr/sbin:/usr/bin:/sbin:/bin", "DEBIAN_FRONTEND": "noninteractive"}, "timeout": None}
         ran = run("unshare", "--mount", "sh", "-euc", APART, "sh", self.folder / "layers", *words, text=True, **how)
         self.assertFalse(check and ran.returncode, ran)

@@ -1,4 +1,4 @@
-"""The commands in the documents print what is shown there, and the files and names that the documents mention exist.
+"""The commands in the documents print what is shown there, and the files and definitions that documents name exist.
 
 In a fenced block `console`, a command begins with `$ `, and its continuation lines with `> `. Below, the block shows
 what the command prints on standard output and standard error. All commands of a document run in one folder, with links
@@ -89,8 +89,8 @@ class Names(unittest.TestCase):
             self.assertEqual([to for to in lost if not re.search(r"/out(/|$)|^share/doc/", to)], [], name)
 
     def test_qualified_names_are_declared(self):
-        """In three documents, names like `Rules.flips` have to be declared in a specification Rules.antt, names like
-        `laws::one_meaning` in a file laws.rt, and like `Grid::plain_value` in a file with an enum or impl of `Grid`."""
+        """In three documents, a name like `Rules.flips` has to be declared in a specification Rules.antt, one like
+        `laws::one_meaning` in a file laws.rt, and one like `Grid::plain_value` where `Grid` has an enum or impl."""
         qualified = re.compile(r"`([A-Z]\w*(?=\.)|\w+(?=::))(\.(?!antt|md)|::)(\w+)`")
         sources = {path: path.read_text() for path in ROOT.glob("crates/*/src/**/*.rt")}
         for name in ("definitions.md", "guarantees.md", "architecture.md"):
@@ -102,7 +102,7 @@ class Names(unittest.TestCase):
                 self.assertTrue(any(declares.search(it.read_text()) for it in files), f"{name}: {owner}{mark}{word}")
 
     def test_other_names_of_definitions_occur_in_sources(self):
-        """These are the names of definitions.md in CamelCase, as `AreRanked`, and those with `_`, as `lists_text`."""
+        """These are the names in docs/definitions.md that look like `AreRanked` (CamelCase) or `lists_text` (`_`)."""
         sources = [*ROOT.glob("crates/*/specs/*.antt"), *ROOT.glob("crates/*/src/**/*.rt")]
         words = set(re.findall(r"\w+", "\n".join(source.read_text() for source in sources)))
         named = re.findall(r"`([A-Z]\w*[a-z][A-Z]\w*|[a-z]+_\w+)`", TEXTS["docs/definitions.md"])

@@ -24,7 +24,7 @@ def setUpModule():
 
 
 def times(paths):
-    """Returns {path: modification time in nanoseconds} for all files except *.sum, which any run of make may touch."""
+    """Returns {path: modification time in ns} for all files in `paths` but *.sum, which any run of make may touch."""
     return {path: path.lstat().st_mtime_ns for path in paths if not path.is_dir() and path.suffix != ".sum"}
 
 
@@ -329,8 +329,8 @@ class Texts(Case):
         self.assertRegex(page.split('.SH "STATUS"')[1], r"with compare: a(.|\n)*REPORT does not belong to it")
 
     def offered(self, *words):
-        """Runs `words`: bash or fish, its options with the script above, and the words of a command. Returns a sorted
-        list of the completions that the script prints, without their descriptions."""
+        """Runs `words`: a shell, its options with the script in BASH or FISH, and a command's words, of which the last
+        is to be completed. Returns the completions that the script prints, sorted and without their descriptions."""
         need(words[0])
         ran = run(*words, cwd="examples", text=True)
         self.assertEqual((ran.returncode, ran.stderr), (0, ""))
