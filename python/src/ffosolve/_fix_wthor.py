@@ -1,5 +1,5 @@
-"""Writes copies of WTHOR files, with right scores of their games: the theoretical ones, by perfect play from positions
-with a certain number of empty squares, and on request the real ones, of the games as they were played."""
+"""Writes copies of WTHOR files and corrects the scores in them: theoretical scores, which perfect play from a certain
+number of empty squares gives, and on request real scores, of the games as they were played."""
 import contextlib
 import os
 from typing import BinaryIO, Dict, Iterable, Iterator, List, Mapping
@@ -11,9 +11,9 @@ from ._text import NotText
 
 
 class Fixed:
-    """Iterates over a copy of the WTHOR file `file`, in pieces. The games in `compared` have their exact theoretical
-    scores there and, if `with_real`, all finished games their real ones. A header that does not say how many squares
-    are empty gets the number from `compared`. No other byte changes. Raises Unfit if `compared` is of another file."""
+    """Iterates over the pieces of a corrected copy of the WTHOR file `file`. There, games in `compared` have exact
+    theoretical scores and, if `with_real`, finished games have right real scores. A header without a number of empty
+    squares gets that of `compared`. No other byte changes. Raises Unfit if the file does not fit `compared`."""
 
     def __init__(self, name: str, file: BinaryIO, compared: List[Listed], with_real: bool) -> None:
         self._name, self._file, self._with_real = name, file, with_real
@@ -21,7 +21,7 @@ class Fixed:
         self._games = self._real_changed = self._real_unknown = 0
 
     def summary(self) -> str:
-        """Says how many scores were changed and how many were not checked. To be called after iterating."""
+        """Says how many scores were changed, and how many not compared or checked. To be called after iterating."""
         changed = sum(it.published != it.exact for it in self._compared.values())
         others = self._games - len(self._compared)
         text = f"theoretical scores changed {changed} of {self._games}, not compared {others}"
@@ -52,7 +52,7 @@ class Fixed:
         yield from iter(lambda: self._file.read(1 << 20), b"")
 
     def _exact(self, record: bytearray) -> bytearray:
-        """Returns the record of game `_games` with known exact scores. Raises Unfit if the list has another game."""
+        """Corrects and returns the record of game number `_games`. Raises Unfit if the list does not fit the game."""
         game, it = game_of(self._games, bytes(record)), self._compared.get(self._games)
         try:
             found = played(game)
@@ -78,9 +78,9 @@ class Fixed:
 
 
 def write_new(files: Mapping[str, Iterable[bytes]]) -> None:
-    """Writes new files: `files` maps each path to the pieces of its content. No path is used before all contents are on
-    the disk. Raises OSError if writing fails, and FileExistsError if a path exists; the error's `filename` is the path.
-    On a file system without hard links, an existing file is replaced instead."""
+    """Writes new files: `files` maps each path to the pieces of its content. No file gets its path before the contents
+    of all are on the disk. Raises OSError if writing fails and FileExistsError if a path exists, with the path as
+    `filename`. On a file system without hard links, an existing file is replaced instead."""
     complete: Dict[str, str] = {}  # for each path, a temporary file next to it
     try:
         for path, pieces in files.items():

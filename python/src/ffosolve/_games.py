@@ -25,8 +25,8 @@ TEXT = bytes([*b"\t\n\v\f\r", *range(32, 256)])  # a text begins with one of the
 
 
 class GameRefused(ValueError):
-    """A game can't be read or played, or ends before the position that is asked for. `game` is the game's number,
-    `move` that of the illegal or last move, from 1 without passes; None if the game can't be read or has no moves."""
+    """A game can't be read or played, or ends before the position that is asked for. `game` is its number. `move`
+    counts moves without passes up to the illegal or last one; it is None if the game can't be read or has no moves."""
 
     def __init__(self, reason: str, game: int, move: Optional[int] = None) -> None:
         super().__init__(f"game {game}" + ("" if move is None else f", move {move}") + f": {reason}")
@@ -77,8 +77,8 @@ def read_games(
     skipped.
 
     Raises GameRefused if a WTHOR file ends too early or goes on after its last game; if `refused` is given, it is
-    called with the error instead. An illegal move is refused only by `Solver.positions`. Raises OSError, ValueError for
-    a file of another kind, and TypeError for another source. This prints the games with wrong theoretical scores:
+    called with the error instead. An illegal move is refused only by `Solver.positions`. Raises ValueError for a file
+    of another kind, TypeError for another source, and OSError. This prints the games with wrong theoretical scores:
 
         solver = Solver(max_empties=24)
         for game in read_games("WTH_2001.wtb"):
@@ -109,8 +109,8 @@ def read_games(
 
 
 def games_in(file: Any, name: str) -> Tuple[Iterator[Game], Optional[int]]:
-    """Returns (the games of a file, the number of empty squares that its header gives). The number is 0 if the header
-    of a WTHOR file gives none, and None for a text. Raises NotText, for a text only while iterating over its games."""
+    """Returns (games of a file, number of empty squares in its header). The number is 0 if a WTHOR file gives none, and
+    None for a text. Raises NotText; if the file is taken for a text, only while the games are iterated over."""
     if not name.lower().endswith(".wtb") and file.peek(1)[:1].strip(TEXT) == b"":
         lines = enumerate(text_lines(file, name), 1)
         games = (Game.of_text(line.decode("utf-8", "replace"), number) for number, line in lines)
@@ -124,7 +124,7 @@ def games_in(file: Any, name: str) -> Tuple[Iterator[Game], Optional[int]]:
 
 def read_header(file: BinaryIO) -> Tuple[int, int]:
     """Reads the header of a WTHOR file. Returns (number of games, number of empty squares that theoretical scores are
-    for, or 0 if the header does not say it). Raises NotText for a file of another kind."""
+    for, or 0 if the header does not say it). Raises NotText if the header is not that of games on 8 by 8 squares."""
     head = file.read(HEADER.size)
     if len(head) < HEADER.size:
         raise NotText(f"it ends within its header of {HEADER.size} bytes" if head else "it is empty")
@@ -142,8 +142,8 @@ def read_header(file: BinaryIO) -> Tuple[int, int]:
 
 
 def records(file: BinaryIO, count: int, empties: int) -> Iterator[Game]:
-    """Yields the games after the header of a WTHOR file, in which `read_header` found `count` and `empties`. If there
-    are fewer or more games than `count`, the last Game that is yielded has no moves, and its `fault` says why."""
+    """Yields the games after the header of a WTHOR file, in which `read_header` found `count` and `empties`. If the
+    file is too short or too long for `count` games, the last Game has no moves, and its `fault` says what is wrong."""
     counts = f"its header counts {count} game{'s' * (count != 1)}"
     for number in range(1, count + 1):
         record = file.read(RECORD)
@@ -172,7 +172,7 @@ def position_of(masks: CPosition, side: str) -> Position:
 
 
 def played(game: Game) -> List[Tuple[CPosition, str]]:
-    """Returns [(masks, side to move)] for the positions of `positions_of`, but faster. Raises GameRefused."""
+    """Returns the positions of `positions_of` as [(masks, side to move)], which is faster. Raises GameRefused."""
     if game.fault is not None:
         raise GameRefused(game.fault, game.number)
     library, at, side = loaded(), CPosition(*START), START.side
@@ -222,5 +222,5 @@ def final_score(own: int, opp: int) -> int:
 
 
 def discs_of_black(score: int, side: str) -> int:
-    """Black's discs (empty squares go to the winner), given the score for the mover, "X" (Black) or "O" (White)."""
+    """Converts a score for the mover, `side`, to a number of Black's discs; the winner also gets the empty squares."""
     return 32 + (score if side == "X" else -score) // 2

@@ -1,4 +1,4 @@
-"""The program ffosolve-games, and its command line. WHAT, its help, explains theoretical scores and digests."""
+"""The program ffosolve-games and its command line. The help text, WHAT, explains theoretical scores and digests."""
 import argparse
 import contextlib
 import errno
@@ -82,7 +82,7 @@ class Stop(Exception):
 
 
 class Messages:
-    """Prints messages on standard error, unless writing fails. `status` is the highest exit status so far."""
+    """Prints messages on standard error, if that can be written. `status` is the highest exit status so far."""
 
     status = DONE
 
@@ -158,7 +158,7 @@ def main(find: Callable[[], Optional[str]] = lambda: None) -> int:
 
 
 def list_games(options: argparse.Namespace, find: Callable[[], Optional[str]], messages: Messages) -> Iterator[bytes]:
-    """Yields a list: a line for each game's position and, if any has a theoretical score, the four of `digest_of`."""
+    """Yields the lines of a list: the games' positions and, if a game has a theoretical score, their digest."""
     load(find())  # for `played`
     covered, has_scores = hashlib.sha256(), False
     for name in options.files or ["-"]:
@@ -180,8 +180,8 @@ def list_games(options: argparse.Namespace, find: Callable[[], Optional[str]], m
 def with_positions(file: io.BufferedReader, name: str, wanted: Optional[int],
                    messages: Messages) -> Iterator[Tuple[Game, Position]]:
     """Yields (game, its first position with `wanted` empty squares) for each game of a file, or reports why a game has
-    none. If `wanted` is None, the header of the file says how many squares are empty; raises Stop if it does not. Takes
-    a theoretical score for another number of empty squares out of a game, and reports what `wrong_scores` finds."""
+    none. If `wanted` is None, the number is taken from the file's header; raises Stop if there is none. A theoretical
+    score for another number of empty squares is left out. Also reports what `wrong_scores` finds."""
     games, of_scores = games_in(file, shown(name))
     empties = of_scores if wanted is None else wanted
     if empties is None:
@@ -216,7 +216,7 @@ def wrong_scores(game: Game, discs: Optional[int]) -> Iterator[str]:
 
 
 def compare(options: argparse.Namespace, find: Callable[[], Optional[str]], messages: Messages) -> Iterator[bytes]:
-    """Yields a line for each wrong theoretical score, and then the counts. With --fix, first writes corrected files."""
+    """Yields a line for each wrong theoretical score, and one with counts. With --fix, first writes corrected files."""
     listed, solved = options.files
     try:
         found = Comparison(lines_of(listed), lines_of(solved))
@@ -237,8 +237,8 @@ def compare(options: argparse.Namespace, find: Callable[[], Optional[str]], mess
 
 
 def fix(place: str, compared: List[Listed], with_real: bool, messages: Messages) -> None:
-    """Copies WTHOR files, which `compared` names, to the new file `place` or into the folder `place`. The copies have
-    exact theoretical scores and, if `with_real`, real scores that fit the moves. Reports how many scores changed."""
+    """Copies the WTHOR files that `compared` names to the new file `place` or into the folder `place`, and corrects the
+    copies as `Fixed` does. Raises Stop if that fails, and otherwise reports how many scores changed."""
     of_files: Dict[str, List[Listed]] = {}
     for it in compared:
         of_files.setdefault(it.file, []).append(it)
@@ -284,7 +284,7 @@ def lines_of(name: str) -> Iterator[bytes]:
 
 @contextlib.contextmanager
 def opened(name: str) -> Iterator[io.BufferedReader]:
-    """Opens a file, or standard input for `-`. In the `with` statement for it, OSError and NotText become Stop."""
+    """Opens a file, or standard input for `-`. OSError and NotText, also in the body of the `with`, become Stop."""
     try:
         with open(0 if name == "-" else name, "rb", closefd=name != "-") as file:
             yield file

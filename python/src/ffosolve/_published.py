@@ -1,5 +1,5 @@
-"""Compares the theoretical scores in a list by ffosolve-games, which WTHOR files claim for perfect play from positions,
-with the exact ones in ffosolve's report of that list. The list ends with its digest, a checksum (see `digest_of`)."""
+"""Compares theoretical scores (what WTHOR files claim for perfect play) in a list by ffosolve-games with the exact
+scores in ffosolve's report of this list. The list ends with its digest, a checksum (see `digest_of`)."""
 import hashlib
 import os
 import re
@@ -21,7 +21,7 @@ class BadList(Exception):
 
 
 class Unfit(Exception):
-    """A report is malformed, incomplete, or of another list or scoring; or a WTHOR file is not the one in the list."""
+    """A report is malformed, incomplete, or of another list or scoring; or a WTHOR file does not fit the list."""
 
 
 class Listed(NamedTuple):
@@ -67,14 +67,14 @@ class Comparison:
 
 def digest_of(lines: "hashlib._Hash") -> List[bytes]:
     """Returns four OBF lines for the first 24 bits of `lines`, the SHA-256 of a list. Each line stands for six bits, a
-    number n: it is a finished game with n black discs, 63 - n white discs and an empty square. Its score in a report
-    shows n, since no two n have the same score. The scores are even only under the scoring `winner`."""
+    number n: it is a finished game with n black discs, 63 - n white discs and an empty square. Under the scoring
+    `winner`, its score in a report is even and shows n, since no two n have the same score; otherwise it is odd."""
     black = [int.from_bytes(lines.digest()[:3], "big") >> shift & 63 for shift in (18, 12, 6, 0)]
     return [b"X" * n + b"-" + b"O" * (63 - n) + b" X; %% digest, line %d of 4" % at for at, n in enumerate(black, 1)]
 
 
 def read_list(lines: Iterable[bytes]) -> Dict[int, Listed]:
-    """Returns {number of the line, from 1: Listed} for a list or several, including the digests. Raises BadList."""
+    """Returns {number of a line, from 1: Listed} for all positions of one or more lists and digests. Raises BadList."""
     found: Dict[int, Listed] = {}
     awaited: List[bytes] = []
     covered, uncovered = hashlib.sha256(), 0

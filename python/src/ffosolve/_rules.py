@@ -1,4 +1,4 @@
-"""Asks the shared library for the rules of Othello, and converts positions to the structures that the library takes."""
+"""Asks the shared library for the rules of Othello. A position is two masks, numbers with a bit for each square."""
 import array
 import ctypes
 import itertools
@@ -31,7 +31,7 @@ def empties_of(position: Sequence[int]) -> int:
 
 def refusal_for(position: Sequence[int], max_empties: int, index: Optional[int] = None) -> Refused:
     """The refusal of a position: SharedSquare if its masks share a square, otherwise TooManyEmpties. `index` is the
-    position's index in a list. Raises ValueError for a mask that is out of range."""
+    position's index in a list. Raises TypeError for another object, and ValueError for a mask that is out of range."""
     masks = c_position(position)
     if masks.own & masks.opp:
         return SharedSquare(index)
