@@ -20,18 +20,18 @@ A Solver solves one position, or many. Scores are for the side to move.
     [62, -52]
 
 By default, a Solver takes positions with up to 20 empty squares; `Solver(max_empties=24)` takes up to 24. A position
-with two more empty squares takes some 3 to 16 times as long.
+with two more empty squares takes some 2 to 20 times as long.
 
-`read_lines("list.obf")` reads positions from a file of OBF lines, and `read_games("WTH_2001.wtb")` reads games; the
-positions of a game are `solver.positions(game)`. `compare_scores` measures listed scores against those of `ffoscores`.
+`read_lines("list.obf")` reads a file of lines such as `from_obf` reads, and `read_games("WTH_2001.wtb")` reads games;
+`solver.positions(game)` has a game's positions. `compare_scores` compares a list's scores with those of `ffoscores`.
 
 A notebook shows a position as a picture. `position.show(solver.move_scores(position))` adds the scores of its moves.
 
-On the main thread, Ctrl-C interrupts a call within a fraction of a second; so does a signal whose handler raises an
-exception. The library finishes what it has begun, unless the program ends first. Several threads may call at once.
+On the main thread, Ctrl-C and any signal whose handler raises an exception interrupt a call within a fraction of a
+second. The library finishes begun work in the background, unless the program ends. Several threads may call at once.
 
-The wheel that `make wheel` builds contains the shared library. Without that wheel, install the library, or pass the
-library's path: `Solver("FOLDER/libffosolve.so")`. Reading, writing and showing positions needs no library.
+The wheel that `make wheel` builds contains the shared library. Without that wheel, install the library, or name its
+path: `Solver("FOLDER/libffosolve.so")` or FFOSOLVE_LIBRARY. Reading, writing and showing positions needs no library.
 """
 import os
 

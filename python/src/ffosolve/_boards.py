@@ -23,9 +23,9 @@ class Board:
     """A board that a notebook shows as a picture, and that prints as text.
 
     `own`, `opp` and `side` are those of a Position: the masks of the discs of the side to move and of the other side,
-    and the colour of the side to move, "X" or "O". Below the board, this colour and the text `state` are shown.
+    and the colour of the side to move, "X" or "O". Below the board, this colour and `state` follow, as "X is to move".
     `scores` is {name of an empty square: score}: each score is shown in its square, and the highest are marked. Raises
-    ValueError for another side, a name that no square has or whose square has a disc; TypeError for other scores."""
+    ValueError for another side and for a name of no empty square, TypeError for a score that is not a number."""
 
     def __init__(self, own: int, opp: int, side: str, scores: Optional[Mapping[str, float]] = None,
                  state: str = "is to move") -> None:

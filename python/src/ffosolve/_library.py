@@ -1,4 +1,4 @@
-"""Finds the shared library, and declares most of its calls as ffosolve.h does."""
+"""Finds the shared library, and declares its calls to ctypes, except for two that this package does not need."""
 import ctypes
 import functools
 import os
@@ -29,9 +29,9 @@ class CMoveScores(ctypes.Structure):
 
 
 def places() -> List[str]:
-    """The libraries to try if no path is given: only the one in the environment variable FFOSOLVE_LIBRARY, if that is
-    not empty; otherwise those in this package, the one for newer processors first; then NAME, which the system's loader
-    looks up; then NAME in the folder `lib` of the virtual environment, if there is one, of Python and of /usr/local."""
+    """The libraries to try if no path is given. If the environment variable FFOSOLVE_LIBRARY names one, only that one.
+    Otherwise those in this package, the one for newer processors first; then the file NAME where the system's loader
+    finds it; then this file in the folder `lib` of the virtual environment, if any, of Python and of /usr/local."""
     named = os.environ.get("FFOSOLVE_LIBRARY")
     if named:
         return [named]
@@ -41,7 +41,7 @@ def places() -> List[str]:
 
 
 def load(path: Union[str, "os.PathLike[str]", None] = None) -> ctypes.CDLL:
-    """The library at `path` or, if that is None, the first in `places()` that fits. Raises LibraryNotFound."""
+    """The library at `path`; for None, the first in `places()` that this package can call. Raises LibraryNotFound."""
     errors = []
     for place in [os.path.abspath(path)] if path is not None else places():
         try:

@@ -1,4 +1,4 @@
-"""Positions, and the lines of OBF text that hold them."""
+"""Positions, and the lines of text that hold them, in the format OBF, which `Position.from_obf` explains."""
 import os
 import re
 import reprlib
@@ -29,7 +29,7 @@ class Position(NamedTuple("Masks", [("own", int), ("opp", int)])):
 
     A position does not change: `play`, `play_all` and `passed` return a new one. The shared library knows the rules, so
     `legal_moves`, `must_pass`, `is_over`, `play`, `play_all` and `score` raise LibraryNotFound without it. Only these
-    and a Solver check the masks: one outside 0 to 2**64 - 1 raises ValueError, two that share a square SharedSquare.
+    and a Solver check masks. They raise ValueError for one outside 0 to 2**64 - 1, SharedSquare if a square is in both.
     """
 
     side: str = "X"
@@ -51,8 +51,8 @@ class Position(NamedTuple("Masks", [("own", int), ("opp", int)])):
         A1, B1, .. H8, the side to move, and maybe moves with their scores such as `H1:+62;`.
 
         Any of `X x * B b` stands for Black, any of `O o W w` for White, and `-` or `.` for an empty square. Blanks and
-        tabs before the squares and the side are skipped, and so is other text after the side. Raises NoPosition,
-        ShortBoard, BadSquare and BadSide, which are ValueErrors, and NoMemory and TypeError. Needs no library.
+        tabs before the squares and the side are skipped. After the side, any text but moves with scores is skipped.
+        Raises NoPosition, ShortBoard, BadSquare and BadSide (ValueErrors), NoMemory and TypeError. Needs no library.
         """
         return read_line(text, None)
 
@@ -82,14 +82,14 @@ class Position(NamedTuple("Masks", [("own", int), ("opp", int)])):
         return not self.legal_moves and not self.passed().legal_moves
 
     def play(self, square: Union[int, str]) -> "Position":
-        """The position after a move; the other side is to move. `square` is a name such as "F5" or a number from 0 to
-        63. Raises NoMove for an illegal move and any other number, ValueError for any other name, else TypeError."""
+        """The position after a move; the other side is to move. `square` is a name such as "F5" or a number, 0 to 63.
+        Raises NoMove for an illegal move and another number, ValueError for another name, TypeError for other types."""
         return Position(*play(loaded(), self, square), OTHER[self.side])
 
     def play_all(self, squares: Union[str, Iterable[Union[int, str]]]) -> "Position":
-        """The position after several moves: a transcript such as "f5d6c3", in any form that `Game.of_text` reads, or a
-        list of squares. A pass may be written or left out. Raises NoMove for an illegal move and for a word that is not
-        a square; the message has the number of the move, from 1 and without passes. Other objects raise TypeError."""
+        """The position after several moves. `squares` is a transcript such as "f5d6c3", in any form that `Game.of_text`
+        reads, or a list of squares. Passes may be left out. Raises TypeError for another object, and NoMove for an
+        illegal move or a word that is not a square. Its message has the move's number, from 1 and without passes."""
         if not hasattr(squares, "__iter__"):
             raise TypeError(f"moves are a transcript or a list of squares, not {reprlib.repr(squares)}")
         position = self
@@ -108,7 +108,7 @@ class Position(NamedTuple("Masks", [("own", int), ("opp", int)])):
         return position
 
     def score(self, scoring: Union[Scoring, int, str] = Scoring.WINNER) -> int:
-        """The mover's score in a finished game. Raises ValueError for any other, TooManyEmpties and UnknownScoring."""
+        """The mover's score, if the game is over; else raises ValueError. Raises TooManyEmpties and UnknownScoring."""
         if not self.is_over:
             raise ValueError(f"the game is not over, so only a Solver finds the score: {self.to_obf()}")
         answer = CAnswer()
@@ -155,9 +155,9 @@ START = Position(0x0000000810000000, 0x0000001008000000)  # Black, on E4 and D5,
 class Line(Position):
     """The position of a line of OBF text, and what else the line says.
 
-    `listed` has each move that the line lists with a score from -64 to 64, and the score, in the line's order, such as
+    `listed` has each move that the line lists with a whole score from -64 to 64, and this score, in order, such as
     `(("H1", 62), ("A1", 52))`. "PS" is a pass, and "--" the end of the game. The moves may be illegal and the scores
-    wrong. `number` is the line's number, from 1, if `read_lines` or `parse_lines` read it, and otherwise None.
+    wrong. `number` is the line's number, from 1, if `read_lines` or `parse_lines` read the line, and otherwise None.
     """
 
     listed: Tuple[Tuple[str, int], ...] = ()
@@ -184,7 +184,7 @@ def read_line(text: Union[str, bytes], number: Optional[int]) -> Line:
 
 
 def fault_of(found: "re.Match[bytes]", number: Optional[int]) -> LineRefused:
-    """The refusal of a line for its first fault from the left. `found` is how the pattern LINE matches the line."""
+    """The refusal of a line: NoPosition, or the one for its first fault. `found` is the match of the pattern LINE."""
     content, squares = found.string[found.end(1):], len(found[2])
     if not content or content.startswith(b"%"):
         return NoPosition(0, number)
@@ -215,7 +215,7 @@ def read_lines(source: Source, refused: Optional[Callable[[LineRefused], object]
         wrong = []
         positions = list(read_lines("a.obf", refused=wrong.append))
 
-    Raises OSError if the file can't be read, NoMemory, and TypeError for another source. `parse_lines` reads a text.
+    Raises NoMemory, OSError if the file can't be read, and TypeError for another source. `parse_lines` reads a text.
     """
     return positions_in(lines_of(source), refused)
 

@@ -1,4 +1,4 @@
-"""The errors of refused calls and refused lines. A refused call changes nothing."""
+"""The errors of refused calls, which change nothing, and of refused lines. `Position.from_obf` explains OBF text."""
 import copyreg
 import enum
 import reprlib
@@ -64,7 +64,7 @@ class TooManyEntries(Refused, ValueError, status=Status.TOO_MANY_ENTRIES,
 
 
 class UnequalLengths(Refused, ValueError, status=Status.UNEQUAL_LENGTHS, reason="not as many answers as positions"):
-    """There is room for more or fewer answers than positions. A Solver never raises this, since it makes the room."""
+    """The array for the answers is longer or shorter than that of the positions. A Solver never raises this."""
 
 
 class SharedSquare(Refused, ValueError, status=Status.SHARED_SQUARE, reason="the masks share a square"):
@@ -82,7 +82,7 @@ class NoMove(Refused, ValueError, status=Status.NO_MOVE, reason="illegal move"):
 
 
 class NoMemory(Refused, MemoryError, status=Status.NO_MEMORY, reason="out of memory"):
-    """There is not enough memory to make the table (never raised with 0 entries), or to read a line of OBF text."""
+    """There is not enough memory for a table, unless it has 0 entries, or for reading a line of OBF text."""
 
 
 class OtherRefusal(Refused):
@@ -95,7 +95,7 @@ class OtherRefusal(Refused):
 
 class LineRefused(Refused, ValueError):
     """A line of OBF text was refused. `line` is its number, from 1, or None if the line was read alone. `at` is
-    `column` for BadSquare and BadSide, the number of squares for ShortBoard, and 0 for NoPosition."""
+    `column` for BadSquare and BadSide, how many squares the line has for ShortBoard, and 0 for NoPosition."""
 
     def __init__(self, at: int = 0, line: Optional[int] = None) -> None:
         self.at, self.line, self.reason = at, line, self.reason.format(at)

@@ -1,4 +1,4 @@
-"""Squares: A1 is number 0, B1 is 1, A2 is 8, H8 is 63. A mask is a set of squares: bit n stands for square n."""
+"""Squares: A1 is number 0, B1 is 1, A2 is 8, H8 is 63. A mask is a set of squares as a number: bit n is square n."""
 import operator
 import reprlib
 from typing import List, Union
