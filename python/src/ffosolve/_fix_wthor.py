@@ -80,7 +80,7 @@ class Fixed:
 def write_new(files: Mapping[str, Iterable[bytes]]) -> None:
     """Writes new files: `files` maps each path to the pieces of its content. No file gets its path before the contents
     of all are on the disk. Raises OSError if writing fails and FileExistsError if a path exists, with the path as
-    `filename`. On a file system without hard links, an existing file is replaced instead."""
+    `filename`; files that have got their paths stay. Without hard links, an existing file is replaced instead."""
     complete: Dict[str, str] = {}  # for each path, a temporary file next to it
     try:
         for path, pieces in files.items():
