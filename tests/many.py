@@ -37,9 +37,9 @@ sys.stdout.buffer.write(eval(spoil)(subprocess.run(command, stdout=subprocess.PI
 
 
 def install(name, *changes, script=None):
-    """Installs ffosolve-many in the new folder BASE/`name`; returns the path of the program. Next to this program are
-    ffosolve and ffoscores or, if `script` is given, this script under both names: in it, @real@ stands for the real
-    one's path, @python@ for Python's. Each (module, old, new) of `changes` replaces the text `old` in a module."""
+    """Installs ffosolve-many in the new folder BASE/`name`; returns the path of bin/ffosolve-many there. Beside it are
+    ffosolve and ffoscores or, under both names, scripts with the text `script`, in which @real@ is replaced by the
+    path of the real program, @python@ by Python's. Each (module, old, new) of `changes` replaces `old` in a module."""
     many = copy_many(BASE / name)
     for module, old, new in changes:
         path = many.parent.parent / f"python/src/ffosolve/_many/{module}.py"
@@ -53,8 +53,8 @@ def install(name, *changes, script=None):
 
 
 def setUpModule(python=sys.executable):
-    """Sets BASE to a new folder, MANY and ACTS to the paths of two copies of ffosolve-many in it, which `python` runs.
-    ACTS runs the script ACTING instead of ffosolve and ffoscores. Sets SMALL to 60 positions, in lines of 68 bytes."""
+    """Sets BASE to a new folder, MANY and ACTS to the paths of two copies of ffosolve-many there, and SMALL to 60 lines
+    of 68 bytes. ACTS runs the script ACTING instead of ffosolve and ffoscores. The command python3 runs `python`."""
     global BASE, MANY, ACTS, SMALL
     BASE = module_folder()
     (BASE / "tmp").mkdir()
@@ -86,7 +86,7 @@ class Case(InFolder):
         """Runs MANY or the command `by` with the arguments `words`, and with `places` added to the environment. Asserts
         that it ends with `status`, prints `output` (by default, `self.one` if `status` is 0 and otherwise nothing), and
         has `message` in its standard error, which is returned. If `status` is 0 and joined.book is one of `words`, also
-        asserts that joined.book equals one.book, and removes the former. `how` are other keyword arguments of `run`."""
+        asserts that joined.book equals one.book, and removes joined.book. `how` are other keyword arguments of run."""
         ran = run(by or MANY, *words, env={**os.environ, **places}, **how)
         errors = ran.stderr.decode()
         if output is None:
@@ -102,11 +102,11 @@ class Case(InFolder):
         self.assertEqual(Path(name).read_bytes(), Path("one.book").read_bytes())
 
     def files(self):
-        """Returns {path: (content, mode)} for all below the test's folder. What is not a file has the content False."""
+        """Returns {path: (content, mode)} of everything below the test's folder; content is False if it is no file."""
         return {path: (path.is_file() and path.read_bytes(), path.lstat().st_mode) for path in Path(".").rglob("*")}
 
     def refused(self, status, message, *words, **how):
-        """Calls `many`. Asserts that no file changes, and that the error is one line: if `status` is 2, with advice."""
+        """Calls `many`. Asserts that no file changes, and that the error is one line, with advice if `status` is 2."""
         before = self.files()
         (line,) = self.many(*words, status=status, message=message, **how).splitlines()
         advice = "(Try 'ffosolve-many --help'|use |name |merged)" if status == 2 else ""

@@ -1,4 +1,4 @@
-"""Random positions of the Python package. Sets FFOSOLVE_LIBRARY, the path of its library, unless that is set."""
+"""Random positions for tests in Python. Sets FFOSOLVE_LIBRARY to the checkout's library, unless it is already set."""
 import os
 import random
 
@@ -11,7 +11,7 @@ os.environ.setdefault("FFOSOLVE_LIBRARY", str(ROOT / "out/library/libffosolve.so
 
 
 def random_positions(count, empties):
-    """Returns a list of `count` Positions from random games. Their numbers of empty squares are `empties`, repeated."""
+    """Returns a list of `count` Positions from random games, with numbers of empty squares from `empties`, in turn."""
     rng, found = random.Random(1), []
     while len(found) < count:
         discs = 64 - empties[len(found) % len(empties)]

@@ -44,8 +44,8 @@ class Books(InFolder):
             os.remove(name)
 
     def solves_over(self, old, wanted, place="it.book", mode=0o644, folder_mode=0o755, **how):
-        """Makes it.book a file with the content `old` or, with another `place`, a link to such a file. Asserts that
-        ffosolve --book-out it.book ends as `wanted`, and the file has the new book if that is DONE, otherwise `old`."""
+        """Writes `old` to the file `place` and, if this is not it.book, links it.book to it. Asserts that ffosolve with
+        --book-out it.book ends as `wanted`, and that the file then has BOOK if `wanted` is DONE, otherwise `old`."""
         write(place, old, mode)
         if place != "it.book":
             os.symlink(place, "it.book")

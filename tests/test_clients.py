@@ -35,8 +35,8 @@ def shown(language, *names):
 
 class Examples(unittest.TestCase):
     def answers(self, *command, count=LARGE):
-        """Runs an example program three times, and asserts what it prints for the first `count` lines of masks.txt, for
-        two positions of which the first has two best moves, and for two of which the second is refused."""
+        """Runs an example program three times: for the first `count` lines of examples/masks.txt, for two positions of
+        which the first has two best moves, and for two of which the second is refused. Asserts what it prints."""
         masks, answers = (stored("examples", f"{name}.txt").decode().splitlines(True) for name in ("masks", "answers"))
         ran = PREFIX.run(*command, text="".join(masks[:count]))
         self.assertEqual((ran.returncode, ran.stdout), (0, "".join(answers[:count] + answers[LARGE:])), ran.stderr)
@@ -57,8 +57,8 @@ class Examples(unittest.TestCase):
                 self.answers(program, count=count)
 
     def test_examples_in_c_and_cxx_are_built_by_cmake(self):
-        """The CMake code of docs/library.md links a program with the static library; the text CMAKE around it links two
-        with the shared one. If the code asks for a newer version than the installed one, the command cmake fails."""
+        """The CMake code of docs/library.md links one program with the static library; CMAKE, the text around it, links
+        two with the shared library. If the code asks for a newer version than is installed, the command cmake fails."""
         need("cmake")
         (first, second, _), (block, _) = VERSION.split("."), shown("cmake")
         for name in ("answers.c", "answers.cpp"):
@@ -132,8 +132,8 @@ class PythonPackage(unittest.TestCase):
             self.assertTrue(is_refused if why else ran.returncode == 0, ran)
 
     def built(self, source, *kinds):
-        """Builds archives of the package for Python in the folder `source`, one of each kind, such as "sdist", with the
-        build backend in that folder. Returns their paths."""
+        """Builds archives of the package for Python in the folder `source`, one of each of `kinds`, such as "sdist", by
+        the build backend in source/backend. Returns the archives' paths."""
         hooks = "import sys, ffosolve_wheel as made\n"
         hooks += "for kind in sys.argv[2:]: print(getattr(made, f'build_{kind}')(sys.argv[1]))"
         names = PREFIX.make(sys.executable, "-Bc", hooks, PREFIX.work, *kinds, cwd=source / "backend").stdout.split()

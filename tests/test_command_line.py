@@ -1,4 +1,4 @@
-"""Command lines of ffosolve and ffoscores: --help and the limits it names, --version, refused words, and --progress."""
+"""ffosolve and ffoscores: --help, --version, --progress, refused words, files after --, and a full or closed output."""
 import re
 
 from tests.support import ROOT, SECONDS, InFolder, built, positions, run, stored, write

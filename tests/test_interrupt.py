@@ -1,4 +1,4 @@
-"""Ctrl-C interrupts a Python program while the library solves; so does any signal whose handler raises an exception."""
+"""Ctrl-C, or any signal whose handler raises an exception, interrupts a Python program while the library solves."""
 import signal
 import sys
 

@@ -112,7 +112,7 @@ class Header(unittest.TestCase):
                 self.assertEqual(len(re.findall(r"\[-Werror[=,](?:-W)?unused-result\]", errors)), len(names), errors)
 
     def test_a_status_has_one_name_number_and_text_in_each_language(self):
-        """STATUSES_IN_RUST calls a library whose functions each return 1 at their first call, then 2, 3 and so on."""
+        """STATUSES_IN_RUST calls a made-up library: each function returns 1 at its first call, then 2, 3 and so on."""
         listed = re.findall(r"FFOSOLVE_(\w+) = (\d+)", PREFIX.text.split("enum ffosolve_status {")[1].split("}")[0])
         self.assertEqual(listed, [(it.name, str(it.value)) for it in ffosolve.Status])
         source = "".join(f"int {name}(void) {{ static int status; return ++status; }}\n" for name in PREFIX.calls)

@@ -327,7 +327,7 @@ class Progress(unittest.TestCase):
         self.enterContext(mock.patch("time.monotonic", lambda: self.now))
 
     def progress(self, texts, lines=1):
-        """Returns the engine.Progress (the work left) of a run of the parts `texts`, each counted as `lines` lines."""
+        """Returns an engine.Progress (what is left to do) for parts of a list, `texts`, each taken as `lines` lines."""
         a_run = folder.Run.__new__(folder.Run)
         a_run.lines, a_run.all_lines, a_run.parts, a_run.text = lines, len(texts) * lines, len(texts), texts.__getitem__
         return engine.Progress(a_run, range(len(texts)), 20)

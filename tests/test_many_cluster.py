@@ -29,7 +29,7 @@ def setUpModule():
 
 class Interfaces(unittest.TestCase):
     def test_the_calls_of_later_versions_of_dask_are_used(self):
-        """Dask is a mock. Of its cluster's workers, h1 is ready and h2 is not. Finally, neither can solve part 0."""
+        """Dask is a mock with two workers: h1 is ready, h2 is not. In the end, neither of them can take part 0."""
         dask, workers = mock.Mock(WorkerPlugin=object), {"h1": (None, 2, "h1", 2, []), "h2": (None, None, "h2", 7, [])}
         client, pool = dask.Client.return_value, dask.Client.return_value.get_executor.return_value
         client.status = "running"
@@ -59,8 +59,8 @@ class Cluster(Case):
         self.start_scheduler()
 
     def daemon(self, name, *command, **places):
-        """Starts a command of Dask, with `places` added to its environment, and returns its process, which logs to
-        NAME.log and ends with the test. A scheduler is told to remove workers that are silent for 5 seconds."""
+        """Starts Dask's scheduler or a worker with `places` added to the environment. Returns the process: it logs to
+        NAME.log and ends with the test. The scheduler removes workers that are silent for 5 seconds."""
         settings = {"DASK_DISTRIBUTED__SCHEDULER__WORKER_TTL": "5s", "DASK_DISTRIBUTED__COMM__TIMEOUTS__CONNECT": "3s"}
         with open(f"{name}.log", "wb") as log:
             ran = self.start(*command, "--no-dashboard", stdout=log, stderr=log, start_new_session=True,
@@ -76,7 +76,7 @@ class Cluster(Case):
         self.port = Path("scheduler.json").read_text().partition("tcp://127.0.0.1:")[2].partition('"')[0]
 
     def start_workers(self, *names, **places):
-        """Starts workers, each with one thread, and waits until they are registered. One that ends is started again."""
+        """Starts workers of one thread, and waits until they are registered. A shell starts each again when it ends."""
         command = ("sh", "-c", 'while :; do "$@"; sleep 0.1; done', "sh", PYTHON, "-m")
         for name in names:
             words = (f"127.0.0.1:{self.port}", "--nthreads=1", f"--local-directory=workers/{name}")

@@ -72,7 +72,7 @@ class Resuming(Case):
         report, book = results[:int(size)], results[int(size):]
 
         def record(report=report, book=book, part=1, status=0, complete=None):
-            """Returns the content of a part's file in work/results, by default part 1's, with the right checksum."""
+            """Returns part 1's file in work/results as it would be with these values and their right checksum."""
             asked = {"options": {**task["options"], "--complete": complete}}
             head = b"%d %d %d %b" % (status, len(report), len(book), seconds)
             return b"%b %b\n%b%b" % (head, solve.digest_of(asked, part, head, text, report + book), report, book)
@@ -249,12 +249,12 @@ class Signals(Case):
     WORDS = ("--jobs=2", "--lines=5", *Case.WORDS[1:])
 
     def open(self, *program, last=99):
-        """Starts `program` with WORDS in a new session. With many.ACTS, each part takes 45 s once `last` are solved."""
+        """Starts `program` with WORDS in a new session. If it is many.ACTS, parts take 45 s once `last` are solved."""
         places = {**os.environ, "PAUSE": "0.15", "LAST": str(last)}
         return self.start(*program, *self.WORDS, start_new_session=True, preexec_fn=as_at_a_login, env=places)
 
     def at_work(self, done):
-        """Starts a run of 12 parts; returns its process once `done` are solved and two others are being solved."""
+        """Starts a run of 12 parts; returns its process once `done` parts are solved and two are being solved."""
         ran = self.open(many.ACTS, last=done)
         wait_until(lambda: self.parts_solved() >= done)
         wait_until(lambda: sum("program-0" in words for words in processes_in(self.folder).values()) == 2)

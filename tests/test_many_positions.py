@@ -16,7 +16,7 @@ REFUSED = ((SHARED, ffosolve.SharedSquare), (WIDE, ffosolve.TooManyEmpties))
 
 
 def meeting(library, count):
-    """Returns a mock that passes calls to `library`, those for many positions only once `count` of these have begun."""
+    """Returns a mock that passes calls to `library`. Calls for many positions first wait until `count` have begun."""
     at_once, mocked = threading.Barrier(count), mock.Mock(wraps=library)
 
     def wait(*words):
@@ -137,7 +137,7 @@ class Arrays(unittest.TestCase):
         self.own, self.opp = self.numpy.array(self.positions, "uint64").T
 
     def same_as_lists(self, solver, positions, threads):
-        """Asserts that `solve_arrays` and `move_scores_arrays` find what `solve_all` and `move_scores_all` find."""
+        """Asserts that solve_arrays and move_scores_arrays return, in arrays, what solve_all and move_scores_all do."""
         own, opp = self.numpy.array(positions, "uint64").reshape(-1, 2).T
         answers, scores = (call(own, opp, threads=threads) for call in (solver.solve_arrays, solver.move_scores_arrays))
         self.assertEqual([str(array.dtype) for array in (*answers, scores)], ["int32", "int32", "uint64", "int8"])

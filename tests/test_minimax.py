@@ -36,8 +36,8 @@ class RandomPositions(InFolder):
             cls.rows = list(zip(Scoring, zip(*pool.map(solved, positions, chunksize=20))))
 
     def compare(self, scoring, row, number):
-        """Asserts that a Solver's methods for one position find what `row`, an item of `solved`, says; of `play`, only
-        that it refuses what is no move. `number` chooses the table's size, and a right or wrong claim for `confirm`."""
+        """Asserts that a Solver's methods find what `row`, an item of what `solved` returns, says of a position; `play`
+        must refuse illegal moves. `number` chooses the table's size, and a right or wrong claim for `confirm`."""
         position, wanted, scores = row
         legal, solver = player.moves(*position), Solver(scoring=scoring, entries=(0, 1, 64, 1024)[number % 4])
         claims = wanted, wanted._replace(score=wanted.score + number % 5), wanted._replace(best=wanted.best ^ number)

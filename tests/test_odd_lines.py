@@ -1,4 +1,4 @@
-"""Python, C and ffosolve read OBF lines with random faults alike; Python and C also tests/rows/ffosolve/lines.tsv."""
+"""Python, C and ffosolve read lines with random faults alike; Python and C read tests/rows/ffosolve/lines.tsv, too."""
 import random
 import re
 import unittest
@@ -21,7 +21,7 @@ def odd_line(chance, lines):
 
 
 def read(source, reader=ffosolve.parse_lines):
-    """Reads `source` by a function of the package for Python. Returns {line number: row} without blank lines and
+    """Reads `source` by `reader`, a function of the Python package. Returns {line number: row} without blank lines and
     comments. A row is `OWN OPP SIDE MOVE:SCORE ..`, with masks of 16 hex digits, or `refused: ` and the reason."""
     refused = []
     rows = {line.number: f"{line.own:016x} {line.opp:016x} {line.side}" + "".join(" %s:%s" % it for it in line.listed)
@@ -30,7 +30,7 @@ def read(source, reader=ffosolve.parse_lines):
 
 
 def read_in_c(text):
-    """Returns the same as `read` for a text, but from the library's function ffosolve_read_line."""
+    """Returns what `read` returns for a text, but reads each line by the library's function ffosolve_read_line."""
     rows, lines = {}, [line.removesuffix(b"\r") for line in text.split(b"\n")]
     printed = PREFIX.called(f"read_line 8 {line.hex()}" for line in lines)
     for number, (status, *words) in enumerate(map(str.split, printed), 1):
@@ -68,7 +68,7 @@ class OddLines(unittest.TestCase):
         self.assertLessEqual({"agree", "differ", "unlisted", *(f"refused: {why}" for why in refused)}, kinds)
 
     def reported(self, solver, row):
-        """Returns what ffosolve must report, after the line number, for a line for which `read` returns `row`."""
+        """Returns what ffosolve --max-empties=20 prints after the number of a line for which `read` returns `row`."""
         if "refused" in row:
             return row
         own, opp, _, *listed = row.split()

@@ -1,4 +1,4 @@
-"""The programs and the crates' tests if they lack memory: in run n, the nth request for memory is refused."""
+"""ffosolve, ffoscores and the crates' tests without enough memory: in run n, the nth request for memory is refused."""
 import re
 import tempfile
 from pathlib import Path
@@ -76,7 +76,7 @@ class Crates(InFolder):
     @classmethod
     def setUpClass(cls):
         """Builds CRATE_TESTS by `rt test` if it is missing or older than a source of the crates. `rt test` proves the
-        crates first, which takes minutes unless they were proved before, by it or by `rt ci`."""
+        crates first, which takes minutes unless `rt test` or `rt ci` has proved them before."""
         newest = max(path.stat().st_mtime for path in ROOT.glob("crates/*/src/**/*.rt"))
         if not CRATE_TESTS.exists() or CRATE_TESTS.stat().st_mtime < newest:
             need("rt")

@@ -1,4 +1,4 @@
-"""Position in Python: its rules (those of bench/player.py), its boards as text and pictures; a Solver's max_empties."""
+"""The class Position: its rules, compared with bench/player.py, its text and pictures. The max_empties of a Solver."""
 import functools
 import io
 import itertools
@@ -159,7 +159,7 @@ class Shown(unittest.TestCase):
             self.assertRaisesRegex(error, f"^{why}$", Position.from_obf(BOARD).show, scores, side)
 
     def picture(self, svg):
-        """Returns a function of x and y, in pixels from the left and the top, that returns a picture's colour there."""
+        """Returns a function from x and y, in pixels from the left and the top, to the picture's colour there (hex)."""
         need("rsvg-convert")
         xml.etree.ElementTree.fromstring(svg)
         png = run("rsvg-convert", input=svg.encode(), check=True).stdout

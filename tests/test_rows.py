@@ -1,7 +1,7 @@
 """Output worked out from the rules, books that are read or refused, and files and streams that end or fail.
 
-In the tables of tests/rows/PROGRAM, a row's last cell is a line of a list. Each other cell is what PROGRAM prints for
-that line, without its number, with the options that head the column. A column `read` is for test_odd_lines.py."""
+In the tables of tests/rows/PROGRAM (ffosolve or ffoscores), a row's last cell is a line of a list. Each other cell is
+what PROGRAM prints for the line, without number, with the options at the column's head (`read`: test_odd_lines.py)."""
 import os
 import re
 from pathlib import Path
@@ -47,7 +47,7 @@ def whole_lines(lines):
 
 
 def report(cells):
-    """Returns the ffosolve report whose rows are these cells after the numbers 1, 2, ..; an empty cell makes no row."""
+    """Returns the report of ffosolve with a row for each cell that is not empty: its number, from 1, and the cell."""
     rows = [b"%d %s" % row for row in enumerate(cells, 1) if row[1]]
     refused = sum(b" refused: " in row for row in rows)
     return whole_lines([b"[1]", *rows, b"solved %d refused %d" % (len(rows) - refused, refused)])
@@ -66,7 +66,7 @@ class Rows(InFolder):
                         self.ends(wanted, built(name), "--max-empties", "20", *words.split(), input=text)
 
     def reads(self, text, error):
-        """Asserts that ffosolve reads a text as a book or, if `error` is not empty, reports `book line ERROR`."""
+        """Asserts that ffosolve reads a text as a book or, if `error` is not empty, reports `book line` and it."""
         Path("it.book").write_bytes(text)
         wanted = (3, b"", f"ffosolve: book line {error}\n".encode()) if error else (0, NOTHING, b"")
         with self.subTest(text=text[-100:]):
@@ -108,7 +108,7 @@ class Rows(InFolder):
         self.ends((0, b"[1]\n1 +64 -- unlisted\nsolved 1 refused 0\n", b""), built(), input=b"X" * MOST_BYTES)
 
     def test_an_error_in_any_file_is_reported_before_anything_is_printed(self):
-        """ffosolve reads a book before any list; ffoscores reads all lists before it checks how large and how many."""
+        """ffosolve reads a book before any list; ffoscores reads all lists, then checks their sizes and number."""
         write("list", TWO)
         write("large", b" " * (MOST_BYTES + 1))
         write("bad.book", b"?\n")

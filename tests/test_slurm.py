@@ -1,4 +1,4 @@
-"""The two jobs in docs/many-machines.md, run by Debian's slurm-wlm on one node. Needs root."""
+"""The two Slurm jobs in docs/many-machines.md, run by Debian's package slurm-wlm on one node. Needs root."""
 import os
 import re
 import socket

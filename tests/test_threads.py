@@ -19,7 +19,7 @@ def threads_of(process):
 
 class Files(InFolder):
     def solve(self, *words, **how):
-        """Runs ffosolve, with its book on standard error. Returns ((report, book), the most threads seen)."""
+        """Runs ffosolve, with its book on standard error. Returns ((report, book), the most threads seen at once)."""
         process, seen = self.start(built(), "--book-out", "/dev/stderr", *words, **how), []
 
         def has_ended():
@@ -57,7 +57,7 @@ class Files(InFolder):
 class Lines(InFolder):
     def same(self, *lists, **how):
         """Runs ffoscores on `lists` without workers, then with each number of WORKERS and with `how` given to `run`.
-        Asserts that all print the same, and that the latter end with status 1 if a line is refused, otherwise 0."""
+        Asserts that all runs print the same; all but the first end with 1 if a line is refused, otherwise with 0."""
         names = [write(f"{number}.obf", text) for number, text in enumerate(lists)]
         words = built("ffoscores"), *names, "--workers"
         printed = run(*words, 0).stdout
