@@ -14,7 +14,7 @@
 //! the folder that `FFOSOLVE_LIB_DIR` names when it is built; otherwise where pkg-config says, or in `/usr/local/lib`.
 //!
 //! Calls share nothing, so threads may call at the same time. A call can't be stopped, and two more empty squares take
-//! some 3 to 16 times as long. A program that has to be able to stop a call makes it in a process of its own. For 14
+//! some 2 to 20 times as long. A program that has to be able to stop a call makes it in a process of its own. For 14
 //! empty squares a call needs up to 32 KiB of stack, and for 60 up to 128 KiB.
 
 mod errors;
