@@ -1,7 +1,7 @@
-"""Games for tests: transcripts, records of WTHOR files, and lists with their reports.
+"""Games for tests: transcripts, records of WTHOR files, and the lists of ffosolve-games with ffosolve's reports.
 
 A position is (own, opp, is_black): the masks of the mover's and the other side's discs, and whether Black moves. In a
-WTHOR file, a game has a theoretical score, by perfect play from one of its positions, and a real one, at its end."""
+WTHOR file, a game has two scores, in Black's discs: theoretical, after perfect play from a position, and real."""
 import hashlib
 import random
 import struct
@@ -17,7 +17,7 @@ SQUARE_BYTES = [10 * row + column for row in range(1, 9) for column in range(1, 
 
 
 def random_games(count, seed):
-    """Returns the moves of `count` random games up to their ends: squares 0 (A1) to 63 (H8), and None for each pass."""
+    """Returns the list of moves of each of `count` whole random games: squares 0 (A1) to 63 (H8), None for a pass."""
     rng = random.Random(seed)
     games = (player.random_game(rng) for _ in range(count))
     return [[move.bit_length() - 1 if move else None for *_, move in game][1:] for game in games]
@@ -40,13 +40,13 @@ def positions_of(squares):
 
 
 def discs_of_black(position):
-    """The number of Black's discs after perfect play from a position; the winner also gets the empty squares."""
+    """Black's discs after perfect play from a position. The winner also gets the empty squares; a draw is 32."""
     score = player.values(*position[:2])[0]
     return 32 + (score if position[2] else -score) // 2
 
 
 def real_score(game):
-    """Returns the real score of a game: the `discs_of_black` at its end, or 40 if the moves stop before that."""
+    """Returns the real score of a game: the `discs_of_black` at its end, or 40 if its moves stop before the end."""
     positions = positions_of(game)
     own, opp, _ = last = positions[min(positions)]
     return 40 if player.moves(own, opp) or player.moves(opp, own) else discs_of_black(last)
@@ -76,7 +76,7 @@ def line_of(position, comment):
 
 
 def with_digest(lines):
-    """Returns the text `lines` and, if it has a theoretical score, its digest: 4 lines with a checksum of the rest."""
+    """Returns the list `lines` and, if it has a theoretical score, its digest: 4 lines with a checksum of its games."""
     if ", theoretical score " not in lines:
         return lines
     games = [line for line in lines.splitlines(True) if line.strip() and not line.startswith("%")]
@@ -86,8 +86,8 @@ def with_digest(lines):
 
 
 def report_of(listed, refused=None):
-    """Returns ffosolve's report of a list, with the right scores, but `--` in place of all best moves. `refused` is
-    {number of a line that the report refuses: reason}."""
+    """Returns ffosolve's report of the list `listed`. A row has the right score, but `--` in place of the best moves.
+    `refused` is {number of a line that the report refuses: reason}."""
     rows, refused = [], refused or {}
     for number, line in enumerate(listed.splitlines(), 1):
         if line and line[0] != "%":
@@ -100,7 +100,7 @@ def report_of(listed, refused=None):
 
 
 class Case(InFolder):
-    """Has a whole random game: its squares GAME, its positions AT (see `positions_of`) and its WTHOR record RECORD."""
+    """Has a whole random game: its squares GAME, without passes; AT, its `positions_of`; and its WTHOR RECORD."""
 
     maxDiff = 2000
     GAME = squares_of(*random_games(1, seed=3))
@@ -108,8 +108,8 @@ class Case(InFolder):
     RECORD = record(GAME)
 
     def games(self, *words, status=None, out="", err="", **how):
-        """Runs ffosolve-games. Asserts its output, `with_digest(out)`, unless `out` is None; its errors, the lines of
-        `err`, each after the program's name; and its status, by default 1 if `err` has a line and otherwise 0."""
+        """Runs `ffosolve-games WORDS`. Asserts its output, `with_digest(out)`, unless `out` is None; its errors, the
+        lines of `err`, each after the program's name; and its status, by default 1 if `err` has a line, else 0."""
         ran = run(sys.executable, PROGRAM, *words, **how)
         self.assertEqual(ran.stderr.decode(), "".join(f"ffosolve-games: {line}\n" for line in err.splitlines()))
         if out is not None:
@@ -117,6 +117,6 @@ class Case(InFolder):
         self.assertEqual(ran.returncode, bool(err) if status is None else status)
 
     def reads(self, name, content, *words, **expected):
-        """Writes a file, and calls `games` with its name as the last word."""
+        """Writes `content` to the file `name`, and calls `games` with that name as the last word."""
         write(name, content)
         self.games(*words, name, **expected)

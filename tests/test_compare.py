@@ -1,4 +1,4 @@
-"""ffosolve-games compare prints which theoretical scores of a list are wrong; --fix writes corrected WTHOR files.
+"""`ffosolve-games compare` prints a list's wrong theoretical scores; --fix writes corrected copies of WTHOR files.
 A theoretical score is what a WTHOR file claims for perfect play from a position of a game."""
 import contextlib
 import itertools
@@ -89,7 +89,7 @@ class Compare(Case):
         self.compare(listed, report_of(listed), out="compared 8 differ 0 refused 0 unscored 2\n")
 
     def test_the_report_of_another_game_is_refused(self):
-        """Compares each of 100 lists, of one game each, with all 100 reports: only the list's own is accepted."""
+        """Compares each of 100 lists, of one game each, with the reports of all 100: only its own is accepted."""
         from ffosolve._published import Comparison, Unfit
 
         played = [positions for positions in map(positions_of, random_games(120, seed=8)) if 4 in positions]
@@ -149,7 +149,7 @@ def contents():
 
 class Fix(Case):
     """The file it.wtb has a few random games with theoretical scores, two of which are wrong, and then four more bytes.
-    The file `list` is what ffosolve-games prints for it, and `report` is the report of that list."""
+    The file `list` is what ffosolve-games prints for it.wtb, and `report` is the report of that list."""
 
     FIX = (sys.executable, PROGRAM, "compare", "list", "report", "--fix", "new.wtb")
 
@@ -167,20 +167,20 @@ class Fix(Case):
         self.err = f"new.wtb: theoretical scores changed 2 of {len(self.exact)}, not compared 0"
 
     def differences(self, name):
-        """Returns what `compare` prints if the WTHOR file of setUp is called `name`."""
+        """Returns what `compare` prints about it.wtb if that file is called `name` instead."""
         rows = [f"{name}, game {at + 1}: published {self.published[at]}, exact {self.exact[at]}, difference {less}\n"
                 for at, less in ((2, "-2"), (5, "+7"))]
         return "".join(rows) + f"compared {len(self.exact)} differ 2 refused 0 unscored 0\n"
 
     def write_list(self, *words, skipped=(), **how):
-        """Writes `list`, printed by `ffosolve-games WORDS`, and `report`, which refuses the line numbers `skipped`."""
+        """Writes `list`, printed by `ffosolve-games WORDS`, and its `report`, which refuses the lines `skipped`."""
         listed = run(PROGRAM, *words, **how).stdout.decode()
         write("list", listed)
         write("report", report_of(listed, dict.fromkeys(skipped, "5 empties, limit 4")))
 
     def fix(self, status, err, *words, place="new.wtb", written=None, out=None, **how):
-        """Runs `compare --fix`. Asserts its status, its errors and, unless `out` is None, its output. Asserts that it
-        writes the files in `written`, {path: content} or None for no file, and changes no other."""
+        """Runs `compare list report --fix PLACE WORDS`. Asserts its status, its errors and, unless `out` is None, its
+        output; that it writes the files `written`, {path: content}, by default none; and that it changes no other."""
         before = contents()
         self.games("compare", "list", "report", "--fix", place, *words, status=status, err=err, out=out, **how)
         self.assertEqual(contents(), {**before, **(written or {})})
@@ -195,7 +195,7 @@ class Fix(Case):
         self.fix(0, again, place="again.wtb", written={"again.wtb": self.wanted})
 
     def test_games_that_are_not_compared_stay_as_they_are(self):
-        """One game is refused in the report. Another has an illegal move, so it is not in the list."""
+        """One game is refused in the report. Another has a byte that is not a square, so it is not in the list."""
         self.records[0] = self.records[0][:8] + b"\x63" + self.records[0][9:]
         write("it.wtb", wthor(self.records, empties=5))
         self.write_list("it.wtb", skipped=[2])
@@ -209,7 +209,7 @@ class Fix(Case):
         self.fix(1, self.err, written={"new.wtb": self.wanted.removesuffix(b"more")})
 
     def test_real_scores_are_changed_only_if_asked(self):
-        """The first game's real score is wrong, the second game ends too early, and the third has an illegal move."""
+        """Game 1 has a wrong real score, game 2 ends too early, and game 3 has a byte that is not a square."""
         self.records[0] = more = record(self.played[0], self.published[0], real=70)
         self.records[1] = record(self.played[1][:-1], self.published[1], real=1)
         self.records[2] = self.records[2][:6] + b"\1" + self.records[2][7:67] + b"\x63"
@@ -233,7 +233,7 @@ class Fix(Case):
         self.fix(3, "new/one.wtb already exists and would be overwritten", place="new")
 
     def test_several_files_are_written_all_or_none(self):
-        """The second file is not the one that the list names, or its copy does not fit on the disk."""
+        """First the second file lacks a game that the list has, then it is larger than a run may write."""
         write("other/two.wtb", self.whole)
         os.mkdir("new")
         self.write_list("it.wtb", "other/two.wtb")
@@ -321,7 +321,7 @@ class Fix(Case):
         self.assertEqual(contents(), {**before, "new.wtb": self.wanted})
 
     def test_an_interrupted_run_leaves_no_file_under_the_name(self):
-        """Ctrl-C leaves no temporary file either, SIGKILL leaves one. Then the same command can write the file."""
+        """Ctrl-C leaves no temporary file either, but SIGKILL leaves one. A later run writes the file all the same."""
         write("it.wtb", wthor(self.records, empties=5, count=10 ** 8))
         os.truncate("it.wtb", 16 + 68 * 10 ** 8)
         for number in (signal.SIGINT, signal.SIGKILL):

@@ -1,4 +1,4 @@
-"""Games read by ffosolve-games and in Python: their positions agree with bench/player.py, the rules in plain code."""
+"""ffosolve-games and Python read games: the positions are those of bench/player.py, and what is wrong is reported."""
 import contextlib
 import gzip
 import inspect
@@ -26,8 +26,8 @@ class RandomGames(Case):
         cls.known = list(map(positions_of, cls.played))
 
     def prints(self, name, empties, known, more):
-        """Asserts that ffosolve-games prints a line with `more` at its end for each game in a file, or a message for a
-        game that ends before `empties` squares are empty. `known` has what `positions_of` returns for each game."""
+        """Asserts that ffosolve-games prints, for each game in the file `name`, a line ending with `more`, or a message
+        if no position has `empties` empty squares. `known` has what `positions_of` returns for each game."""
         out = err = ""
         for number, positions in enumerate(known, 1):
             left = min(positions)
@@ -187,7 +187,7 @@ class ReadByPython(InFolder):
     PLAYED = random_games(60, seed=66)
 
     def has_positions(self, read, game):
-        """Asserts that `read`, a Game or transcript, has the positions that `positions_of` returns for `game`."""
+        """Asserts that a Solver returns for `read`, a Game or transcript, the positions of `positions_of(game)`."""
         wanted = [player.line(*position) for position in positions_of(game).values()]
         self.assertEqual([position.to_obf() for position in Solver().positions(read)], wanted, read)
 

@@ -1,7 +1,7 @@
 """The build backend that pyproject.toml names (PEP 517 and 660): builds a wheel or a source archive of the package.
 
 This module needs only Python's standard library, so `pip install ./python` needs no network. The package's metadata
-are the file METADATA, and after it the docstring of src/ffosolve/__init__.py.
+are the text of the file METADATA, with the version, followed by the docstring of src/ffosolve/__init__.py.
 """
 import ast
 import base64
@@ -19,7 +19,7 @@ TAG = "py3-none-manylinux_2_34_x86_64" if LIBRARIES else "py3-none-any"  # the l
 
 
 def stored(*places):
-    """Returns the bytes of the first file that exists among `places`, which are paths relative to FOLDER."""
+    """Returns the bytes of the first of the files `places` that exists. Paths are relative to the folder `python`."""
     return next(path.read_bytes() for path in map(FOLDER.joinpath, places) if path.exists())
 
 

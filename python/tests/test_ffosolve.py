@@ -31,7 +31,7 @@ MANY = (Solver.solve_all, Solver.move_scores_all, lambda solver, positions: list
 
 
 def library_that_returns(status):
-    """Returns a stand-in for the library. Its functions return `status` and record their arguments."""
+    """Returns a stand-in for the library that records calls. Functions for answers and moves return `status`."""
     names = ("solve", "confirm", "solve_all", "move_scores_all", "moves", "play")
     return mock.Mock(**{f"ffosolve_{name}.return_value": status for name in names})
 
@@ -70,7 +70,7 @@ class Calls(unittest.TestCase):
         self.assertEqual(repr(POSITION.show()), str(POSITION))
 
     def test_a_position_keeps_its_colours(self):
-        """`board` is the position after f5 d6 c3: Black turns E5, then White turns D5, and then Black turns D4."""
+        """`board` has the squares after f5 d6 c3: Black turns E5, then White turns D5, and then Black turns D4."""
         board, at = "-" * 18 + "X" + "-" * 8 + "XX" + "-" * 6 + "OXX" + "-" * 5 + "O" + "-" * 20, START
         for square, side in (("f5", "O"), ("d6", "X"), ("c3", "O")):
             at = self.solver.play(at, square)
@@ -97,7 +97,7 @@ class Calls(unittest.TestCase):
         self.assertEqual(self.solver.library_version, ffosolve.__version__)
 
     def test_the_library_gets_the_scoring_the_size_of_the_table_and_the_claim(self):
-        """By default, the size of the table is the one for the position with the most empty squares."""
+        """By default, the table has the size that `table_entries` gives for the most empty squares of a position."""
         for settings, scoring, entries in (({}, 0, ffosolve.table_entries(52)), ({"scoring": 2, "entries": 7}, 2, 7)):
             solver = Solver(max_empties=60, **settings)
             library = solver._library = library_that_returns(0)

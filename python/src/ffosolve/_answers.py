@@ -38,8 +38,8 @@ ENDS = {Kind.PASS: "PS", Kind.OVER: "--"}
 
 
 class Answer(NamedTuple):
-    """The score of a position for the side to move, -64 to 64; how that is reached; and the mask of all best moves, 0
-    if `kind` is PASS or OVER. Prints as `+62 A1,H1`, for a pass as `-04 PS`, for a finished game as `+32 --`."""
+    """The score of a position for the side to move, -64 to 64; how it gets that score; and the mask of all best moves,
+    0 if `kind` is PASS or OVER. Prints as `+62 A1,H1`, for a pass as `-04 PS`, for a finished game as `+32 --`."""
 
     score: int
     kind: Kind

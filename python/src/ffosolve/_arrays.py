@@ -20,9 +20,9 @@ class Answers(NamedTuple):
 
 
 def slices_of(solver: Solver, masks: Any, threads: int) -> List[Tuple[slice, int]]:
-    """Cuts positions, the rows (own, opp) of `masks`, into parts; if `threads` is 1, into one. Returns a pair for each
-    part: the slice of its rows, and the greatest number of empty squares in one of its positions. Raises the refusal of
-    the first refused position."""
+    """Cuts an array of positions into parts; if `threads` is 1, into one. A row of `masks` is a position: the masks of
+    the mover's and of the other side's discs. Returns, for each part, the slice of its rows and the greatest number of
+    empty squares in a position. Raises SharedSquare or TooManyEmpties for the first refused position."""
     own, opp = masks[:, 0], masks[:, 1]
     empties = 64 - SIZES[(own | opp).view(numpy.uint8)].reshape(-1, 8).sum(axis=1, dtype=numpy.int64)
     for index in numpy.flatnonzero((own & opp != 0) | (empties > solver.max_empties)).tolist():
@@ -36,8 +36,8 @@ def slices_of(solver: Solver, masks: Any, threads: int) -> List[Tuple[slice, int
 
 def found_by(solver: Solver, call: Any, record: Any, own: Any, opp: Any, threads: int) -> List[Any]:
     """Solves positions by `call`, a function of the library that writes a `record` (a C structure) for each position.
-    Returns an array for each member of `record`. Raises TypeError unless the masks `own` and `opp` are of uint64,
-    ValueError unless they have one dimension and equal lengths, and the refusal of the first refused position."""
+    Returns an array for each member of `record`. Raises TypeError unless `own` and `opp`, the mover's and the other
+    side's masks, are arrays of uint64, ValueError unless these have one dimension and equal lengths, and Refused."""
     own, opp = numpy.asarray(own), numpy.asarray(opp)
     if own.dtype != numpy.uint64 or opp.dtype != numpy.uint64:
         raise TypeError("the masks are arrays of uint64")

@@ -31,8 +31,8 @@ PartOrRefusal = Union[Part, Refused]
 
 
 def parts_of(positions: Iterable[Sequence[int]], max_empties: int, whole: bool = False) -> Iterator[PartOrRefusal]:
-    """Yields Parts of `positions`; if `whole`, only one. If a position is refused, the last Part ends before it and
-    may be empty; then comes the refusal. Raises TypeError for another object, and ValueError for most wrong masks."""
+    """Yields Parts of `positions`; if `whole`, one at most. At a refused position, yields the Part that ends before it,
+    maybe empty, and last a Refused. Raises TypeError for what is no position, ValueError for most wrong masks."""
     clock = time.monotonic
     before, most, weight, part, end = 0, 0, 0, [], clock() + MOST_SECONDS  # type: ignore[var-annotated]
     for position in positions:
@@ -62,8 +62,8 @@ def checked_threads(threads: int) -> int:
 
 
 def in_order(call: Callable[[A], Iterable[B]], parts: Iterable[A], threads: int) -> Iterator[B]:
-    """Calls `call` with each of `parts`, on up to `threads` threads. Yields the items that each call returns, in the
-    order of `parts`."""
+    """Calls `call` with each of `parts`, on up to `threads` new threads or, if `threads` is 1, on the caller's. Yields
+    the items that the calls return, in the order of `parts`."""
     if threads == 1:
         for part in parts:
             yield from call(part)
@@ -91,7 +91,7 @@ def in_order(call: Callable[[A], Iterable[B]], parts: Iterable[A], threads: int)
 
 def interruptible(call: Callable[..., A], count: int, empties: int, *arguments: Any) -> A:
     """Makes a call of the library for `count` positions with at most `empties` empty squares, and returns its result.
-    The main thread leaves a call that is not brief to another thread, if one can start, so Ctrl-C ends the wait."""
+    On the main thread, a call that may take long (see BRIEF) runs on a new one if possible, so Ctrl-C ends the wait."""
     is_brief = count << 2 * max(0, empties - LIGHTEST) <= BRIEF
     if is_brief or threading.current_thread() is not threading.main_thread():
         return call(*arguments)
@@ -104,8 +104,8 @@ def interruptible(call: Callable[..., A], count: int, empties: int, *arguments: 
 
 
 def start_worker(tasks: Iterable[Any]) -> None:
-    """Starts a daemon thread. For each (Future, function, arguments..) of `tasks` whose Future is not cancelled, the
-    thread calls the function with the arguments, and stores the result or the exception in the Future."""
+    """Starts a daemon thread, which takes (Future, function, arguments..) from `tasks`. If the Future is not cancelled,
+    the thread calls the function with the arguments, and stores the result or the exception in the Future."""
 
     def work() -> None:
         for future, call, *arguments in tasks:

@@ -33,14 +33,14 @@ def table_entries(empties: int) -> int:
 
 
 class Solver:
-    """Solves positions under a scoring. Keeps nothing between calls. Several threads may use the same Solver at once.
+    """Solves positions under a scoring. Keeps no results between calls. Several threads may use one Solver at once.
 
     `library` is the path of the shared library. By default, it is the path in the environment variable FFOSOLVE_LIBRARY
-    or, if that is not set, the first library that loads: one in this package, in the system's library folders, in the
-    folder `lib` of this Python, or in /usr/local/lib. `scoring` is a Scoring, its number, or its name such as "winner".
-    `entries` is the size of the table, 0 to MOST_ENTRIES; by default, `table_entries` chooses it by the empty squares.
-    A position with more than `max_empties` empty squares, 0 to MOST_EMPTIES, is not solved, since that might take
-    hopelessly long. Raises LibraryNotFound, UnknownScoring, TooManyEntries, ValueError and TypeError.
+    or, if that is empty or not set, the first library that fits: in this package, in the system's library folders, in
+    `lib` of the virtual environment or Python, or in /usr/local/lib. `scoring` is a Scoring, its number, or its name
+    such as "winner". `entries` is the size of the table, 0 to MOST_ENTRIES; by default, `table_entries` chooses it by
+    the empty squares. A position with more than `max_empties` empty squares, 0 to MOST_EMPTIES, is refused, since it
+    might take hopelessly long. Raises LibraryNotFound, UnknownScoring, TooManyEntries, ValueError and TypeError.
     """
 
     def __init__(self, library: Union[str, "os.PathLike[str]", None] = None, *,
@@ -89,9 +89,9 @@ class Solver:
         return self._score_part(Part([position], self._checked_empties(position)))[0]
 
     def solve_all(self, positions: Iterable[Position], *, threads: int = 1) -> List[Answer]:
-        """The answers for positions, in their order. One thread uses one table for all positions; several threads cut
-        the list into parts, and use a table for each part. Raises the same as `solve`; all positions are checked before
-        any is solved, and SharedSquare and TooManyEmpties have the `index` of the first refused position."""
+        """The answers for positions, in their order. One thread uses one table for all positions; for several threads,
+        the list is cut into parts, each with its own table. Raises the same as `solve`. SharedSquare and TooManyEmpties
+        come before any position is solved, and have the `index` of the first refused position."""
         parts = self._all_parts(positions, whole=checked_threads(threads) == 1)
         return list(in_order(self._solve_part, parts, threads))
 
@@ -128,11 +128,11 @@ class Solver:
         return found_by(self, call, CMoveScores, own, opp, checked_threads(threads))[0]
 
     def moves(self, position: Position) -> int:
-        """The mask of the legal moves; `Position.legal_moves` has names. Raises SharedSquare, ValueError, TypeError."""
+        """The mask of legal moves; `Position.legal_moves` names them. Raises SharedSquare, ValueError and TypeError."""
         return moves(self._library, position)
 
     def play(self, position: Position, square: Union[int, str]) -> Position:
-        """The position after a move, as `Position.play` returns it, by the rules of this solver's library."""
+        """Returns and raises what `Position.play` does, but asks this Solver's library, not the one loaded first."""
         return Position(*play(self._library, position, square), OTHER[getattr(position, "side", "X")])
 
     def positions(self, game: Union[Game, str]) -> List[Position]:
@@ -148,7 +148,7 @@ class Solver:
         return table_entries(empties) if self._entries is None else self._entries
 
     def _checked_empties(self, position: Sequence[int]) -> int:
-        """How many squares of a position are empty. Raises SharedSquare, TooManyEmpties, ValueError and TypeError."""
+        """Returns how many squares are empty, or raises SharedSquare, TooManyEmpties, TypeError or ValueError."""
         empties, (own, opp) = empties_of(position), position
         if own & opp or empties > self._max_empties:
             raise refusal_for(position, self._max_empties)
@@ -161,7 +161,7 @@ class Solver:
         return Answer(answer.score, KINDS[answer.kind], answer.best)
 
     def _all_parts(self, positions: Iterable[Position], whole: bool = False) -> List[PartOrRefusal]:
-        """Returns positions in parts; if `whole`, all in one. Raises the refusal of the first refused position."""
+        """Returns the Parts that `parts_of` yields; if it yields a Refused, raises that instead."""
         parts = list(parts_of(positions, self._max_empties, whole))
         if parts and isinstance(parts[-1], Refused):
             raise parts[-1]
@@ -177,7 +177,7 @@ class Solver:
 
     def _found_for(self, part: PartOrRefusal, call: Any, record: Any) -> Any:
         """Calls `call`, a function of the library, and returns the array that it writes: a `record` (a C structure) for
-        each position of `part`. Raises `part` if that is a refusal."""
+        each position of `part`. Raises `part` if it is a Refused, and another if the library refuses the call."""
         if isinstance(part, Refused):
             raise part
         found = (record * len(part.positions))()
@@ -185,8 +185,8 @@ class Solver:
         return found
 
     def _fill(self, found: Any, call: Any, asked: Any, empties: int) -> None:
-        """Calls `call`, a function of the library, which writes a record to `found` for each position in `asked`. No
-        position has more than `empties` empty squares."""
+        """Calls `call`, a function of the library that writes a record to `found` for each position of `asked`. None of
+        these has more than `empties` empty squares. Raises a Refused if the library refuses the call."""
         count = len(asked)
         more = asked, count, self._scoring, self._entries_for(empties), found, count, ctypes.c_size_t()
         accept(interruptible(call, count, empties, *more))
