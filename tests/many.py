@@ -102,7 +102,7 @@ class Case(InFolder):
         self.assertEqual(Path(name).read_bytes(), Path("one.book").read_bytes())
 
     def files(self):
-        """Returns {path: (content, mode)} of everything below the test's folder; content is False if it is no file."""
+        """Returns {path: (content, mode)} of everything below the test's folder, with content False for a non-file."""
         return {path: (path.is_file() and path.read_bytes(), path.lstat().st_mode) for path in Path(".").rglob("*")}
 
     def refused(self, status, message, *words, **how):

@@ -1,7 +1,7 @@
 """Output worked out from the rules, books that are read or refused, and files and streams that end or fail.
 
-In the tables of tests/rows/PROGRAM (ffosolve or ffoscores), a row's last cell is a line of a list. Each other cell is
-what PROGRAM prints for the line, without number, with the options at the column's head (`read`: test_odd_lines.py)."""
+In the tables of tests/rows/PROGRAM, a row's last cell is a line of a list. Each other cell is what PROGRAM prints for
+that line, without the line's number, with the options that head the column. `read` is for test_odd_lines.py."""
 import os
 import re
 from pathlib import Path
@@ -66,7 +66,7 @@ class Rows(InFolder):
                         self.ends(wanted, built(name), "--max-empties", "20", *words.split(), input=text)
 
     def reads(self, text, error):
-        """Asserts that ffosolve reads a text as a book or, if `error` is not empty, reports `book line` and it."""
+        """Asserts that ffosolve reads text as a book or, unless `error` is empty, reports `book line ` and `error`."""
         Path("it.book").write_bytes(text)
         wanted = (3, b"", f"ffosolve: book line {error}\n".encode()) if error else (0, NOTHING, b"")
         with self.subTest(text=text[-100:]):
