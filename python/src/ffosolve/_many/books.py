@@ -1,4 +1,4 @@
-"""Merges books: those of the parts of a list, or those that the command line names."""
+"""Merges books: those of the parts of a run (see `Run` in folder.py), or those that the command line names."""
 import heapq
 import io
 import itertools
@@ -18,7 +18,7 @@ ENTRY = re.compile(rb"[XO-]{64} X;(?: (?:[A-H][1-8]|PS|--):[+-]\d\d;)+\n")  # a 
 
 
 def lines_of(path):
-    """Yields the lines of a file. Closes the file between reads, since too many books might be open otherwise."""
+    """Yields the lines of a book's file. Closes the file between reads, since too many might be open otherwise."""
     lines, at = [b""], 0
     while lines:
         with path.open("rb") as file:
@@ -28,8 +28,8 @@ def lines_of(path):
 
 
 def entries_of(lines, name):
-    """Yields (masks, (name, line number), text) for each entry. `masks`, by which a book is sorted, are X's and O's
-    squares as numbers; `text` is as ffosolve writes it. Raises ValueError if a line is malformed or lists no move."""
+    """Yields (masks, (name, line number), text) for each position in `lines`. Books are sorted by `masks`: X's and O's
+    squares as bits; `text` is the line in ENTRY's form. Raises ValueError if a line is malformed or lists no move."""
     for number, text in enumerate(lines, 1):
         if not ENTRY.fullmatch(text):
             try:
@@ -44,8 +44,8 @@ def entries_of(lines, name):
 
 
 def merged(names, books):
-    """Yields the lines of one book with all entries of `books`, each an iterable of lines; `names` has their names for
-    messages. Refuses different scorings, and entries that disagree. Raises ValueError if it finds a book wrong."""
+    """Yields the lines of one book with all positions of `books`, each an iterable of lines; `names` has the names of
+    these books. Refuses two scorings, and lines that disagree. Raises ValueError at a malformed or repeated line."""
     books = list(map(iter, books))
     firsts = [next(book, b"") for book in books]
     scorings = [first.decode("latin-1").removeprefix("% ffobook 2 ").rstrip() if first.startswith(b"% ffobook ")
@@ -67,7 +67,7 @@ def merged(names, books):
 
 
 def book_of(run, folder):
-    """Yields the lines of a run's book. Merges BATCH parts' books at a time to files in `folder`, then merges those."""
+    """Yields the lines of a run's book. Merges the parts' books, BATCH to a file in `folder`, then merges the files."""
     paths, books = [], (io.BytesIO(book) for _, _, book, _ in run.solved())
     while batch := list(itertools.islice(books, BATCH)):
         paths.append(Path(folder, f"{len(paths)}.book"))
@@ -78,7 +78,7 @@ def book_of(run, folder):
 
 
 def merge_books(command, programs):
-    """Merges the books that a command names, to standard output or to the file of --book-out; returns the status."""
+    """Merges the books that a command from `parse` names; prints the result or writes --book-out. Returns a status."""
     if not command.words:
         raise misused("--merge-books needs the name of a book")
     program, names = Program(programs, "ffosolve"), list(map(shown, command.words))

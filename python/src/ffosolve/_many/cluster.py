@@ -1,4 +1,4 @@
-"""Solves parts on the workers of a Dask cluster."""
+"""Solves the parts of a run (see `Run` in folder.py) on the workers of a Dask cluster."""
 import asyncio
 import contextlib
 import logging
@@ -24,8 +24,8 @@ MOST_FAILS = 3  # parts failed in a row, after which a worker is left out
 
 
 class Plugin(distributed.WorkerPlugin):
-    """Copies a run's programs and --book-in to each worker, also to one that joins later. If a program works there, the
-    worker gets Dask's resource `name`, which each part needs; otherwise Dask's metric `name` says what is wrong."""
+    """Copies a run's programs and --book-in to each worker, also to one that joins later. If one of the programs works
+    there, the worker gets Dask's resource `name`, which each part needs; if not, the metric `name` says why."""
 
     def __init__(self, name, task, files):
         self.name, self.task, self.files = name, task, files
@@ -47,8 +47,8 @@ class Plugin(distributed.WorkerPlugin):
         return fit_program(self.task, self.folder)[0]
 
     def solve(self, number, text):
-        """Runs on the worker. Returns its address, then the two values of `solve.solve` for a part. Kills the program
-        once Dask has taken the part from this worker, or `teardown` has removed the program's file."""
+        """Runs on the worker. Returns the worker's address and the two values that `solve` of solve.py returns for a
+        part. Kills the program once Dask has taken the part from this worker, or `teardown` has removed the folder."""
         key = self.worker.get_current_task()
 
         def is_wanted():
@@ -64,7 +64,7 @@ class Plugin(distributed.WorkerPlugin):
 def look_at(name, left_out, dask_scheduler):
     """Runs on the scheduler. Sets the resource `name` of the workers `left_out` to 0. Returns three values: whether the
     scheduler has the plugin `name`; {worker's address: (metric `name` or None, resource `name` or None, host, number of
-    threads, parts sent there)}; and the parts that no worker can take."""
+    threads, parts sent to the worker, oldest first)}; and the parts that no worker can take now."""
     def parts_of(tasks):
         keys = sorted(task.key for task in tasks if str(task.key).startswith(name))
         return [int(key.rpartition("-")[2]) for key in keys]
@@ -76,7 +76,7 @@ def look_at(name, left_out, dask_scheduler):
 
 
 class Cluster:
-    """The workers of a Dask cluster. Like `engine.Threads`, an engine: what solves parts for `engine.solve_parts`."""
+    """The workers of a Dask cluster, as an engine: an object that solves parts for `solve_parts` of engine.py."""
 
     tries = 3  # after which a part has failed
     room = 0  # how many parts may be submitted but unfinished at a time
@@ -100,7 +100,7 @@ class Cluster:
         self.pool = self.client.get_executor(pure=False, resources={self.name: 1})
 
     def submit(self, number, failed):
-        """Submits a part, if possible to a worker whose address is not in `failed`; returns what `result` takes."""
+        """Submits a part, if possible to a worker whose address is not in `failed`. Returns a future for `result`."""
         name, key = self.name, f"{self.name}-{time.monotonic_ns():020d}-{number}"
         others = [address for address in self.ready if address not in failed] if failed else []
         return self.pool.submit(lambda *words: distributed.get_worker().plugins[name].solve(*words), number,
@@ -123,8 +123,8 @@ class Cluster:
         self.ready.pop(machine, None)
 
     def look(self, flying):
-        """Notes ready workers, leaves out those where no program works, and cancels parts that none can take. Returns
-        {part: host} of parts being solved. If the scheduler is silent, returns {}; after LOST_SECONDS, ends the run."""
+        """Notes ready workers, leaves out workers where no program works, and cancels parts that no worker can take.
+        Returns {part: host} of parts being solved, or {} if the scheduler is silent. After LOST_SECONDS, refuses."""
         running, self.ready, self.room = {}, {}, 0
         try:
             if self.client.status != "running":
@@ -152,6 +152,6 @@ class Cluster:
         return running
 
     def close(self):
-        """Makes the workers remove the program, and waits at most a second until they have."""
+        """Makes the workers remove the files that `Plugin` copied, and waits at most a second until they have."""
         with contextlib.suppress(Exception):
             self.client.sync(self.client.unregister_worker_plugin, self.name, callback_timeout=1)

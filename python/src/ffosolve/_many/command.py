@@ -1,4 +1,4 @@
-"""Runs ffosolve-many: reads its command line, solves the list, and prints the results."""
+"""Runs ffosolve-many: reads its command line, and then solves a list and prints the results, or merges books."""
 import argparse
 import contextlib
 import os
@@ -69,7 +69,7 @@ OPTIONS = {
 
 
 class Once(argparse.Action):
-    """An option that may be given once. Its value is UTF-8, not empty; if `const` is set, an int from 1 to `const`."""
+    """An option that may be given only once. Its value is UTF-8, not empty; with `const`, an int from 1 to `const`."""
 
     def __call__(self, parser, namespace, value, option_string=None):
         if getattr(namespace, self.dest) is not None:
@@ -82,8 +82,8 @@ class Once(argparse.Action):
 
 
 def parse(words):
-    """Returns a namespace with the options of a command line and, as `words`, its other arguments. With --help, the
-    namespace's `help` is the text to print, and `words` is not set. Refuses wrong options, and an empty word."""
+    """Returns a namespace with the options of the command line `words` and, as its own `words`, the other arguments.
+    Refuses wrong options, and an empty word. With --help, only the namespace's `help` is of use: the text to print."""
     parser = argparse.ArgumentParser(NAME, USAGE, WHAT, MORE, allow_abbrev=False, add_help=False, exit_on_error=False,
                                      formatter_class=argparse.RawDescriptionHelpFormatter)
     for title, options in OPTIONS.items():
@@ -117,7 +117,7 @@ def parse(words):
 
 
 def begin(command, programs):
-    """Checks a command from `parse`; sets its list, folder and defaults. Returns its Run, begun or continued."""
+    """Checks a command from `parse`; sets its list, folder and some defaults. Returns its Run, begun or continued."""
     if not command.words:
         raise misused("no list is named; for standard input use `-`, with a FOLDER before it")
     if len(command.words) > 2:
@@ -145,7 +145,7 @@ def begin(command, programs):
 
 
 def solve_list(command, programs):
-    """Solves a command's list, prints results, writes any --book-out; with --cut only cuts it. Returns the status."""
+    """Solves a command's list, prints results, writes any --book-out; --cut: only cuts the list. Returns the status."""
     if command.scheduler:
         from .cluster import Cluster  # refuses if its package is missing
     run = begin(command, programs)
@@ -174,7 +174,7 @@ def solve_list(command, programs):
 
 
 def catch(number, _):
-    """Handles a signal: makes later signals do nothing, and raises KeyboardInterrupt with the number of this one."""
+    """Handles one of SIGNALS: makes later ones do nothing, and raises KeyboardInterrupt with the number of this one."""
     for other in SIGNALS:
         signal.signal(other, lambda *_: None)  # if they were set to SIG_IGN, Python could print an error
     raise KeyboardInterrupt(number)

@@ -1,4 +1,4 @@
-"""Solves the unsolved parts of a list on an engine: threads of this machine, or the workers of a cluster."""
+"""Solves the unsolved parts of a run (see `Run`) on an engine: threads of this machine, or workers of a cluster."""
 import array
 import concurrent.futures
 import queue
@@ -17,7 +17,7 @@ GROWTH = 2.5  # factor of the work for each further empty square
 
 
 def weight_of(text, most):
-    """Returns the expected work for the lines `text`. A full board counts 1, as does one with over `most` empties."""
+    """Returns the expected work for the lines `text`: GROWTH ** n for a line with n empty squares, 1 if n > `most`."""
     fronts = [line.lstrip()[:64] for line in asked_lines(text).values()]
     empties = [front.count(b"-") + front.count(b".") for front in fronts]
     return sum(GROWTH ** count if count <= most else 1 for count in empties)
@@ -29,7 +29,7 @@ def span_of(seconds):
 
 
 class Progress:
-    """What is left (parts, lines, work), work done and its seconds, {(part, machine): start} of parts being solved."""
+    """The parts, lines and work left, the work done and its seconds. `running` is {(part, machine): start time}."""
 
     def __init__(self, run, parts, most):
         self.run, self.weights, self.running = run, array.array("d", bytes(8 * run.parts)), {}
@@ -39,18 +39,18 @@ class Progress:
         self.left_weight = sum(self.weights)
 
     def update(self, at_work):
-        """Notes which machine is solving each part now: `at_work` is {part: machine}."""
+        """Notes which parts are being solved now, and where: `at_work` is {part: machine}."""
         now = time.monotonic()
         self.running = {work: self.running.get(work, now) for work in at_work.items()}
 
     def end(self, number, seconds):
-        """Notes that a part is solved, and took `seconds`."""
+        """Notes that a part has been solved in `seconds`."""
         self.seconds += seconds
         self.weight, self.left_weight = self.weight + self.weights[number], self.left_weight - self.weights[number]
         self.parts, self.lines, self.weights[number] = self.parts - 1, self.lines - self.run.line_count(number), 0
 
     def left(self):
-        """Returns the expected seconds until all is solved, or None before a tenth of the work is done."""
+        """Returns the expected seconds until all is solved, or None before a tenth of this command's work is done."""
         if not self.weight or self.weight * 9 < self.left_weight:
             return None
         rate, now = self.seconds / self.weight, time.monotonic()
@@ -59,7 +59,7 @@ class Progress:
         return max(rests + [(waiting * rate + sum(rests)) / max(1, len(rests))])
 
     def text(self):
-        """Returns the line to show, with the part that has run longest if it has run for LONG_SECONDS or more."""
+        """Returns the line to show. It names the part that has run longest, if for LONG_SECONDS or more."""
         run, machines, now = self.run, len({machine for _, machine in self.running}), time.monotonic()
         left = self.left() if machines else None
         text = f"{100 * (run.all_lines - self.lines) // max(1, run.all_lines)}%, "
@@ -73,7 +73,7 @@ class Progress:
 
 
 class Threads:
-    """An engine (what solves parts for `solve_parts`): threads of this machine, each with one program at a time."""
+    """Threads of this machine, each with one program at a time, as an engine, which solves parts for `solve_parts`."""
 
     tries = 1  # after which a part has failed
 
@@ -87,7 +87,7 @@ class Threads:
         self.room = 2 * most  # how many parts may be submitted but unfinished at a time
 
     def submit(self, number, failed):
-        """Submits a part; returns the future that `result` takes. `failed`: machines where it failed; unused here."""
+        """Submits a part; returns a future for `result`. `failed`, the machines where the part failed, is unused."""
         return self.pool.submit(self.solve, number)
 
     def solve(self, number):
@@ -95,11 +95,11 @@ class Threads:
         return HERE, record and self.run.keep(number, record), why
 
     def result(self, future, number):
-        """Returns (the machine, the seconds that the part took or None if it failed, the program's error or "")."""
+        """Returns three values: the machine; the seconds that the part took, or None if it failed; the error, or ""."""
         return future.result()
 
     def look(self, flying):
-        """Returns {part: machine} of the parts that are being solved; `flying` is {future: part}."""
+        """Returns {part: machine} of the parts that are being solved; `flying` is {future: part} of those submitted."""
         return {number: HERE for future, number in flying.items() if future.running()}
 
     def close(self):
@@ -107,7 +107,7 @@ class Threads:
 
 
 def solve_parts(run, engine, quiet):
-    """Solves a run's unsolved parts, except those that fail `engine.tries` times. Shows the progress unless `quiet`."""
+    """Solves a run's unsolved parts, except those that fail `engine.tries` times. If `quiet`, shows only failures."""
     waiting, flying, failures, done = run.unsolved(), {}, {}, queue.SimpleQueue()
     progress = Progress(run, waiting, int(run.options["--max-empties"]))
     waiting.reverse()  # since the next part is taken from its end

@@ -1,4 +1,4 @@
-"""Messages, the refusals that end the command, files, standard output, and the programs ffosolve and ffoscores."""
+"""Messages, refusals (which end ffosolve-many), files, standard output, and the programs ffosolve and ffoscores."""
 import contextlib
 import os
 import re
@@ -20,7 +20,7 @@ LIMITS = {"ffosolve": rb"\[1\]\n1 refused: 64 empties, limit (\d+)\nsolved 0 ref
 
 
 class Refusal(Exception):
-    """Ends the command ("refuses" means: raises this). The arguments: the exit status, and the message for `say`."""
+    """Ends ffosolve-many ("refuses" means: raises this). The arguments: exit status, and message for `say`."""
 
 
 def misused(text):
@@ -29,7 +29,7 @@ def misused(text):
 
 @contextlib.contextmanager
 def refusing(verb, name, passed=()):
-    """Turns OSErrors of the `with` block, except types in `passed`, into a Refusal "cannot {verb} {name}: {reason}"."""
+    """Turns an OSError in a `with` block, except of types `passed`, into a Refusal "cannot {verb} {name}: {reason}"."""
     try:
         yield
     except passed:
@@ -50,7 +50,7 @@ def say(text):
 
 
 def show(text):
-    """Shows a line if standard error is a terminal, in place of the one before. If too long, it is cut at a comma."""
+    """If standard error is a terminal, shows a line in place of the one before, cut at a comma if it is too long."""
     with contextlib.suppress(OSError):
         columns = os.get_terminal_size(sys.stderr.fileno()).columns or 80
         line = f"{NAME}: {text}" if text else ""
@@ -112,13 +112,13 @@ class Program:
             raise Refusal(UNBUILT, f"{name} is missing: it has to be next to {NAME}, in {folder}")
 
     def files(self):
-        """Returns the program's files, one for each level of x86-64, highest first; if there are none, only `start`."""
+        """Returns the paths of the program's builds for levels of x86-64, highest first; without any, only `start`."""
         root, files = self.start.parent.parent, f"x86-64-v?/{self.start.name}"
         found = [*root.glob(f"out/{files}"), *root.glob(f"libexec/ffosolve/{files}")]
         return sorted(found, reverse=True) or [self.start]
 
     def try_run(self, *words, stdout=subprocess.DEVNULL):
-        """Runs the program; returns (its status, its messages in one line). Words may name open files: /dev/fd/63."""
+        """Runs the program; returns its status and, in one line, its messages. Open files are passed on: /dev/fd/63."""
         ran = subprocess.run([self.start, *words], close_fds=False, stdin=subprocess.DEVNULL, stdout=stdout,
                              stderr=subprocess.PIPE)
         lines = ran.stderr.decode(errors="replace").splitlines()
@@ -132,7 +132,7 @@ class Program:
                 raise Refusal(status if status > 0 else UNBUILT, f"{name}: {errors}")
 
     def check_book_out(self, name, source, *options):
-        """Refuses a --book-out that is the list `source`, standard output or error, or that ffosolve refuses."""
+        """Refuses a --book-out that is standard output or error, the list `source`, or a file that ffosolve refuses."""
         for other, what in ((1, "standard output, where the report goes"), (2, "standard error"), (source, "the list")):
             if is_same(name, other):
                 raise misused(f"--book-out {shown(name)} is {what}: name another file")
@@ -142,8 +142,8 @@ class Program:
             raise Refusal(UNREADABLE, errors.replace(os.fsencode(name).decode(errors="replace"), shown(name)))
 
     def check_options(self, options):
-        """Returns, as text, how many empty squares a position may have. If the program refuses the options or their
-        book, it prints why, and this process ends with its status. Refuses a missing setpriv, and a wrong program."""
+        """Returns, as text, how many empty squares a position may have. If the program refuses the options or a book,
+        it prints why, and this process ends with the same status. Refuses a missing setpriv or a wrong program."""
         if not shutil.which("setpriv"):
             raise Refusal(UNBUILT, "setpriv is not on the path: apt-get install util-linux")
         ran = subprocess.run(guarded([self.start, *options, "/dev/stdin"]), input=NO_DISCS, stdout=subprocess.PIPE)
@@ -155,7 +155,7 @@ class Program:
 
 
 def run_options(command, book_in):
-    """Returns a command's options for ffosolve or ffoscores, but --book-out. `book_in` is a book's path, or None."""
+    """Returns a command's options for ffosolve or ffoscores, except --book-out. `book_in`: the book's path, or None."""
     # The parts keep all processors busy, so none of them needs more than one thread.
     options = {"max-empties": command.max_empties, "scoring": command.scoring, "workers": command.workers or 0,
                "table": command.table, "book-in": book_in}

@@ -1,4 +1,4 @@
-"""The folder of a run: copies of list, programs, solve.py and --book-in, task.json with options, results of parts."""
+"""The folder of a run: list, programs, solve.py and --book-in (copies), options (task.json), and the parts' results."""
 import array
 import contextlib
 import fcntl
@@ -25,8 +25,8 @@ ROW = re.compile(rb"(\d+) ([+-]\d\d (?:[A-H][1-8](?:,[A-H][1-8])*|PS|--) [a-z]+|
 
 
 def cut_list(path, lines, name):
-    """Cuts a list into parts of `lines` lines. Returns the offsets in bytes at which parts begin and the last one ends,
-    and the number of all lines. Refuses a file that is not a list, and a part with more than MOST_BYTES bytes."""
+    """Cuts a list into parts of `lines` lines. Returns the offsets in bytes at which the parts begin and the last part
+    ends, and how many lines the list has. Refuses a file that is no text, and a part of more than MOST_BYTES bytes."""
     starts, count = array.array("Q", [0]), 0
     with path.open("rb") as file:
         try:
@@ -77,7 +77,7 @@ def copy(source, path):
 
 
 def lock_folder(folder):
-    """Makes a folder if needed, and locks it. Refuses one with files but no lock file, or with another run's lock."""
+    """Makes a folder if needed, and locks it. Refuses a folder that has files but no LOCK, or that is locked."""
     folder.mkdir(parents=True, exist_ok=True)
     found = sorted(os.listdir(folder))
     if found and LOCK not in found:
@@ -92,7 +92,7 @@ def lock_folder(folder):
 
 
 def begun(folder, options):
-    """Returns what task.json in `folder` has, or {} if it can't be read. Refuses options other than those in it."""
+    """Returns what task.json in `folder` has, or {} if it can't be read. Refuses `options` that contradict it."""
     try:
         task = json.loads((folder / "task.json").read_bytes())
         before = {**task["options"]}
@@ -122,10 +122,10 @@ def programs_in(folder):
 
 
 class Run:
-    """A list solved in a folder, in parts from 0 on. `results` there has a record of each solved part: see `solve`."""
+    """A list solved in a folder, in parts from 0 on. Its results/ has the records (see solve.py) of solved parts."""
 
     def __init__(self, command, source, program, book_in):
-        """Begins or continues a command's run. `source` is the list's path, and `book_in` that of a book, or None."""
+        """Begins or continues a command's run. `source` is the list's path, and `book_in` is a book's path, or None."""
         self.folder, self.lines, name = command.folder, command.lines, shown(command.list)
         cut_list(source, self.lines, name)  # refuses what is not a list
         lock_folder(self.folder)
@@ -171,7 +171,7 @@ class Run:
         return array.array("L", (number for number in range(self.parts) if self.statuses[number] == UNKNOWN))
 
     def read(self, number, record):
-        """Returns (status, output, book, seconds) from a part's record, or None if that is damaged or not complete."""
+        """Returns (status, output, book, seconds) from a part's record, or None if it is damaged or of another task."""
         head, text = HEAD.match(record), self.text(number)
         results = record[head.end():] if head else b""
         if not head or digest_of(self.task, number, head[1], text, results) != head[6]:
@@ -180,7 +180,7 @@ class Run:
         return found if self.is_whole(text, *found[:3]) else None
 
     def is_whole(self, text, status, output, book):
-        """Returns whether these are the complete results of a part with the lines `text`."""
+        """Returns whether these are complete results of a part with lines `text`. With --scores, only counts lines."""
         if self.options["--scores"] is not None:
             return output.count(b"\n") == text.count(b"\n") + (text[-1:] != b"\n") and output.endswith(b"\n")
         has_book = book.startswith(HEADER.format(self.options["--scoring"]).encode()) and book.endswith(b"\n")
@@ -193,7 +193,7 @@ class Run:
             return self.read(number, (self.folder / f"results/{number:07d}").read_bytes())
 
     def keep(self, number, record):
-        """If a part's record is complete, stores it and returns the seconds that the part took; otherwise None."""
+        """Stores a complete record and returns the seconds that the part took. Of another record, returns None."""
         if found := self.read(number, record):
             with refusing("write", self.folder):
                 write_whole(self.folder / f"results/{number:07d}", [record])
@@ -201,14 +201,14 @@ class Run:
         return found and found[3]
 
     def solved(self):
-        """Yields (status, output, book, seconds) of each part. Refuses if the record of a part is not complete now."""
+        """Yields (status, output, book, seconds) of each part. Refuses if a record has been damaged or removed."""
         for number in range(self.parts):
             if not (found := self.results(number)):
                 raise Refusal(UNSOLVED, f"{self.span(number)} was changed meanwhile; the same command solves it again")
             yield found
 
     def output(self):
-        """Returns what one run of the program would print for the whole list, in pieces."""
+        """Returns, in pieces, what the program would print if it solved the whole list at once."""
         outputs = (output for _, output, _, _ in self.solved())
         if self.options["--scores"] is not None:
             return outputs
@@ -216,7 +216,7 @@ class Run:
                             for number, output in enumerate(outputs) for line, rest in rows_of(output))
 
     def sweep(self):
-        """Removes the unfinished files and folders that were left in the folder when runs were killed."""
+        """Removes unfinished files and folders (*.new), which killed processes left in the folder and in results."""
         for folder in (self.folder, self.folder / "results"):
             for entry in os.scandir(folder):  # one by one: there may be a million
                 if re.search(r"\.\w{8}\.new$", entry.name):

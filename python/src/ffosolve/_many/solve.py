@@ -22,13 +22,13 @@ def guarded(words):
 
 
 def digest_of(task, part, head, text, results):
-    """Returns a record's digest: the SHA-256, in hexadecimal, of the options in `task` and of the other arguments."""
+    """Returns the digest of a record (see `solve`): the SHA-256, in hexadecimal, of `task`'s options and the rest."""
     asked = json.dumps([task["options"], part]).encode()
     return hashlib.sha256(b"\n".join((asked, head, text, results))).hexdigest().encode()
 
 
 def solve(task, folder, program, part, text, is_wanted=lambda: True):
-    """Solves the lines `text` of a part. `task` is what task.json has. The program runs in `folder` with the arguments
+    """Solves the lines `text` of a part. `task` is what task.json has. `program` runs in `folder` with the arguments
     `task["words"]`, and is killed once `is_wanted` returns false. Returns (record, "") or, if the program fails, (None,
     the reason). A record is a line with the program's status, the sizes of its output and its book in bytes, the
     seconds that it took, and the digest that `digest_of` returns; then the output and the book."""
@@ -62,8 +62,8 @@ def solve(task, folder, program, part, text, is_wanted=lambda: True):
 
 
 def fit_program(task, folder):
-    """Returns the path of the first program in a folder that solves a known line, and its output and book for that line
-    as one text, which has to equal `task["known"]` if that is set. Raises ChildProcessError if no program does so."""
+    """Returns the path of the first program in a folder that solves KNOWN within KNOWN_SECONDS, and its output and book
+    as one text; if `task["known"]` is set, this text has to equal it. Raises ChildProcessError if no program is fit."""
     why = "is missing"
     for program in sorted(folder.absolute().glob("program-?")):
         end = time.monotonic() + KNOWN_SECONDS
@@ -81,7 +81,7 @@ def fit_program(task, folder):
 
 
 def write_whole(path, pieces, mode=None):
-    """Writes `pieces` to a new file next to `path`, and renames that to `path` once all of it is on the disk."""
+    """Writes `pieces` to a new file next to `path`, with any `mode`; renames that to `path` once all is on the disk."""
     beside = path.with_name(f"{path.name}.{os.urandom(4).hex()}.new")
     try:
         with beside.open("xb") as file:
@@ -96,7 +96,7 @@ def write_whole(path, pieces, mode=None):
 
 
 def main(folder, part):
-    """Solves a part of the list in `folder`; writes its record to results there. `part` is a name such as 0000000."""
+    """Solves a part of the list in a run's folder; writes the record to results. `part` is a name such as 0000000."""
     task = json.loads((folder / "task.json").read_text())
     if not re.fullmatch("[0-9]{7}", part) or int(part) >= task["parts"]:
         raise FileNotFoundError(f"the parts are 0000000 to {task['parts'] - 1:07d}")
