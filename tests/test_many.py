@@ -309,7 +309,9 @@ class MergeBooks(Case):
         for fields, claim in ((b" A1:+02;", b" A1:+02;"), (b"b2:2 ; A1:+02;C1:-64;", b" A1:+02; B2:+02;"),
                               (b"H1:1;A2:1", b" H1:+01; A2:+01;"), (b" A1:-0; junk; A9:+3; A1:+65", b" A1:+00;"),
                               (b"PS:-4;", b" PS:-04;"), (b"--:4;PS:4", b" PS:+04;"), (b"--:4;A1:4", b" A1:+04;"),
-                              (b" A1:-02; % B1:+64;", b" A1:-02;"), (b"A1:2; B1:4\r\r", b" A1:+02;")):
+                              (b" A1:-02; % B1:+64;", b" A1:-02;"), (b"A1:2; B1:4\r\r", b" A1:+02;"),
+                              (b" A1:+02; B1:-04;", b" A1:+02;"), (b" A2:+02; B1:+02;", b" B1:+02; A2:+02;"),
+                              (b" PS:+04; A1:+04;", b" A1:+04;"), (b" A1:+02; A1:+02;", b" A1:+02;")):
             lines = [b"\n", b" \t\r\n", b"% X\n", head + fields + b"\n"]
             ((_, place, line),) = books.entries_of(lines, "it")
             self.assertEqual((line, place), (head + claim + b"\n", ("it", 4)), fields)

@@ -14,7 +14,8 @@ from .folder import HEADER
 
 READ = 4096  # bytes of a book that are read at once, and the rest of their last line
 BATCH = 256  # parts whose books are merged in memory at a time
-ENTRY = re.compile(rb"[XO-]{64} X;(?: (?:[A-H][1-8]|PS|--):[+-]\d\d;)+\n")  # a line of a book, as ffosolve writes it
+# A line of a book, as ffosolve writes it, except that the moves may be in another order.
+ENTRY = re.compile(rb"[XO-]{64} X;(?: (?:PS|--):[+-]\d\d;| [A-H][1-8]:([+-]\d\d);(?: [A-H][1-8]:\1;)*)\n")
 
 
 def lines_of(path):
@@ -31,7 +32,8 @@ def entries_of(lines, name):
     """Yields (masks, (name, line number), text) for each position in `lines`. Books are sorted by `masks`: X's and O's
     squares as bits; `text` is the line in ENTRY's form. Raises ValueError if a line is malformed or lists no move."""
     for number, text in enumerate(lines, 1):
-        if not ENTRY.fullmatch(text):
+        moves = [*zip(text[69:-1:8], text[68:-1:8])]  # the row and the column of each move of an ENTRY
+        if not ENTRY.fullmatch(text) or moves != sorted({*moves}):
             try:
                 line = Position.from_obf(text)
             except NoPosition:
