@@ -54,7 +54,7 @@ def install(name, *changes, script=None):
 
 def setUpModule(python=sys.executable):
     """Sets BASE to a new folder, MANY and ACTS to the paths of two copies of ffosolve-many there, and SMALL to 60 lines
-    of 68 bytes. ACTS runs the script ACTING instead of ffosolve and ffoscores. The command python3 runs `python`."""
+    of 68 bytes. ACTS runs the script ACTING instead of ffosolve and ffoscores. `python3` on PATH now runs `python`."""
     global BASE, MANY, ACTS, SMALL
     BASE = module_folder()
     (BASE / "tmp").mkdir()

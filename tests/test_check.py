@@ -1,4 +1,4 @@
-"""tests/check.mk runs and counts tests, .ci/run adds up the counts of `rt ci` and `make check`, in a small checkout."""
+"""tests/check.mk, which runs and counts tests, and .ci/run, which adds up the counts of `rt ci` and `make check`."""
 import os
 import signal
 from pathlib import Path

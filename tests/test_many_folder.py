@@ -249,7 +249,7 @@ class Signals(Case):
     WORDS = ("--jobs=2", "--lines=5", *Case.WORDS[1:])
 
     def open(self, *program, last=99):
-        """Starts `program` with WORDS in a new session. If it is many.ACTS, parts take 45 s once `last` are solved."""
+        """Starts `program` with WORDS in a new session. many.ACTS takes 45 s per part after the first `last` parts."""
         places = {**os.environ, "PAUSE": "0.15", "LAST": str(last)}
         return self.start(*program, *self.WORDS, start_new_session=True, preexec_fn=as_at_a_login, env=places)
 

@@ -74,7 +74,7 @@ DONE, REMARKED, MISUSED, UNREADABLE, NO_LIBRARY, INTERRUPTED = 0, 1, 2, 3, 4, 13
 
 
 class Stop(Exception):
-    """Ends the program, or in `list_games` only the reading of a file, with a message and the exit status `status`."""
+    """Ends the program or, in `list_games`, only the reading of a file. `status` is the exit status that it causes."""
 
     def __init__(self, reason: str, status: int = UNREADABLE) -> None:
         super().__init__(reason)
@@ -158,7 +158,7 @@ def main(find: Callable[[], Optional[str]] = lambda: None) -> int:
 
 
 def list_games(options: argparse.Namespace, find: Callable[[], Optional[str]], messages: Messages) -> Iterator[bytes]:
-    """Yields the lines of a list: the games' positions and, if a game has a theoretical score, their digest."""
+    """Yields the lines of a list: a position of each game and, if one has a theoretical score, the lines' digest."""
     load(find())  # for `played`
     covered, has_scores = hashlib.sha256(), False
     for name in options.files or ["-"]:

@@ -73,7 +73,7 @@ class Progress:
 
 
 class Threads:
-    """Threads of this machine, each with one program at a time, as an engine, which solves parts for `solve_parts`."""
+    """An engine for `solve_parts`: solves parts on threads of this machine, each running one program at a time."""
 
     tries = 1  # after which a part has failed
 

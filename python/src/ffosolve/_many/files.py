@@ -104,7 +104,7 @@ def print_all(pieces):
 
 
 class Program:
-    """ffosolve or ffoscores. `start`, in bin, is the program or a script that runs it, and in a checkout builds it."""
+    """ffosolve or ffoscores. `start` is the program, or a script that runs it and, in a checkout, builds it first."""
 
     def __init__(self, folder, name):
         self.start = Path(folder, name)
