@@ -212,7 +212,7 @@ def final_discs(found: List[Tuple[CPosition, str]]) -> Optional[int]:
     """The number of Black's discs at the end of a game, 32 after a draw; the winner also gets the empty squares. It is
     None if the game is not over. `found` is what `played` returned for the game."""
     last = position_of(*found[-1])
-    return discs_of_black(final_score(*last), last.side) if last.is_over else None
+    return discs_of_black(final_score(*last), last.side) if not last.empties or last.is_over else None
 
 
 def final_score(own: int, opp: int) -> int:

@@ -22,4 +22,4 @@ def words_of(text: str) -> List[str]:
     and other text in words of one or two characters. Skips blanks, commas, a hyphen between moves, move numbers such as
     `1.` and `12`, a result at the end such as `33-31` or `+2`, and everything from `%` on."""
     words = (move or other for move, other in TOKEN.findall(text.partition("%")[0].lower()))
-    return ["--" if word.startswith("--") else "".join(word.split()) for word in words if word]
+    return [word if len(word) < 3 else "--" if word[0] == "-" else "".join(word.split()) for word in words if word]
