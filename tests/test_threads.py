@@ -10,7 +10,8 @@ from tests.support import (ROOT, SECONDS, InFolder, as_at_a_login, built, limite
 WORKERS = (0, 1, 3, 64)
 HOURS = b"-" * 27 + b"OX------XO" + b"-" * 27 + b" X;\n"  # a position that takes hours
 HARD = b"-XXXXX----XOOX--XXXXOOOO-OXOOOO-OOXOOX--OOX-OOOOOXXXXXX-X----XXX O\n"  # 17 empty squares, 0.2 seconds
-EASY = stored("examples", "first.obf").splitlines(True)[1:]  # positions with two empty squares, and their scores
+# Positions with two empty squares; all but the last have their scores.
+EASY = [*stored("examples", "first.obf").splitlines(True)[1:], b"--OOOOO" + b"X" * 57 + b" X\n"]
 
 
 def threads_of(process):
@@ -39,13 +40,16 @@ class Files(InFolder):
                 words = ["--workers", workers, *files]
                 self.assertEqual(self.solve(*words), (wanted, 1 + workers + len(files)))
                 self.assertEqual(self.solve(*words, preexec_fn=refuse_threads), (wanted, 1))
+        words = ["--workers", 64, *files, *(write(f"{number}.obf", easy) for number in range(2, 64))]
+        wanted, _ = self.solve(*words)
+        self.assertEqual(self.solve(*words, preexec_fn=refuse_threads), (wanted, 1))
 
     def test_workers_end_if_there_is_no_position(self):
         for workers in (1, 64):
             self.ends((0, "[1]\nsolved 0 refused 0\n", ""), built(), "--workers", workers, "/dev/null")
 
     def test_64_files_with_64_workers_always_have_the_same_report(self):
-        files = [write(f"{number}.obf", b"".join(EASY[number % 3:] + EASY)) for number in range(64)]
+        files = [write(f"{number}.obf", b"".join(EASY[number % 4:] + EASY)) for number in range(64)]
         words = ["--workers", 64, *files]
         wanted, _ = self.solve(*words)
         self.assertTrue(wanted[0].endswith(b"refused 0\n") and wanted[0].count(b"[") == 64, wanted[0][-100:])
@@ -103,7 +107,7 @@ class Lines(InFolder):
                 self.assertEqual(program.returncode, 0)
 
     def test_n_workers_score_n_plus_one_lines_at_once_and_each_is_printed_as_soon_as_those_before_are_scored(self):
-        known = [*positions(24, 10, 13).splitlines(True), b"% next\n"]
+        known = [EASY[0], *positions(24, 10, 13).splitlines(True), b"% next\n"]
         for workers in WORKERS:
             with self.subTest(workers=workers):
                 program = self.begin(b"".join([*known, HOURS, EASY[0], HOURS * 70]), "--workers", workers)

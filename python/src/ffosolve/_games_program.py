@@ -204,8 +204,8 @@ def with_positions(file: io.BufferedReader, name: str, wanted: Optional[int],
 
 
 def wrong_scores(game: Game, discs: Optional[int]) -> Iterator[str]:
-    """Yields a message for each score above MOST_DISCS, and for a real score that differs from `discs` or can't be
-    checked. `discs` is the number of Black's discs at the end of the game, or None if the moves stop before that."""
+    """Yields a message for each score above MOST_DISCS, and if the game's real score, which the file gives for its end,
+    is not `discs` or can't be checked. `discs` is how many Black has then, or None if the moves stop before that."""
     for kind, score in (("theoretical", game.score), ("real", game.real)):
         if score is not None and score > MOST_DISCS:
             yield f"its {kind} score is {score}, more than {MOST_DISCS} discs"

@@ -118,7 +118,7 @@ class Program:
         return sorted(found, reverse=True) or [self.start]
 
     def try_run(self, *words, stdout=subprocess.DEVNULL):
-        """Runs the program; returns its status and, in one line, its messages. Open files are passed on: /dev/fd/63."""
+        """Runs the program, which inherits a shell's /dev/fd/63. Returns its status and, in one line, its messages."""
         ran = subprocess.run([self.start, *words], close_fds=False, stdin=subprocess.DEVNULL, stdout=stdout,
                              stderr=subprocess.PIPE)
         lines = ran.stderr.decode(errors="replace").splitlines()
