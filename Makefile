@@ -114,8 +114,16 @@ look: ## solves three positions in about a minute, with nothing proved; LIST=FIL
 	esac
 	exit $$status
 
-check: levels ## tests everything; the last line counts what passed
-	$(MAKE) -f tests/check.mk
+PYTHON = python3
+TESTS =
+check: ## tests everything; the last line counts what passed. TESTS='-k books': arguments for pytest
+	for need in rt:rattle-kit-13f cc:gcc ld:binutils flock:util-linux git:git; do
+	    command -v $${need%:*} >/dev/null || { echo "$${need%:*} is missing: it is in the package $${need#*:}" >&2; exit 4; }
+	done
+	$(PYTHON) -c 'import pytest, xdist, pytest_timeout' 2>/dev/null || { echo '$(PYTHON) lacks pytest or a part of it:' \
+	    'apt-get install python3-pytest python3-pytest-xdist python3-pytest-timeout, and PYTHON=/usr/bin/python3' >&2; exit 4; }
+	$(MAKE) levels
+	exec env -u MAKEFLAGS -u MFLAGS -u MAKELEVEL $(PYTHON) -m pytest -n auto --durations 20 $(TESTS)
 
 # The first lines of install and uninstall. The command `install` makes a new file in place of an old one, so a running
 # program keeps its own.

@@ -126,20 +126,34 @@ def copy_many(root):
     return Path(root, "bin/ffosolve-many")
 
 
+def ends(wanted, *words, **how):
+    """Asserts that a command ends with `wanted`: (status, standard output, standard error). Both outputs are str, or
+    both bytes; one that goes elsewhere is None."""
+    ran = run(*words, **{"text": isinstance(wanted[1], str), **how})
+    assert (ran.returncode, ran.stdout, ran.stderr) == wanted, words
+
+
+def cannot_write(*words):
+    """Asserts that a program reports a full or closed standard output, and that SIGPIPE ends it if its output is a pipe
+    that is not read any more. `words` are the program's path and its arguments."""
+    for output, why in ((">/dev/full", "No space left on device"), (">&-", "it is closed")):
+        error = f"{Path(words[0]).name}: cannot write standard output: {why}\n"
+        ends((3, "", error), "sh", "-c", f'exec "$0" "$@" {output}', *words)
+    reading, writing = os.pipe()
+    os.close(reading)
+    ends((-signal.SIGPIPE, None, b""), *words, stdout=writing)
+    os.close(writing)
+
+
 class InFolder(unittest.TestCase):
     """A test that runs with umask 022 in a new folder, `self.folder`, which everybody may read."""
+
+    ends, cannot_write = staticmethod(ends), staticmethod(cannot_write)
 
     def setUp(self):
         self.folder = module_folder(self.enterContext)
         self.addCleanup(os.umask, os.umask(0o022))
         self.enterContext(contextlib.chdir(self.folder))
-
-    def ends(self, wanted, *words, **how):
-        """Asserts that a command ends with `wanted`: (status, standard output, standard error). Both outputs are
-        str, or both bytes; one that goes elsewhere is None. The test goes on if this fails."""
-        with self.subTest(words=words, input=(how.get("input") or "")[-99:]):
-            ran = run(*words, **{"text": isinstance(wanted[1], str), **how})
-            self.assertEqual((ran.returncode, ran.stdout, ran.stderr), wanted)
 
     def start(self, *words, **how):
         """Starts a command with its output captured, and returns its Popen. It is killed at the end of the test."""
@@ -147,17 +161,6 @@ class InFolder(unittest.TestCase):
         ran = subprocess.Popen(list(map(str, words)), **how)
         self.addCleanup(lambda: (ran.poll() is None and ran.kill(), ran.communicate()))
         return ran
-
-    def cannot_write(self, *words):
-        """Asserts that a program reports a full or closed standard output, and that SIGPIPE ends it if its output is a
-        pipe that is not read any more. `words` are the program's path and its arguments."""
-        for output, why in ((">/dev/full", "No space left on device"), (">&-", "it is closed")):
-            error = f"{Path(words[0]).name}: cannot write standard output: {why}\n"
-            self.ends((3, "", error), "sh", "-c", f'exec "$0" "$@" {output}', *words)
-        reading, writing = os.pipe()
-        os.close(reading)
-        self.ends((-signal.SIGPIPE, None, b""), *words, stdout=writing)
-        os.close(writing)
 
 
 def wait_until(holds, seconds=SECONDS):

@@ -1,0 +1,107 @@
+"""Fixtures for all tests, and what no test may do: leave a program running, change what `git status` prints, or be
+skipped if the variable CI is true."""
+import contextlib
+import ctypes
+import os
+import signal
+import subprocess
+import tempfile
+import time
+import unittest
+from pathlib import Path
+
+import pytest
+
+pytest.register_assert_rewrite("tests.support")
+
+ROOT = Path(__file__).parent
+PR_SET_CHILD_SUBREAPER = 36  # of prctl(2)
+
+
+def pytest_configure():
+    """Makes this process the parent of programs whose parent ends, and lets programs get SIGINT."""
+    ctypes.CDLL(None).prctl(PR_SET_CHILD_SUBREAPER, 1, 0, 0, 0)
+    signal.signal(signal.SIGINT, signal.default_int_handler)
+
+
+def children():
+    """Returns {process ID: command line} of the programs below this process that run."""
+    found = {}
+    for listed in Path("/proc/self/task").glob("*/children"):
+        for number in listed.read_text().split():
+            with contextlib.suppress(OSError):  # it has ended
+                words = Path(f"/proc/{number}/cmdline").read_text(errors="replace")  # "" of a zombie
+                found.update({int(number): words.replace("\0", " ")} if words else {})
+    return found
+
+
+@pytest.fixture(scope="module", autouse=True)
+def ends_its_programs():
+    """Fails a module that leaves a program running for five seconds, and kills the program."""
+    yield
+    unittest.case.doModuleCleanups()
+    end = time.monotonic() + 5
+    while children() and time.monotonic() < end:
+        time.sleep(0.01)
+    left = children()
+    while children():
+        for number in children():
+            os.kill(number, signal.SIGKILL)
+    assert not left, f"programs that the module's tests left running: {left}"
+
+
+@pytest.fixture
+def folder():
+    """A new working folder that everybody may read, with umask 022. It is removed after the test."""
+    umask = os.umask(0o022)
+    with tempfile.TemporaryDirectory(prefix="ffosolve-test-") as name, contextlib.chdir(name):
+        os.chmod(name, 0o755)
+        yield Path(name)
+    os.umask(umask)
+
+
+@pytest.fixture
+def start():
+    """A function that starts a command with its output captured and returns its Popen, which is killed after the test.
+    `how` are keyword arguments of subprocess.Popen, which change this or add to it."""
+    with contextlib.ExitStack() as stack:
+        def begin(*words, **how):
+            how = {"stdin": subprocess.DEVNULL, "stdout": subprocess.PIPE, "stderr": subprocess.PIPE, **how}
+            ran = subprocess.Popen(list(map(str, words)), **how)
+            stack.callback(lambda: (ran.poll() is None and ran.kill(), ran.communicate()))
+            return ran
+
+        yield begin
+
+
+def status():
+    return subprocess.run("git status --porcelain 2>&1", shell=True, cwd=ROOT, capture_output=True, text=True).stdout
+
+
+def fail(report):
+    """Makes a skipped test or module a failure if the variable CI is true."""
+    if report.skipped and os.environ.get("CI") == "true":
+        report.outcome, report.longrepr = "failed", f"{report.longrepr[2]}, but with CI=true no test is skipped"
+
+
+@pytest.hookimpl(hookwrapper=True)
+def pytest_runtest_makereport():
+    fail((yield).get_result())
+
+
+@pytest.hookimpl(hookwrapper=True)
+def pytest_make_collect_report():
+    fail((yield).get_result())
+
+
+def pytest_sessionstart(session):
+    session.config.status = status()
+
+
+def pytest_sessionfinish(session):
+    """Fails, with a test of its own, a run that changed what `git status` prints."""
+    if not hasattr(session.config, "workerinput") and status() != session.config.status:
+        text = f"git status before the tests:\n{session.config.status}\nafter:\n{status()}"
+        report = pytest.TestReport("git status", ("", 0, ""), {}, "failed", text, "teardown")
+        session.config.hook.pytest_runtest_logreport(report=report)
+        session.exitstatus = pytest.ExitCode.TESTS_FAILED
