@@ -112,18 +112,19 @@ look: ## solves three positions in about a minute, with nothing proved; LIST=FIL
 	*'run=ended '*) echo 'nothing is proved yet: bin/ffosolve proves the program, and then runs it' ;;
 	*) echo "$$said" | tail -n 3 >&2; exit 4 ;;
 	esac
-	exit $$status
+	exit "$$status"
 
 PYTHON = python3
 TESTS =
-check: ## tests everything; the last line counts what passed. TESTS='-k books': arguments for pytest
+check: tools levels ## tests everything; the last line counts what passed. TESTS='-k books': arguments for pytest
+	exec env -u MAKEFLAGS -u MFLAGS -u MAKELEVEL $(PYTHON) -m pytest -n auto --durations 20 $(TESTS)
+
+tools:
 	for need in rt:rattle-kit-13f cc:gcc ld:binutils flock:util-linux git:git; do
 	    command -v $${need%:*} >/dev/null || { echo "$${need%:*} is missing: it is in the package $${need#*:}" >&2; exit 4; }
 	done
 	$(PYTHON) -c 'import pytest, xdist, pytest_timeout' 2>/dev/null || { echo '$(PYTHON) lacks pytest or a part of it:' \
 	    'apt-get install python3-pytest python3-pytest-xdist python3-pytest-timeout, and PYTHON=/usr/bin/python3' >&2; exit 4; }
-	$(MAKE) levels
-	exec env -u MAKEFLAGS -u MFLAGS -u MAKELEVEL $(PYTHON) -m pytest -n auto --durations 20 $(TESTS)
 
 # The first lines of install and uninstall. The command `install` makes a new file in place of an old one, so a running
 # program keeps its own.
@@ -191,4 +192,4 @@ include packaging/packages.mk
 help: ## lists the targets
 	sed -n 's/^\([a-z-]*\):.*## /make \1	/p' $(MAKEFILE_LIST) | expand -t 20
 
-.PHONY: all levels library constants look check install uninstall help always
+.PHONY: all levels library constants look check tools install uninstall help always
