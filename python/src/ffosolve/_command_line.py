@@ -1,0 +1,171 @@
+"""What the package's programs have in common: exit statuses, refusals, messages, output, signals and new files."""
+import argparse
+import contextlib
+import os
+import re
+import signal
+import sys
+from types import FrameType
+from typing import IO, Any, Callable, Dict, Iterable, Iterator, Mapping, NoReturn, Optional, Set, Tuple, Type, Union
+
+from . import __version__
+from ._text import shown
+
+DONE, REMARKED, MISUSED, UNREADABLE, MISSING = range(5)
+SIGNALS = (signal.SIGINT, signal.SIGTERM, signal.SIGHUP)
+name = "ffosolve"  # of the program, which `run` sets
+_unfinished: Set[str] = set()  # the files that `write_whole` is writing, by their temporary names
+
+
+class Refusal(Exception):
+    """Ends a program ("refuses" means: raises this) with the exit status `status`, and with its text as a message."""
+
+    def __init__(self, text: str, status: int = UNREADABLE) -> None:
+        super().__init__(text)
+        self.status = status
+
+
+@contextlib.contextmanager
+def refusing(verb: str, what: Union[str, "os.PathLike[str]"],
+             passed: Tuple[Type[BaseException], ...] = ()) -> Iterator[None]:
+    """Turns an OSError in a `with` block, except of types `passed`, into a Refusal "cannot {verb} {what}: {reason}"."""
+    try:
+        yield
+    except passed:
+        raise
+    except OSError as why:
+        raise Refusal(f"cannot {verb} {shown(what)}: {why.strerror or why}") from why
+
+
+class Parser(argparse.ArgumentParser):
+    """Reads a command line. Refuses a wrong one, with one line; --help and --version go to standard output."""
+
+    def __init__(self, usage: str, what: str, more: str) -> None:
+        super().__init__(name, usage, what, more, formatter_class=argparse.RawDescriptionHelpFormatter,
+                         allow_abbrev=False, add_help=False)
+
+    def add_common(self, group: Any, version: str = "print the version", usage: str = "print this help") -> None:
+        """Adds --version and --help, explained by these texts, to a group of options or to the parser itself."""
+        group.add_argument("--version", "-V", action="version", version=f"{name} {__version__}", help=version)
+        group.add_argument("--help", "-h", action="help", help=usage)
+
+    def error(self, message: str) -> NoReturn:
+        raise Refusal(f"{re.sub('^argument ', '', message)}. Try '{name} --help'", MISUSED)
+
+    def _print_message(self, message: str, file: Optional[IO[str]] = None) -> None:
+        print_all([message.encode()])
+
+
+def say(text: object) -> None:
+    """Prints a message on standard error, if possible. On a terminal, it replaces the line that `show` left there."""
+    show("")
+    _write_error(f"{name}: {text}\n")
+
+
+def show(text: str) -> None:
+    """If standard error is a terminal, shows a line in place of the one before, cut at a comma if it is too long."""
+    with contextlib.suppress(OSError):
+        columns = os.get_terminal_size(2).columns or 80
+        line = f"{name}: {text}" if text else ""
+        while len(line) >= columns:
+            line = line.rpartition(", ")[0]
+        _write_error(f"\r\033[K{line}")
+
+
+def _write_error(text: str) -> None:
+    with contextlib.suppress(OSError):
+        os.write(2, text.encode(errors="backslashreplace"))  # `print` would fail in a handler that interrupts `print`
+
+
+def print_all(pieces: Iterable[bytes]) -> None:
+    """Writes to standard output. Refuses if that fails, but raises BrokenPipeError if the output is no longer read."""
+    # sys.stdout may write only a part if PYTHONUNBUFFERED is set.
+    with refusing("write", "standard output", (BrokenPipeError,)), open(1, "wb", closefd=False) as output:
+        output.writelines(pieces)
+
+
+def write_whole(files: Mapping[str, Iterable[bytes]], replaces: bool = False, mode: Optional[int] = None) -> None:
+    """Writes files, with any `mode`: `files` maps each path to the pieces of its content. No file gets its path before
+    the contents of all are on the disk. If a path exists, replaces that file or, unless `replaces`, raises
+    FileExistsError; without hard links, always replaces it. OSError has the path as `filename`. After an error, files
+    that have got their paths stay."""
+    complete: Dict[str, str] = {}  # for each path, a temporary file next to it
+    try:
+        for path, pieces in files.items():
+            complete[path] = f"{path}.{os.urandom(4).hex()}.new"
+            _unfinished.add(complete[path])
+            with open(complete[path], "xb", opener=_opener(0o666 if mode is None else mode)) as file:
+                file.writelines(pieces)
+                file.flush()
+                if mode is not None:
+                    os.fchmod(file.fileno(), mode)
+                os.fsync(file.fileno())
+        for path, written in complete.items():
+            _give_name(written, path, replaces)
+    except OSError as error:
+        error.filename = path
+        raise
+    finally:
+        for written in complete.values():
+            with contextlib.suppress(OSError):
+                os.unlink(written)
+            _unfinished.discard(written)
+
+
+def _opener(mode: int) -> Callable[[str, int], int]:
+    return lambda path, flags: os.open(path, flags, mode)
+
+
+def _give_name(written: str, path: str, replaces: bool) -> None:
+    try:
+        if not replaces:
+            return os.link(written, path)  # never replaces a file
+    except FileExistsError:
+        raise
+    except OSError:  # a file system without hard links
+        pass
+    os.replace(written, path)
+
+
+def end_by(number: int) -> NoReturn:
+    """Ends this process by a signal, at once: unfinished files are removed, and threads are not waited for."""
+    for path in [*_unfinished]:
+        with contextlib.suppress(OSError):
+            os.unlink(path)
+    signal.signal(number, signal.SIG_DFL)
+    os.kill(os.getpid(), number)
+    os._exit(128 + number)  # if the signal is blocked
+
+
+def run(program: str, main: Callable[[], int], interrupted: str = "") -> NoReturn:
+    """Runs `main` as the program with this name. Ends this process, without waiting for threads, with the status that
+    `main` returns or a Refusal has; by SIGPIPE if standard output is no longer read; or by one of SIGNALS, after the
+    message `interrupted`, if any. An exception of a handler might get lost, so the handler itself ends the process."""
+    global name
+    name = program
+
+    def handle(number: int, frame: Optional[FrameType]) -> NoReturn:
+        if interrupted:
+            say(interrupted)
+        end_by(number)
+
+    for number in SIGNALS:
+        if signal.getsignal(number) != signal.SIG_IGN:
+            signal.signal(number, handle)
+    while os.open(os.devnull, os.O_RDWR) < 3:
+        pass  # so that no file that is opened later takes the place of a closed stream
+    status: Any = UNREADABLE
+    try:
+        if sys.stdout is None:
+            raise Refusal("cannot write standard output: it is closed")
+        status = main()
+    except Refusal as why:
+        status = why.status
+        say(why)
+    except SystemExit as why:  # after --help
+        status = why.code
+    except BrokenPipeError:
+        end_by(signal.SIGPIPE)
+    except OSError as why:
+        say(f"{shown(why.filename or 'a file')}: {why.strerror or why}")
+    os._exit(status)
