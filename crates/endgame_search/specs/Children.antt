@@ -43,3 +43,9 @@ pub record UnlistedAreAtMost (g : Scoring) (p : PosView) (best : ℤ) (cs : List
   pub each : All (IsChildOf p) cs
   pub every : (q : ℕ) → IsMove p q
       → Contains (child_squares cs) q ⊎ (neg_ℤ (value_of g (play_of p q)) ≤ℤ best)
+
+-- d is c but for its place in the order
+pub record IsSameChild (c d : Child) : Type 0 where
+  pub square : d.square ≡ c.square
+  pub position : d.position ≡ c.position
+  pub replies : d.replies ≡ c.replies

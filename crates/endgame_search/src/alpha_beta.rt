@@ -10,6 +10,7 @@ ghost use Rattle.othello_rules.specs.Answer.{IsScore};
 ghost use Rattle.endgame_search.specs.Windows.{IsBound, IsWindow, IsFailSoft, IsNullWindowScore};
 ghost use Rattle.endgame_search.specs.Children.{UnlistedAreAtMost};
 
+use crate::judged::search_judged;
 use crate::move_order::{Child, add_children, add_until_no_replies, sort_children};
 use crate::shallow::{MOST_SHALLOW_EMPTIES, search_shallow};
 use crate::table_cutoff::{
@@ -57,7 +58,7 @@ pub(crate) fn search_window<T: Bounds>(table: &T, position: Pos, guess: i8, low:
     let mut score = guess;
     while lower < upper {
         let bound = score.max(lower).min(upper - 1);
-        score = search(table, position, moves, bound);
+        score = search_judged(table, position, moves, bound);
         if score > bound {
             lower = score;
         } else {
@@ -67,10 +68,10 @@ pub(crate) fn search_window<T: Bounds>(table: &T, position: Pos, guess: i8, low:
     if lower >= high { lower } else { upper }
 }
 
-// Searches a position, in `shallow` if few squares are empty.
+// Searches a position with fewer empty squares than `judged` asks for, in `shallow` if few are empty.
 #[cycle(search)]
 #[inline(always)]
-fn search<T: Bounds>(table: &T, position: Pos, moves: u64, bound: i8) -> i8
+pub(crate) fn search<T: Bounds>(table: &T, position: Pos, moves: u64, bound: i8) -> i8
     requires moves { moves ≡ moves_of position }
     requires bound { IsBound bound }
     ensures { IsNullWindowScore bound (value_of (T.scoring table.now) position) result }

@@ -10,11 +10,13 @@ ghost use Rattle.endgame_search.specs.BestMoves.{AreBestFrom};
 ghost use Rattle.othello_bits.specs.Pos.{moves_of, value_of, answer_of, best_answer, HasNoMove};
 
 use crate::alpha_beta::search_window;
-use crate::move_order::{Child, add_children, sort_children};
+use crate::foresight::first_guess;
+use crate::judged::add_ordered_children;
+use crate::move_order::{Child, sort_children};
 use crate::table_cutoff::{ABOVE_ALL_SCORES, BELOW_ALL_SCORES, possible_scores, store_if_deep};
 use crate::task::Task;
 use arrayvec::ArrayVec;
-use bound_table::Bounds;
+use bound_table::{Bounds, Range};
 use othello_bits::{Pos, including};
 use othello_rules::{Answer, Best, GREATEST_SCORE, Scoring};
 use std::marker::Model;
@@ -111,9 +113,10 @@ pub fn solve<T: Bounds>(table: &T, task: Task) -> Solved
         return solved_without_moves(table, task, 0);
     }
     let possible = possible_scores(table, position);
-    // Null windows up to 0 find a value up to 0, or a lower bound of a greater one.
-    let low = search_window(table, position, 0, BELOW_ALL_SCORES, 1);
-    let high = if low > 0 { possible.high() } else { low };
+    // Null windows up to the guess find a value up to it, or a lower bound of a greater one.
+    let guess = guess_within(position, possible);
+    let low = search_window(table, position, guess, BELOW_ALL_SCORES, guess + 1);
+    let high = if low > guess { possible.high() } else { low };
     let best = best_moves(table, position, low, high);
     solved_task(table, task, best.score, Best::Moves(best.squares))
 }
@@ -139,6 +142,13 @@ pub fn confirm<T: Bounds>(table: &T, task: Task, claim: Claim) -> Solved
         return solve(table, task);
     }
     solved_task(table, task, found.score, Best::Moves(found.squares))
+}
+
+// A guess of a position's value that lies in the range.
+fn guess_within(position: Pos, possible: Range) -> i8
+    ensures { IsScore result }
+{
+    first_guess(position).clamp(possible.low(), possible.high())
 }
 
 // Solves a task whose position is a pass, or the end of the game. The search is shortest if the
@@ -193,7 +203,7 @@ fn best_moves<T: Bounds>(table: &T, position: Pos, low: i8, high: i8) -> BestMov
     ensures { AreBestFrom (T.scoring table.now) position low result }
 {
     let mut children = ArrayVec::<Child, 64>::new();
-    add_children(position, position.moves(), &mut children);
+    add_ordered_children(position, position.moves(), low, &mut children);
     sort_children(&mut children);
     best_children(table, position, &children, low, high)
 }

@@ -1,0 +1,175 @@
+//! What a position is worth after some plies, by alpha-beta search over the evaluation: a guess, as
+//! the evaluation itself, that orders moves and begins searches. No contract depends on it.
+
+ghost use Rattle.std.specs.Prelude.{◌≡◌, ◌<◌, ◌≤ℤ◌, pos, All};
+ghost use Rattle.othello_rules.specs.Answer.{IsScore};
+ghost use Rattle.othello_bits.specs.Pos.{moves_of};
+ghost use Rattle.endgame_search.specs.Children.{IsChildOf};
+
+use crate::evaluation::{DISC, evaluate};
+use crate::move_order::{Child, add_children, next_child, sort_children};
+use arrayvec::ArrayVec;
+use othello_bits::Pos;
+use othello_rules::{GREATEST_SCORE, Scoring};
+
+// A worth below that of each position.
+const BELOW_ALL_WORTHS: i32 = -1_000_000;
+
+// What a win of all squares is worth.
+pub(crate) const GREATEST_WORTH: i32 = DISC * GREATEST_SCORE as i32;
+
+// What a position is worth after some plies, if that is between `low` and `high`; otherwise a bound
+// of it. A pass is no ply.
+#[cycle(foresee)]
+pub(crate) fn foresee(position: Pos, moves: u64, plies: u8, low: i32, high: i32) -> i32
+    requires { moves ≡ moves_of position }
+{
+    if moves != 0 {
+        return foresee_moves(position, moves, plies, low, high);
+    }
+    let passed = position.pass();
+    let replies = passed.moves();
+    if replies == 0 {
+        return final_worth(position);
+    }
+    foresee_moves(
+        passed,
+        replies,
+        plies,
+        high.wrapping_neg(),
+        low.wrapping_neg(),
+    )
+    .wrapping_neg()
+}
+
+// What a position is worth whose game is over.
+fn final_worth(position: Pos) -> i32 {
+    DISC * i32::from(position.final_score(Scoring::Winner))
+}
+
+// What a position is worth after some plies where the mover has a move.
+#[cycle(foresee)]
+#[inline(always)]
+fn foresee_moves(position: Pos, moves: u64, plies: u8, low: i32, high: i32) -> i32
+    requires { moves ≡ moves_of position }
+{
+    match plies {
+        0 => evaluate(position, moves),
+        1 => foresee_one_ply(position, moves, high),
+        _ => foresee_by_list(position, moves, plies, low, high),
+    }
+}
+
+// The same for two plies or more.
+#[cycle(foresee)]
+#[inline(never)]
+fn foresee_by_list(position: Pos, moves: u64, plies: u8, low: i32, high: i32) -> i32
+    requires moves { moves ≡ moves_of position }
+    requires some { 0 < plies }
+{
+    let mut children = ArrayVec::<Child, 64>::new();
+    add_children(position, moves, &mut children);
+    sort_children(&mut children);
+    foresee_children(position, &children, plies, low, high)
+}
+
+// The same by the listed children.
+#[cycle(foresee)]
+#[inline(always)]
+fn foresee_children(position: Pos, children: &[Child], plies: u8, low: i32, high: i32) -> i32
+    requires children { All (IsChildOf position) children.now }
+    requires some { 0 < plies }
+{
+    let mut best = BELOW_ALL_WORTHS;
+    for child in children {
+        let least = low.max(best);
+        let worth = foresee(
+            child.position,
+            child.replies,
+            plies - 1,
+            high.wrapping_neg(),
+            least.wrapping_neg(),
+        )
+        .wrapping_neg();
+        best = best.max(worth);
+        if best >= high {
+            return best;
+        }
+    }
+    best
+}
+
+// The same for one ply, which needs no list: the moves are tried in the order of their squares.
+#[inline(never)]
+fn foresee_one_ply(position: Pos, moves: u64, high: i32) -> i32
+    requires { moves ≡ moves_of position }
+{
+    let mut best = BELOW_ALL_WORTHS;
+    let mut rest = moves;
+    while rest != 0 {
+        let next = next_child(position, rest);
+        let child = next.child;
+        let worth = foresee_no_ply(child.position, child.replies).wrapping_neg();
+        best = best.max(worth);
+        if best >= high {
+            return best;
+        }
+        rest = next.rest;
+    }
+    best
+}
+
+// The same for no ply.
+#[inline(always)]
+fn foresee_no_ply(position: Pos, moves: u64) -> i32 {
+    if moves != 0 {
+        return evaluate(position, moves);
+    }
+    let passed = position.pass();
+    let replies = passed.moves();
+    if replies == 0 {
+        return final_worth(position);
+    }
+    evaluate(passed, replies).wrapping_neg()
+}
+
+// The fewest empty squares of a position whose value is guessed before it is searched.
+const FEWEST_GUESSED: u8 = 14;
+
+// How far a guess looks ahead at most, and how many empty squares it leaves at least.
+const MOST_PLIES_OF_GUESS: u8 = 6;
+
+const LEFT_BY_GUESS: u8 = 10;
+
+// By how many discs a guess is nearer to 0 than the value that is foreseen, since windows beyond
+// the value take longest.
+const GUESS_LESS: u8 = 8;
+
+// The guess by a worth, which is not negative here.
+fn guess_by(worth: u32) -> i8
+    ensures least { pos 0 ≤ℤ result }
+    ensures most { result ≤ℤ pos 64 }
+{
+    let discs = (worth / DISC as u32).min(GREATEST_SCORE as u32) as u8;
+    (discs.saturating_sub(GUESS_LESS) / 2 * 2) as i8
+}
+
+// A guess of a position's value.
+pub(crate) fn first_guess(position: Pos) -> i8
+    ensures { IsScore result }
+{
+    let empties = position.empties();
+    if empties < FEWEST_GUESSED {
+        return 0;
+    }
+    let plies = (empties - LEFT_BY_GUESS).min(MOST_PLIES_OF_GUESS);
+    let worth = foresee(
+        position,
+        position.moves(),
+        plies,
+        -GREATEST_WORTH,
+        GREATEST_WORTH,
+    );
+    let guess = guess_by(worth.unsigned_abs());
+    if worth < 0 { -guess } else { guess }
+}
