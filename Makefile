@@ -101,8 +101,10 @@ constants: ## writes the version, the size of the largest table and the default 
 	    docs/user-guide.md examples/kinds.report examples/kinds.scores
 	sed -i -E 's/^(\| `--max-empties N` .* )[0-9]+ \|$$/\1$(empties) |/' README.md
 
+has_rt = command -v rt >/dev/null || { echo 'rt (rattle-kit-13b or rattle-kit-13f) is not on the path' >&2; exit 4; }
 look: export list = $(LIST)
 look: ## solves three positions in about a minute, with nothing proved; LIST=FILE solves a small list of yours
+	$(has_rt)
 	[ -z "$$list" ] || list=$$(realpath -e -- "$$list")
 	[ -z "$$list" ] || set -- --data "list.obf=$$list" -- list.obf
 	cd crates/ffosolve
@@ -120,11 +122,14 @@ check: tools levels ## tests everything; the last line counts what passed. TESTS
 	exec env -u MAKEFLAGS -u MFLAGS -u MAKELEVEL $(PYTHON) -m pytest -n auto --durations 20 $(TESTS)
 
 tools:
-	for need in rt:rattle-kit-13f cc:gcc ld:binutils flock:util-linux git:git; do
-	    command -v $${need%:*} >/dev/null || { echo "$${need%:*} is missing: it is in the package $${need#*:}" >&2; exit 4; }
+	$(has_rt)
+	for need in cc:gcc ld:binutils flock:util-linux git:git; do
+	    command -v "$${need%:*}" >/dev/null || { echo "$${need%:*} is missing; Debian's package $${need#*:} has it" >&2; exit 4; }
 	done
-	$(PYTHON) -c 'import pytest, xdist, pytest_timeout' 2>/dev/null || { echo '$(PYTHON) lacks pytest or a part of it:' \
-	    'apt-get install python3-pytest python3-pytest-xdist python3-pytest-timeout, and PYTHON=/usr/bin/python3' >&2; exit 4; }
+	for need in pytest:pytest xdist:pytest-xdist pytest_timeout:pytest-timeout; do
+	    $(PYTHON) -c "import $${need%:*}" 2>/dev/null || { echo "$(PYTHON) has no module $${need%:*};" \
+	        "Debian's package python3-$${need#*:} has it for PYTHON=/usr/bin/python3" >&2; exit 4; }
+	done
 
 # The first lines of install and uninstall. The command `install` makes a new file in place of an old one, so a running
 # program keeps its own.

@@ -7,9 +7,10 @@ import time
 from pathlib import Path
 from unittest import mock
 
+import pytest
+
 from tests.prefix import LEVELS, path_without
-from tests.support import (NOBODY, ROOT, SECONDS, InFolder, as_at_a_login, is_v3, lack, need, processes_in, run,
-                           wait_until, write)
+from tests.support import NOBODY, ROOT, SECONDS, as_at_a_login, is_v3, need, processes_in, run, wait_until, write
 
 # A fake rt. Writes its arguments, descriptors and standard input to files, and runs the shell code $ACTS. The program
 # that it builds prints what it was made of, its words, its folder and its input.
@@ -45,13 +46,11 @@ LEVEL = LEVELS[is_v3()]
 HOW = {"text": True, "preexec_fn": as_at_a_login, "cwd": "/"}
 
 
-class Build(InFolder):
-    """Tests in a small checkout, in a folder whose name has a blank."""
+class Checkout:
+    """A small checkout in a folder whose name has a blank, beside the folders of a fake rt and of its kit."""
 
-    def setUp(self):
-        super().setUp()
-        need("make", "setpriv", "flock")
-        self.root, self.tools, self.kit = self.folder / "a checkout", self.folder / "tools", self.folder / "kit"
+    def __init__(self, folder, start):
+        self.start, self.root, self.tools, self.kit = start, folder / "a checkout", folder / "tools", folder / "kit"
         for name in ("ffosolve", "ffoscores", "othello_rules", "ffosolve_c"):
             write(self.root / f"crates/{name}/src/main.rt", "1\n")
         self.source = self.root / "crates/ffosolve/src/main.rt"
@@ -61,19 +60,20 @@ class Build(InFolder):
         run("cp", "-r", *(ROOT / name for name in files), self.root, check=True)
         self.rt, self.link = write(self.tools / "rt", RT), write(self.kit / "bin/rattle-link", COPY)
         write(self.kit / "toolchain/bin/clang", COPY)
-        self.starts = write(self.folder / "starts", "")
+        self.starts = write(folder / "starts", "")
         self.script, self.log = self.root / "bin/ffosolve", self.root / "out" / LEVEL / "ffosolve.o.log"
-        places = {"PATH": f"{self.tools}:/usr/bin:/bin", "STARTS": str(self.starts), "KIT_FOLDER": str(self.kit)}
-        self.enterContext(mock.patch.dict(os.environ, places, clear=True))
 
     def use(self, *words, **environment):
-        """Runs `self.script`, which is bin/ffosolve unless a test changes it, and returns its CompletedProcess. `words`
-        are the arguments, by default `w`; the input is the line `read`; `environment` are added variables."""
+        """Runs `script`, which is bin/ffosolve unless a test changes it, and returns its CompletedProcess. `words` are
+        the arguments, by default `w`; the input is the line `read`; `environment` are added variables."""
         return run(self.script, *(words or ("w",)), input="read\n", env={**os.environ, **environment}, **HOW)
 
     def begin(self, **environment):
-        """Starts `self.script` with the argument `w` and added variables `environment`, and returns its Popen."""
+        """Starts `script` with the argument `w` and added variables `environment`, and returns its Popen."""
         return self.start(self.script, "w", env={**os.environ, **environment}, **HOW)
+
+    def make(self, *words):
+        return run("make", "-s", "-C", self.root, *words, **HOW)
 
     def builds(self):
         return self.starts.read_text().count("start")
@@ -81,278 +81,317 @@ class Build(InFolder):
     def started(self, ran, text, words="<w>", builds=None):
         """Asserts that the run `ran` started a program that was built from the source `text` and printed its arguments
         as `words`, and that there were `builds` builds so far (None: any). Returns the run's standard error."""
-        self.assertEqual((ran.returncode, ran.stdout), (3, f"made of {text}\n{words}/\nread\n"), ran.stderr)
-        self.assertEqual(self.builds(), builds or self.builds())
+        assert (ran.returncode, ran.stdout) == (3, f"made of {text}\n{words}/\nread\n"), ran.stderr
+        assert self.builds() == builds or builds is None
         return ran.stderr
 
     def after(self, change, text, builds, **environment):
-        """Runs the shell command `change` in the folder of the crate ffosolve, then `self.script`. Checks this run with
+        """Runs the shell command `change` in the folder of the crate ffosolve, then `script`. Checks this run with
         `started`, which gets `text` and `builds`, and returns the run's standard error."""
         run("sh", "-euc", change, cwd=self.root / "crates/ffosolve", check=True)
         return self.started(self.use(**environment), text, builds=builds)
 
-    def refused(self, ran, words, before="(.*\n)*"):
-        """Asserts that a run ended with status 4 and without output, and that the last line on standard error says that
-        ffosolve was not built and contains `words`. The lines before match the pattern `before`, by default any."""
-        self.assertEqual((ran.returncode, ran.stdout), (4, ""), ran)
-        self.assertRegex(ran.stderr, rf"\A{before}ffosolve: not built: .*{re.escape(words)}.*\n\Z")
-
-    def test_the_first_use_of_each_program_builds_it_and_later_ones_only_run_it(self):
-        """Runs ffosolve by its path, ffosolve and ffoscores through symlinks, and `sh ffosolve` in the folder bin/."""
-        printed = self.started(self.use("one", "a b"), 1, "<one><a b>", builds=1)
-        self.assertTrue(all(line.startswith("ffosolve: ") for line in printed.splitlines()), printed)
-        for words in ("minutes", "GB", str(self.log), "ffosolve: 0 min, crate 1 of 2, othello_rules\n"):
-            self.assertEqual(printed.count(words), 1, printed)
-        self.assertFalse("34 of 83" in printed or "\r" in printed, printed)
-        self.assertIn("functions checked", self.log.read_text())
-        write(self.root / "crates/ffoscores/src/main.rt", "scores\n")
-        for name, builds, text in (("ffosolve", 2, 1), ("ffoscores", 3, "scores")):
-            self.script = self.folder / name
-            self.script.symlink_to(self.root / "bin" / name)
-            self.started(self.use(), text, builds=builds)
-            self.assertEqual(self.started(self.use(), text, builds=builds), "")
-        ran = run("sh", "ffosolve", "w", **{**HOW, "cwd": self.root / "bin"})
-        self.assertEqual(ran.stdout, f"made of 1\n<w>{self.root}/bin\n", ran)
-
-    def test_closed_standard_error_does_no_harm_to_builds_and_runs(self):
-        for text, builds in ((1, 1), (1, 1), (2, 2)):
-            write(self.source, f"{text}\n")
-            ran = run("sh", "-c", 'exec "$0" w 2>&-', self.script, input="read\n", **HOW)
-            self.assertEqual(self.started(ran, text, builds=builds), "")
-
-    def test_rt_gets_no_input_and_no_lock_and_the_program_replaces_the_caller(self):
-        below = self.root / "scripts/below"
-        write(below, below.read_text().replace("\n", '\nls -l /proc/$$/fd >>"$STARTS.rt"\n', 1))
-        ran = self.begin()
-        ran.communicate(timeout=SECONDS)
-        to_rt, to_program = Path("starts.rt").read_text(), Path("starts.program").read_text()
-        self.assertIn("/dev/null\n", to_rt)
-        self.assertNotIn("/crates\n", to_rt + to_program)
-        self.assertEqual(re.findall(r" (\d) -> ", to_program), ["0", "1", "2"])
-        self.assertIn(f"/proc/{ran.pid}/fd:\n", to_program)
-        write(self.source, "2\n")
-        run("make", "-C", self.root, f"out/{LEVEL}/ffosolve.o", input="read\n", **HOW)
-        self.assertEqual((self.builds(), Path("starts.read").read_text()), (2, ""))
-
-    def test_each_change_of_a_source_builds_again_and_a_new_time_does_not(self):
-        """The changes are a new text, the old text with its old modification time, a new, a renamed and a removed file,
-        a file of a crate that ffosolve uses, and crates.txt. If only out/ or must-fail/ changes, no source is read."""
-        make_old = "find ../../crates* -exec touch -d yesterday {} +; cp -p src/main.rt out"
-        self.after(f"mkdir out must-fail; touch out/kept.rt must-fail/one.rt; {make_old}", 1, builds=1)
-        os.link(self.root / "out/ffosolve", "old")
-        self.after("echo 2 >src/main.rt", 2, builds=2)
-        self.assertIn("made of 1", Path("old").read_text())  # a running program keeps its file
-        changes = ("cp -p out/main.rt src", "touch src/one.rt", "mv src/one.rt src/other.rt", "rm src/other.rt",
-                   "mkdir specs; touch specs/Lib.antt", "echo 2 >../othello_rules/src/main.rt")
-        for builds, change in enumerate(changes, 3):
-            self.after(change, 1, builds)
-        time.sleep(2.1)  # until the sources are clearly older than the build
-        self.use()
-        write(self.tools / "sha256sum", "#!/bin/sh\nexit 9\n")
-        self.after("touch out/two.rt must-fail/two.rt", 1, builds=8)
-        (self.tools / "sha256sum").unlink()
-        self.assertEqual(self.after("touch stdin src/main.rt", 1, builds=8), "")
-        self.after("echo >>../../crates.txt", 1, builds=9)
-
-    def test_a_change_within_the_same_second_builds_again(self):
-        """A fake command `date` is a second ahead of file times, since these may be up to a second behind the clock."""
-        write(self.tools / "date", '#!/bin/sh\necho $(($(/usr/bin/date "$@") + 1))\n')
-        self.use()
-        self.after("echo 2 >src/main.rt", 2, builds=2)
-
-    def test_a_change_during_a_build_builds_again(self):
-        self.started(self.use(ACTS="[ -e out ] || echo 2 >src/main.rt"), 2, builds=2)
-
-    def test_a_program_that_was_removed_is_built_again_and_kept_proofs_are_not(self):
-        self.use()
-        for lost, builds in (("crates/ffosolve/out", 1), ("out/ffosolve", 1), ("out", 2)):
-            self.after(f"rm -r ../../{lost}", 1, builds)
-
-    def test_a_second_run_says_that_it_waits_and_builds_if_the_first_fails(self):
-        for number, act, first_ends in ((1, FAIL, (4, "")), (2, "", (3, "made of 2\n<w>/\n"))):
-            write(self.source, f"{number}\n")
-            begun = self.builds()
-            first = self.begin(ACTS=WAIT + act)
-            wait_until(lambda: self.builds() > begun)
-            second = self.begin()
-            self.assertIn(f"waiting for another build; its log is in {self.root}/out\n", second.stderr.readline())
-            Path("starts.go").touch()
-            for ran, wanted in ((first, first_ends), (second, (3, f"made of {number}\n<w>/\n"))):
-                output, errors = ran.communicate(timeout=SECONDS)
-                self.assertEqual((ran.returncode, output), wanted, errors)
-            self.assertEqual(self.builds(), number + 1)
-            Path("starts.go").unlink()
-
-    def test_eight_runs_at_once_build_once(self):
-        for ran in [self.begin() for _ in range(8)]:
-            self.assertEqual(ran.communicate(timeout=SECONDS)[0], "made of 1\n<w>/\n")
-        self.assertEqual(self.builds(), 1)
-        self.assertEqual(sorted(os.listdir(self.root / "out")), ["ffosolve", LEVEL])
-
-    def test_a_missing_tool_is_reported_and_so_is_another_kit_which_is_tried(self):
-        ran = self.use(PATH="/usr/bin:/bin")
-        self.refused(ran, "rt (rattle-kit-13b or rattle-kit-13f) is not on the path", before="")
-        ran = self.use(PATH=f"{self.tools}:{path_without('make', self.folder)}")
-        self.assertEqual((ran.returncode, ran.stdout, ran.stderr.count("\n")), (4, "", 1), ran)
-        self.assertIn("make", ran.stderr)
-        for builds, kit in enumerate(("rattle-kit-13b", "rattle-kit-13f", "rattle-kit-14a", "rattle-kit-13"), 1):
-            printed = self.after(f"echo {builds} >src/main.rt", builds, builds, KIT=kit)
-            warning = f"rt is {kit} logic 0123; this checkout was proved with rattle-kit-13b and 13f; trying anyway"
-            self.assertEqual(f"ffosolve: {warning}\n" in printed, builds > 2, printed)
-
-    def test_a_failed_build_reports_its_first_error_and_runs_no_older_program(self):
-        self.use()
-        write(self.source, "2\n")
-        for _ in range(2):
-            self.refused(self.use(ACTS=FAIL), f"src/main.rt:1:2: error: a goal is open; see {self.log}")
-        for text, builds in ((1, 3), (2, 4)):
-            self.after(f"echo {text} >src/main.rt", text, builds)
-
-    def test_a_failed_link_reports_its_first_line_and_one_that_succeeds_is_silent(self):
-        write(self.link, "#!/bin/sh\necho 'ld.lld: error: no room' >&2\nexit 1\n")
-        ran = self.use()
-        last = ran.stderr.splitlines()[-1]
-        self.assertEqual((ran.returncode, ran.stdout, last), (4, "", "ld.lld: error: no room"), ran)
-        write(self.link, COPY + "echo linked >&2\n")
-        self.assertEqual(self.started(self.use(), 1, builds=1), "")
-
-    def test_kept_work_that_cannot_be_used_is_dropped_and_built_again(self):
-        kept = write(self.root / "crates/othello_rules/out/kept", "")
-        printed = self.after("mkdir out; touch out/spoiled", 1, builds=2, ACTS=f"[ ! -e out/spoiled ] || {{ {SPOIL} }}")
-        self.assertIn("dropped the old work on ffosolve", printed)
-        self.assertTrue(kept.exists())
-        write(self.source, "2\n")
-        self.refused(self.use(ACTS=SPOIL), "cannot be used")
-        self.assertLess(self.builds(), 15)
-
-    def test_a_program_that_cannot_be_written_leaves_nothing_and_runs_no_older_one(self):
-        """The command mv fails, at first without moving the file, and then after moving it."""
-        self.use()
-        write(self.source, "2\n")
-        for moves in ("", '/usr/bin/mv "$@"\n'):
-            write(self.tools / "mv", f"#!/bin/sh\n{moves}exit 1\n")
-            self.refused(self.use(), f"{self.log.with_suffix('')} can't be written")
-            self.assertEqual([name for name in os.listdir(self.log.parent) if ".new" in name], [])
-        (self.tools / "mv").unlink()
-        self.after("echo 1 >src/main.rt", 1, builds=4)
-
-    def test_a_full_disk_is_reported_and_the_next_run_builds(self):
-        """The disk with out/ is full from the start, or has less room than the program needs."""
-        small = 'mount -t tmpfs -o size=40k none out && head -c "$1" /dev/zero >out/filled; shift; exec "$@"'
-        (self.root / "out").mkdir()
-        space = ["unshare", "-m"] if os.getuid() == 0 else ["unshare", "-r", "-m"]
-        if run(*space, "mount", "-t", "tmpfs", "none", self.root / "out").returncode:
-            lack("a right to mount a disk")
-        write(self.rt, RT + 'head -c 30000 /dev/zero >>out/${PWD##*/}.o\n')
-        for filled in (40960, 20000):
-            words = [*space, "sh", "-c", small, "sh", filled, self.script]
-            self.refused(run(*words, **{**HOW, "cwd": self.root}), "written")
-        self.started(self.use(), 1)
-
-    def test_in_a_checkout_of_another_user_a_built_program_runs_and_no_other_is_built(self):
-        """New times of sources do no harm. A source that can't be read does harm only if out/ can be written."""
-        def closed(*changes):
-            run("sh", "-euc", "\n".join(("chmod -R a-w .", *changes)), cwd=self.root, check=True)
-            ran = run(self.script, "w", input="read\n", **HOW, **NOBODY)
-            run("chmod", "-R", "u=rwX,go=rX", self.root, check=True)
-            return ran
-
-        unreadable = "chmod a= crates/ffosolve/src/main.rt"
-        self.refused(closed(), "can't be written", before="")
-        self.use()
-        Path("starts.program").chmod(0o666)
-        for changes in ((), ("chmod go= crates",), (unreadable,)):
-            os.utime(self.source)
-            self.assertEqual(self.started(closed(*changes), 1, builds=1), "")
-        self.assertEqual(closed(unreadable, "chmod a+w out").returncode, 4)
-        write(self.source, "2\n")
-        self.refused(closed(), "can't be written", before="")
-
-    def test_a_signal_ends_the_build_and_the_run_that_waits(self):
-        for count, number in enumerate((signal.SIGTERM, signal.SIGHUP, signal.SIGINT, signal.SIGKILL), 1):
-            ran = self.begin(ACTS=WAIT)
-            wait_until(lambda: self.builds() >= count)
-            waits = self.begin()
-            wait_until(lambda: any(words.startswith("flock 9") for words in processes_in(self.root).values()))
-            for one in (waits, ran):
-                one.send_signal(number)
-                self.assertEqual((one.communicate(timeout=20)[0], one.returncode), ("", -number))
-            wait_until(lambda: not processes_in(self.root), 30)  # the fake rt would wait for 45 seconds
-        self.started(self.use(), 1, builds=5)
-
     def on_a_terminal(self, keys, shown, go=False, columns=80):
-        """Runs `self.script` on a terminal with `columns` columns while the fake rt waits. When the bytes `shown` have
+        """Runs `script` on a terminal with `columns` columns while the fake rt waits. When the bytes `shown` have
         appeared, ends the wait if `go` is true, and types `keys`. Returns (output, status)."""
         words = ["script", "-qec", f"stty cols {columns}; exec '{self.script}' w", "/dev/null"]
-        ran = self.start(*words, stdin=subprocess.PIPE, env={**os.environ, "ACTS": WAIT}, **{**HOW, "text": False})
-        output, end = b"", time.monotonic() + SECONDS
+        how = {**HOW, "text": False, "stdin": subprocess.PIPE, "env": {**os.environ, "ACTS": WAIT}}
+        ran, output, end = self.start(*words, **how), b"", time.monotonic() + SECONDS
         while shown not in output and time.monotonic() < end:
             output += os.read(ran.stdout.fileno(), 4096)
         go and Path("starts.go").touch()
         return (output + ran.communicate(keys, timeout=SECONDS)[0]).decode(), ran.returncode
 
-    def test_on_a_terminal_one_line_that_fits_shows_the_progress_and_ctrl_c_ends_all(self):
-        output, status = self.on_a_terminal(b"\x03", b" functions")
-        self.assertEqual(status, 128 + signal.SIGINT, output)
-        wait_until(lambda: not processes_in(self.root), 30)
-        output, status = self.on_a_terminal(b"\x04", b" functions", go=True)
-        self.assertIn("\r\x1b[Kffosolve: 0 min, crate 1 of 2, othello_rules: 34 of 83 functions\r\x1b[K", output)
-        self.assertEqual(("made of 1" in output, status), (True, 3), output)
-        write(self.source, "2\n")
+
+@pytest.fixture
+def checkout(folder, start):
+    need("make", "setpriv", "flock")
+    made = Checkout(folder, start)
+    places = {"PATH": f"{made.tools}:/usr/bin:/bin", "STARTS": str(made.starts), "KIT_FOLDER": str(made.kit)}
+    with mock.patch.dict(os.environ, places, clear=True):
+        yield made
+
+
+def is_refused(ran, words, before="(.*\n)*"):
+    """Asserts that a run ended with status 4 and without output, and that the last line on standard error says that
+    ffosolve was not built and contains `words`. The lines before match the pattern `before`, by default any."""
+    assert (ran.returncode, ran.stdout) == (4, ""), ran
+    assert re.search(rf"\A{before}ffosolve: not built: .*{re.escape(words)}.*\n\Z", ran.stderr)
+
+
+def test_the_first_use_of_each_program_builds_it_and_later_ones_only_run_it(folder, checkout):
+    """Runs ffosolve by its path, ffosolve and ffoscores through symlinks, and `sh ffosolve` in the folder bin/."""
+    printed = checkout.started(checkout.use("one", "a b"), 1, "<one><a b>", builds=1)
+    assert all(line.startswith("ffosolve: ") for line in printed.splitlines()), printed
+    for words in ("minutes", "GB", str(checkout.log), "ffosolve: 0 min, crate 1 of 2, othello_rules\n"):
+        assert printed.count(words) == 1, printed
+    assert not ("34 of 83" in printed or "\r" in printed), printed
+    assert "functions checked" in checkout.log.read_text()
+    write(checkout.root / "crates/ffoscores/src/main.rt", "scores\n")
+    for name, builds, text in (("ffosolve", 2, 1), ("ffoscores", 3, "scores")):
+        checkout.script = folder / name
+        checkout.script.symlink_to(checkout.root / "bin" / name)
+        checkout.started(checkout.use(), text, builds=builds)
+        assert checkout.started(checkout.use(), text, builds=builds) == ""
+    ran = run("sh", "ffosolve", "w", **{**HOW, "cwd": checkout.root / "bin"})
+    assert ran.stdout == f"made of 1\n<w>{checkout.root}/bin\n", ran
+
+
+def test_closed_standard_error_does_no_harm_to_builds_and_runs(checkout):
+    for text, builds in ((1, 1), (1, 1), (2, 2)):
+        write(checkout.source, f"{text}\n")
+        ran = run("sh", "-c", 'exec "$0" w 2>&-', checkout.script, input="read\n", **HOW)
+        assert checkout.started(ran, text, builds=builds) == ""
+
+
+def test_rt_gets_no_input_and_no_lock_and_the_program_replaces_the_caller(checkout):
+    below = checkout.root / "scripts/below"
+    write(below, below.read_text().replace("\n", '\nls -l /proc/$$/fd >>"$STARTS.rt"\n', 1))
+    ran = checkout.begin()
+    ran.communicate(timeout=SECONDS)
+    to_rt, to_program = Path("starts.rt").read_text(), Path("starts.program").read_text()
+    assert "/dev/null\n" in to_rt
+    assert "/crates\n" not in to_rt + to_program
+    assert re.findall(r" (\d) -> ", to_program) == ["0", "1", "2"]
+    assert f"/proc/{ran.pid}/fd:\n" in to_program
+    write(checkout.source, "2\n")
+    run("make", "-C", checkout.root, f"out/{LEVEL}/ffosolve.o", input="read\n", **HOW)
+    assert (checkout.builds(), Path("starts.read").read_text()) == (2, "")
+
+
+def test_each_change_of_a_source_builds_again_and_a_new_time_does_not(checkout):
+    """The changes are a new text, the old text with its old modification time, a new, a renamed and a removed file,
+    a file of a crate that ffosolve uses, and crates.txt. If only out/ or must-fail/ changes, no source is read."""
+    make_old = "find ../../crates* -exec touch -d yesterday {} +; cp -p src/main.rt out"
+    checkout.after(f"mkdir out must-fail; touch out/kept.rt must-fail/one.rt; {make_old}", 1, builds=1)
+    os.link(checkout.root / "out/ffosolve", "old")
+    checkout.after("echo 2 >src/main.rt", 2, builds=2)
+    assert "made of 1" in Path("old").read_text()  # a running program keeps its file
+    changes = ("cp -p out/main.rt src", "touch src/one.rt", "mv src/one.rt src/other.rt", "rm src/other.rt",
+               "mkdir specs; touch specs/Lib.antt", "echo 2 >../othello_rules/src/main.rt")
+    for builds, change in enumerate(changes, 3):
+        checkout.after(change, 1, builds)
+    time.sleep(2.1)  # until the sources are clearly older than the build
+    checkout.use()
+    write(checkout.tools / "sha256sum", "#!/bin/sh\nexit 9\n")
+    checkout.after("touch out/two.rt must-fail/two.rt", 1, builds=8)
+    (checkout.tools / "sha256sum").unlink()
+    assert checkout.after("touch stdin src/main.rt", 1, builds=8) == ""
+    checkout.after("echo >>../../crates.txt", 1, builds=9)
+
+
+def test_a_change_within_the_same_second_builds_again(checkout):
+    """A fake command `date` is a second ahead of file times, since these may be up to a second behind the clock."""
+    write(checkout.tools / "date", '#!/bin/sh\necho $(($(/usr/bin/date "$@") + 1))\n')
+    checkout.use()
+    checkout.after("echo 2 >src/main.rt", 2, builds=2)
+
+
+def test_a_change_during_a_build_builds_again(checkout):
+    checkout.started(checkout.use(ACTS="[ -e out ] || echo 2 >src/main.rt"), 2, builds=2)
+
+
+def test_a_program_that_was_removed_is_built_again_and_kept_proofs_are_not(checkout):
+    checkout.use()
+    for lost, builds in (("crates/ffosolve/out", 1), ("out/ffosolve", 1), ("out", 2)):
+        checkout.after(f"rm -r ../../{lost}", 1, builds)
+
+
+def test_a_second_run_says_that_it_waits_and_builds_if_the_first_fails(checkout):
+    for number, act, first_ends in ((1, FAIL, (4, "")), (2, "", (3, "made of 2\n<w>/\n"))):
+        write(checkout.source, f"{number}\n")
+        begun = checkout.builds()
+        first = checkout.begin(ACTS=WAIT + act)
+        wait_until(lambda: checkout.builds() > begun)
+        second = checkout.begin()
+        assert f"waiting for another build; its log is in {checkout.root}/out\n" in second.stderr.readline()
+        Path("starts.go").touch()
+        for ran, wanted in ((first, first_ends), (second, (3, f"made of {number}\n<w>/\n"))):
+            output, errors = ran.communicate(timeout=SECONDS)
+            assert (ran.returncode, output) == wanted, errors
+        assert checkout.builds() == number + 1
         Path("starts.go").unlink()
-        output, _ = self.on_a_terminal(b"\x04", b"crate 1", go=True, columns=30)
-        shown = [line for line in re.split(r"\r\n?|\x1b\[K", output) if "crate 1" in line]
-        self.assertTrue(shown and all(len(line) < 30 for line in shown), output)
 
-    def make(self, *words):
-        return run("make", "-s", "-C", self.root, *words, **HOW)
 
-    def test_each_level_is_proved_once_and_a_new_version_only_links_the_library_again(self):
-        """If the library can't be linked because a tool fails or a function is undefined, make reports the tool's error
-        or the function's name."""
-        need("cc", "ar", "objcopy", "readelf")
-        (self.kit / "c").mkdir()
-        crate = "extern int heap_call(void);\nint ffosolve_moves(void) { return heap_call(); }\n"
-        for name, text in (("libffosolve_c.a", crate), ("c/liblibc_c.a", "int heap_call(void) { return 3; }\n")):
-            run("cc", "-fPIC", "-c", "-o", "one.o", "-x", "c", "-", input=text.encode(), check=True)
-            run("ar", "rcs", self.kit / name, "one.o", check=True)
-        for level in LEVELS:
-            self.assertEqual(self.make(f"CPU={level}").returncode, 0)
-            self.assertIn(f"start run --cpu={level}\nstart lib --cpu={level}\n", self.starts.read_text())
-        write(self.root / "VERSION", "2.3.4\n")
-        self.assertEqual(self.make("library").returncode, 0)
-        shared = run("readelf", "-d", self.root / "out/library/libffosolve.so", text=True).stdout
-        self.assertIn("soname: [libffosolve.so.2]", shared)
-        self.assertIn('"2.3.4"', (self.root / "out/library/ffosolve.h").read_text())
-        self.assertEqual(self.builds(), 6)
-        ran = self.make("CPU=x86-64-v4")
-        self.assertEqual(ran.returncode, 2)
-        self.assertIn("CPU is x86-64-v4, but has to be one of: x86-64-v2 x86-64-v3", ran.stderr)
-        write(self.tools / "objcopy", "#!/bin/sh\necho 'objcopy: no room' >&2\nexit 1\n")
-        (self.log.parent / "libffosolve.o").unlink()
-        self.assertIn("objcopy: no room", self.make("library").stderr)
-        (self.tools / "objcopy").unlink()
-        run("ar", "d", self.kit / "c/liblibc_c.a", "one.o", check=True)
-        shared = self.log.parent / "libffosolve.so"
-        shared.unlink()
-        self.assertIn("heap_call", self.make("library").stderr)
-        self.assertFalse(shared.exists())
+def test_eight_runs_at_once_build_once(checkout):
+    for ran in [checkout.begin() for _ in range(8)]:
+        assert ran.communicate(timeout=SECONDS)[0] == "made of 1\n<w>/\n"
+    assert checkout.builds() == 1
+    assert sorted(os.listdir(checkout.root / "out")) == ["ffosolve", LEVEL]
 
-    def test_help_lists_the_targets_of_both_makefiles(self):
-        listed = self.make("help").stdout
-        for target in ("all", "look", "install", "dist"):
-            self.assertRegex(listed, rf"(?m)^make {target} +\w")
 
-    def test_look_prints_the_report_and_that_nothing_is_proved_or_why_there_is_no_report(self):
-        write(self.root / "crates/ffosolve/stdin", "")
-        ended = "echo 'checked: ended status=3' >&2\necho 'run=ended status=3' >&2\nexit 3\n"
-        write(self.rt, f'#!/bin/sh\nshift\necho "$@" >"$STARTS"\necho report\n{ended}')
-        positions = write(self.folder / "a list", "")
-        for words, given in ((), ""), ((f"LIST={positions}",), f"--data list.obf={positions} -- list.obf"):
-            said = self.make("look", *words).stdout
-            self.assertEqual(said, "report\nnothing is proved yet: bin/ffosolve proves the program, and then runs it\n")
-            self.assertEqual(self.starts.read_text(), f"{given}\n")
-        self.assertIn("no such list", self.make("look", "LIST=no such list").stderr)
-        write(self.rt, "#!/bin/sh\necho 'rt: no answer' >&2\nexit 6\n")
-        ran = self.make("look")
-        self.assertEqual((ran.returncode, ran.stdout, ran.stderr.split("\n")[0]), (2, "", "rt: no answer"), ran)
+def test_a_missing_tool_is_reported_and_so_is_another_kit_which_is_tried(folder, checkout):
+    ran = checkout.use(PATH="/usr/bin:/bin")
+    is_refused(ran, "rt (rattle-kit-13b or rattle-kit-13f) is not on the path", before="")
+    ran = checkout.use(PATH=f"{checkout.tools}:{path_without('make', folder)}")
+    assert (ran.returncode, ran.stdout, ran.stderr.count("\n")) == (4, "", 1), ran
+    assert "make" in ran.stderr
+    no_rt = "rt (rattle-kit-13b or rattle-kit-13f) is not on the path"
+    no_ld = "ld is missing; Debian's package binutils has it"
+    no_pytest = "false has no module pytest; Debian's package python3-pytest has it for PYTHON=/usr/bin/python3"
+    for error, *words in ((no_rt, "look", "PATH=/usr/bin:/bin"), (no_rt, "check", "PATH=/usr/bin:/bin"),
+                          (no_ld, "check", f"PATH={checkout.tools}:{path_without('ld', folder)}"),
+                          (no_pytest, "check", "PYTHON=false")):
+        ran = checkout.make(*words)
+        assert (ran.returncode, ran.stdout, ran.stderr.splitlines()[0]) == (2, "", error), ran
+    assert checkout.builds() == 0
+    for builds, kit in enumerate(("rattle-kit-13b", "rattle-kit-13f", "rattle-kit-14a", "rattle-kit-13"), 1):
+        printed = checkout.after(f"echo {builds} >src/main.rt", builds, builds, KIT=kit)
+        warning = f"rt is {kit} logic 0123; this checkout was proved with rattle-kit-13b and 13f; trying anyway"
+        assert (f"ffosolve: {warning}\n" in printed) == (builds > 2), printed
+
+
+def test_a_failed_build_reports_its_first_error_and_runs_no_older_program(checkout):
+    checkout.use()
+    write(checkout.source, "2\n")
+    for _ in range(2):
+        is_refused(checkout.use(ACTS=FAIL), f"src/main.rt:1:2: error: a goal is open; see {checkout.log}")
+    for text, builds in ((1, 3), (2, 4)):
+        checkout.after(f"echo {text} >src/main.rt", text, builds)
+
+
+def test_a_failed_link_reports_its_first_line_and_one_that_succeeds_is_silent(checkout):
+    write(checkout.link, "#!/bin/sh\necho 'ld.lld: error: no room' >&2\nexit 1\n")
+    ran = checkout.use()
+    last = ran.stderr.splitlines()[-1]
+    assert (ran.returncode, ran.stdout, last) == (4, "", "ld.lld: error: no room"), ran
+    write(checkout.link, COPY + "echo linked >&2\n")
+    assert checkout.started(checkout.use(), 1, builds=1) == ""
+
+
+def test_kept_work_that_cannot_be_used_is_dropped_and_built_again(checkout):
+    kept = write(checkout.root / "crates/othello_rules/out/kept", "")
+    printed = checkout.after("mkdir out; touch out/spoiled", 1, builds=2, ACTS=f"[ ! -e out/spoiled ] || {{ {SPOIL} }}")
+    assert "dropped the old work on ffosolve" in printed
+    assert kept.exists()
+    write(checkout.source, "2\n")
+    is_refused(checkout.use(ACTS=SPOIL), "cannot be used")
+    assert checkout.builds() < 15
+
+
+def test_a_program_that_cannot_be_written_leaves_nothing_and_runs_no_older_one(checkout):
+    """The command mv fails, at first without moving the file, and then after moving it."""
+    checkout.use()
+    write(checkout.source, "2\n")
+    for moves in ("", '/usr/bin/mv "$@"\n'):
+        write(checkout.tools / "mv", f"#!/bin/sh\n{moves}exit 1\n")
+        is_refused(checkout.use(), f"{checkout.log.with_suffix('')} can't be written")
+        assert [name for name in os.listdir(checkout.log.parent) if ".new" in name] == []
+    (checkout.tools / "mv").unlink()
+    checkout.after("echo 1 >src/main.rt", 1, builds=4)
+
+
+def test_a_full_disk_is_reported_and_the_next_run_builds(checkout):
+    """The disk with out/ is full from the start, or has less room than the program needs."""
+    small = 'mount -t tmpfs -o size=40k none out && head -c "$1" /dev/zero >out/filled; shift; exec "$@"'
+    (checkout.root / "out").mkdir()
+    space = ["unshare", "-m"] if os.getuid() == 0 else ["unshare", "-r", "-m"]
+    if run(*space, "mount", "-t", "tmpfs", "none", checkout.root / "out").returncode:
+        pytest.skip("a right to mount a disk is missing")
+    write(checkout.rt, RT + 'head -c 30000 /dev/zero >>out/${PWD##*/}.o\n')
+    for filled in (40960, 20000):
+        words = [*space, "sh", "-c", small, "sh", filled, checkout.script]
+        is_refused(run(*words, **{**HOW, "cwd": checkout.root}), "written")
+    checkout.started(checkout.use(), 1)
+
+
+def test_in_a_checkout_of_another_user_a_built_program_runs_and_no_other_is_built(checkout):
+    """New times of sources do no harm. A source that can't be read does harm only if out/ can be written."""
+    def closed(*changes):
+        run("sh", "-euc", "\n".join(("chmod -R a-w .", *changes)), cwd=checkout.root, check=True)
+        ran = run(checkout.script, "w", input="read\n", **HOW, **NOBODY)
+        run("chmod", "-R", "u=rwX,go=rX", checkout.root, check=True)
+        return ran
+
+    unreadable = "chmod a= crates/ffosolve/src/main.rt"
+    is_refused(closed(), "can't be written", before="")
+    checkout.use()
+    Path("starts.program").chmod(0o666)
+    for changes in ((), ("chmod go= crates",), (unreadable,)):
+        os.utime(checkout.source)
+        assert checkout.started(closed(*changes), 1, builds=1) == ""
+    assert closed(unreadable, "chmod a+w out").returncode == 4
+    write(checkout.source, "2\n")
+    is_refused(closed(), "can't be written", before="")
+
+
+def test_a_signal_ends_the_build_and_the_run_that_waits(checkout):
+    for count, number in enumerate((signal.SIGTERM, signal.SIGHUP, signal.SIGINT, signal.SIGKILL), 1):
+        ran = checkout.begin(ACTS=WAIT)
+        wait_until(lambda: checkout.builds() >= count)
+        waits = checkout.begin()
+        wait_until(lambda: any(words.startswith("flock 9") for words in processes_in(checkout.root).values()))
+        for one in (waits, ran):
+            one.send_signal(number)
+            assert (one.communicate(timeout=20)[0], one.returncode) == ("", -number)
+        wait_until(lambda: not processes_in(checkout.root), 30)  # the fake rt would wait for 45 seconds
+    checkout.started(checkout.use(), 1, builds=5)
+
+
+def test_on_a_terminal_one_line_that_fits_shows_the_progress_and_ctrl_c_ends_all(checkout):
+    output, status = checkout.on_a_terminal(b"\x03", b" functions")
+    assert status == 128 + signal.SIGINT, output
+    wait_until(lambda: not processes_in(checkout.root), 30)
+    output, status = checkout.on_a_terminal(b"\x04", b" functions", go=True)
+    assert "\r\x1b[Kffosolve: 0 min, crate 1 of 2, othello_rules: 34 of 83 functions\r\x1b[K" in output
+    assert ("made of 1" in output, status) == (True, 3), output
+    write(checkout.source, "2\n")
+    Path("starts.go").unlink()
+    output, _ = checkout.on_a_terminal(b"\x04", b"crate 1", go=True, columns=30)
+    shown = [line for line in re.split(r"\r\n?|\x1b\[K", output) if "crate 1" in line]
+    assert shown and all(len(line) < 30 for line in shown), output
+
+
+def test_each_level_is_proved_once_and_a_new_version_only_links_the_library_again(checkout):
+    """If the library can't be linked because a tool fails or a function is undefined, make reports the tool's error
+    or the function's name."""
+    need("cc", "ar", "objcopy", "readelf")
+    (checkout.kit / "c").mkdir()
+    crate = "extern int heap_call(void);\nint ffosolve_moves(void) { return heap_call(); }\n"
+    for name, text in (("libffosolve_c.a", crate), ("c/liblibc_c.a", "int heap_call(void) { return 3; }\n")):
+        run("cc", "-fPIC", "-c", "-o", "one.o", "-x", "c", "-", input=text.encode(), check=True)
+        run("ar", "rcs", checkout.kit / name, "one.o", check=True)
+    for level in LEVELS:
+        assert checkout.make(f"CPU={level}").returncode == 0
+        assert f"start run --cpu={level}\nstart lib --cpu={level}\n" in checkout.starts.read_text()
+    python = write(checkout.tools / "python", '#!/bin/sh\n[ "$1" = -c ] || echo "$2" "<$MAKEFLAGS$MFLAGS$MAKELEVEL>"\n')
+    assert checkout.make("-j9", "check", f"PYTHON={python}").stdout == "pytest <>\n"
+    write(checkout.root / "VERSION", "2.3.4\n")
+    assert checkout.make("library").returncode == 0
+    shared = run("readelf", "-d", checkout.root / "out/library/libffosolve.so", text=True).stdout
+    assert "soname: [libffosolve.so.2]" in shared
+    assert '"2.3.4"' in (checkout.root / "out/library/ffosolve.h").read_text()
+    assert checkout.builds() == 6
+    ran = checkout.make("CPU=x86-64-v4")
+    assert ran.returncode == 2
+    assert "CPU is x86-64-v4, but has to be one of: x86-64-v2 x86-64-v3" in ran.stderr
+    write(checkout.tools / "objcopy", "#!/bin/sh\necho 'objcopy: no room' >&2\nexit 1\n")
+    (checkout.log.parent / "libffosolve.o").unlink()
+    assert "objcopy: no room" in checkout.make("library").stderr
+    (checkout.tools / "objcopy").unlink()
+    run("ar", "d", checkout.kit / "c/liblibc_c.a", "one.o", check=True)
+    shared = checkout.log.parent / "libffosolve.so"
+    shared.unlink()
+    assert "heap_call" in checkout.make("library").stderr
+    assert not shared.exists()
+
+
+def test_help_lists_the_targets_of_both_makefiles(checkout):
+    listed = checkout.make("help").stdout
+    for target in ("all", "look", "install", "dist"):
+        assert re.search(rf"(?m)^make {target} +\w", listed)
+
+
+def test_look_prints_the_report_and_that_nothing_is_proved_or_why_there_is_no_report(folder, checkout):
+    write(checkout.root / "crates/ffosolve/stdin", "")
+    ended = "echo 'checked: ended status=3' >&2\necho 'run=ended status=3' >&2\nexit 3\n"
+    write(checkout.rt, f'#!/bin/sh\nshift\necho "$@" >"$STARTS"\necho report\n{ended}')
+    positions = write(folder / "a list", "")
+    for words, given in ((), ""), ((f"LIST={positions}",), f"--data list.obf={positions} -- list.obf"):
+        said = checkout.make("look", *words).stdout
+        assert said == "report\nnothing is proved yet: bin/ffosolve proves the program, and then runs it\n"
+        assert checkout.starts.read_text() == f"{given}\n"
+    assert "no such list" in checkout.make("look", "LIST=no such list").stderr
+    write(checkout.rt, "#!/bin/sh\necho 'rt: no answer' >&2\nexit 6\n")
+    ran = checkout.make("look")
+    assert (ran.returncode, ran.stdout, ran.stderr.split("\n")[0]) == (2, "", "rt: no answer"), ran

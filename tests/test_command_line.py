@@ -1,7 +1,9 @@
 """ffosolve and ffoscores: --help, --version, --progress, refused words, files after --, and a full or closed output."""
 import re
 
-from tests.support import ROOT, SECONDS, InFolder, built, positions, run, stored, write
+import pytest
+
+from tests.support import ROOT, SECONDS, built, ends, positions, run, stored, write
 from ffosolve import MOST_ENTRIES
 
 LARGE = MOST_ENTRIES + 1
@@ -61,83 +63,82 @@ REFUSED_BY_ONE = {
 }
 
 
-class CommandLines(InFolder):
-    def setUp(self):
-        super().setUp()
-        self.pipe = self.start("sleep", SECONDS).stdout  # stays empty: a program that reads it does not end
-
-    def ends(self, wanted, name, *words):
-        super().ends(wanted, built(name), *words, stdin=self.pipe)
-
-    def test_a_wrong_command_line_is_refused_with_the_reason(self):
-        for name in PROGRAMS:
-            for line, why in REFUSED + REFUSED_BY_ONE[name]:
-                error = f"error: {why.format(name=name)}\n\nFor more information, try '--help'.\n"
-                self.ends((2, "", error), name, *line.split())
-
-    def test_a_word_that_is_not_utf_8_is_refused(self):
-        for name in PROGRAMS:
-            self.ends((2, "", f"{name}: cannot read the command line\n"), name, b"\xff.obf")
-
-    def test_help_is_printed_whatever_follows_and_names_the_limits(self):
-        for name in PROGRAMS:
-            text = run(built(name), "--help", text=True).stdout
-            self.assertIn(f"\n\nUsage: {name} [OPTIONS] [FILES]...\n", text)
-            for line in ("--help", "-h", "-hx", "--help --best", "none.obf -h"):
-                self.ends((0, text, ""), name, *line.split())
-            text = " ".join(text.split())
-            limits = re.findall(r"--(\S+) <N> [^<]*?\b0 to (\d+)", text)
-            self.assertEqual(limits, [("max-empties", "60"), ("workers", "64")])
-            files, size = r"(?:files, at most|more than) (\d+)", r"(\d+) MiB"
-            self.assertEqual((set(re.findall(files, text)), set(re.findall(size, text))), ({"64"}, {"1"}))
-
-    def test_version_is_that_of_the_file_version(self):
-        for name in PROGRAMS:
-            for line in ("--version", "-V", "-Vx", "--table 5 --version", "--max-empties=60 --workers=64 --version"):
-                self.ends((0, f"{name} {stored('VERSION').decode()}", ""), name, *line.split())
-
-    def test_a_full_or_closed_output_is_reported_even_for_an_empty_report(self):
-        for name, list_ in zip(PROGRAMS, ("/dev/null", ROOT / "examples/kinds.obf")):
-            for word in ("--help", "--version", list_):
-                for output in (">/dev/full", ">&-"):
-                    wanted = (3, "", f"{name}: cannot write standard output\n")
-                    super().ends(wanted, "sh", "-c", f'exec "$0" "$1" {output}', built(name), word)
-
-    def test_words_after_two_dashes_are_files(self):
-        for name in PROGRAMS:
-            for word in ("--best", "-x", "--help"):
-                self.ends((3, "", f"{name}: cannot read {word}\n"), name, "--", word)
+@pytest.fixture
+def says(folder, start):
+    """A function that asserts how a program ends (`ends`), with an input that stays empty and open: one that reads it
+    does not end."""
+    pipe = start("sleep", SECONDS).stdout
+    return lambda wanted, name, *words: ends(wanted, built(name), *words, stdin=pipe)
 
 
-class Progress(InFolder):
-    """ffosolve --progress counts solved positions on standard error every five seconds, and changes nothing else."""
+@pytest.mark.parametrize("name", PROGRAMS)
+def test_a_wrong_command_line_is_refused_with_the_reason(says, name):
+    for line, why in REFUSED + REFUSED_BY_ONE[name]:
+        error = f"error: {why.format(name=name)}\n\nFor more information, try '--help'.\n"
+        says((2, "", error), name, *line.split())
+    says((2, "", f"{name}: cannot read the command line\n"), name, b"\xff.obf")
 
-    def setUp(self):
-        super().setUp()
-        write("long", positions(500, 18, 18))
-        write("short", positions(20, 10, 10) + b"% comment\n-\n")  # one line is refused
 
-    def test_counts_rise_five_seconds_apart_in_a_log_and_on_a_terminal(self):
-        solver = f"exec {built()} --progress --workers 1 long >/dev/null"
-        log = self.start("sh", "-c", solver).stderr
-        terminal = self.start("script", "-qec", solver, "/dev/null").stdout
-        for stream in (log, terminal):
-            with self.subTest(is_log=stream is log):
-                text = b"".join(stream.readline() for _ in range(3))
-                self.assertRegex(text, rb"\A(%s){3}\Z" % PROGRESS.pattern)
-                (one, two, three), counts, at = zip(*(map(int, line) for line in PROGRESS.findall(text)))
-                self.assertTrue(0 < one < two < three < 500 and set(counts) == {500}, text)
-                self.assertTrue(5 <= at[0] and at[0] + 4 < at[1] and at[1] + 4 < at[2], text)
+@pytest.mark.parametrize("name", PROGRAMS)
+def test_help_is_printed_whatever_follows_and_names_the_limits(says, name):
+    text = run(built(name), "--help", text=True).stdout
+    assert f"\n\nUsage: {name} [OPTIONS] [FILES]...\n" in text
+    for line in ("--help", "-h", "-hx", "--help --best", "none.obf -h"):
+        says((0, text, ""), name, *line.split())
+    text = " ".join(text.split())
+    assert re.findall(r"--(\S+) <N> [^<]*?\b0 to (\d+)", text) == [("max-empties", "60"), ("workers", "64")]
+    assert set(re.findall(r"(?:files, at most|more than) (\d+)", text)) == {"64"}
+    assert set(re.findall(r"(\d+) MiB", text)) == {"1"}
 
-    def test_the_report_is_the_same_and_the_last_line_counts_all(self):
-        for files, count in ((["short"], b"20"), (["short", "short"], b"40")):
-            plain = run(built(), *files, check=True)
-            ran = run(built(), "--progress", *files, check=True)
-            self.assertEqual((plain.stdout, plain.stderr), (ran.stdout, b""))
-            self.assertEqual([line[:2] for line in PROGRESS.findall(ran.stderr)][-1:], [(count, count)])
-            self.assertEqual(PROGRESS.sub(b"", ran.stderr), b"")
 
-    def test_a_full_or_closed_standard_error_changes_nothing(self):
-        plain = run(built(), "short", check=True).stdout
-        for errors in ("2>/dev/full", "2>&-"):
-            self.ends((0, plain, b""), "sh", "-c", f'exec "$0" --progress short {errors}', built())
+@pytest.mark.parametrize("name", PROGRAMS)
+def test_version_is_that_of_the_file_version(says, name):
+    for line in ("--version", "-V", "-Vx", "--table 5 --version", "--max-empties=60 --workers=64 --version"):
+        says((0, f"{name} {stored('VERSION').decode()}", ""), name, *line.split())
+
+
+@pytest.mark.parametrize("name, list_", zip(PROGRAMS, ("/dev/null", ROOT / "examples/kinds.obf")))
+def test_a_full_or_closed_output_is_reported_even_for_an_empty_report(folder, name, list_):
+    for word in ("--help", "--version", list_):
+        for output in (">/dev/full", ">&-"):
+            wanted = (3, "", f"{name}: cannot write standard output\n")
+            ends(wanted, "sh", "-c", f'exec "$0" "$1" {output}', built(name), word)
+
+
+@pytest.mark.parametrize("name", PROGRAMS)
+def test_words_after_two_dashes_are_files(says, name):
+    for word in ("--best", "-x", "--help"):
+        says((3, "", f"{name}: cannot read {word}\n"), name, "--", word)
+
+
+@pytest.fixture
+def lists(folder):
+    """The files `long`, which takes minutes, and `short`, of which one line is refused."""
+    write("long", positions(500, 18, 18))
+    write("short", positions(20, 10, 10) + b"% comment\n-\n")
+
+
+@pytest.mark.parametrize("log", (True, False))
+def test_counts_rise_five_seconds_apart_in_a_log_and_on_a_terminal(lists, start, log):
+    solver = f"exec {built()} --progress --workers 1 long >/dev/null"
+    stream = start("sh", "-c", solver).stderr if log else start("script", "-qec", solver, "/dev/null").stdout
+    text = b"".join(stream.readline() for _ in range(3))
+    assert re.fullmatch(rb"(%s){3}" % PROGRESS.pattern, text)
+    (one, two, three), counts, at = zip(*(map(int, line) for line in PROGRESS.findall(text)))
+    assert 0 < one < two < three < 500 and set(counts) == {500}, text
+    assert 5 <= at[0] and at[0] + 4 < at[1] and at[1] + 4 < at[2], text
+
+
+@pytest.mark.parametrize("files, count", ((["short"], b"20"), (["short", "short"], b"40")))
+def test_the_report_is_the_same_and_the_last_line_counts_all(lists, files, count):
+    plain = run(built(), *files, check=True)
+    ran = run(built(), "--progress", *files, check=True)
+    assert (plain.stdout, plain.stderr) == (ran.stdout, b"")
+    assert [line[:2] for line in PROGRESS.findall(ran.stderr)][-1:] == [(count, count)]
+    assert PROGRESS.sub(b"", ran.stderr) == b""
+
+
+def test_a_full_or_closed_standard_error_changes_nothing(lists):
+    plain = run(built(), "short", check=True).stdout
+    for errors in ("2>/dev/full", "2>&-"):
+        ends((0, plain, b""), "sh", "-c", f'exec "$0" --progress short {errors}', built())

@@ -8,9 +8,10 @@ files that either kind of block makes.
 import os
 import re
 import subprocess
-import unittest
 
-from tests.support import ROOT, InFolder, built, run, stored
+import pytest
+
+from tests.support import ROOT, built, ends, run, stored
 
 DOCUMENTS = ["README.md", "CONTRIBUTING.md", *sorted(f"docs/{path.name}" for path in ROOT.glob("docs/*.md"))]
 TEXTS = {name: stored(name).decode() for name in DOCUMENTS}
@@ -38,72 +39,66 @@ def ignored(names):
     return run("git", "-C", ROOT, "check-ignore", "--no-index", *names, text=True).stdout.splitlines()
 
 
-class Commands(InFolder):
-    def test_commands_print_what_is_shown_and_leave_only_ignored_files(self):
-        built()
-        for name, text in TEXTS.items():
-            with self.subTest(name=name):
-                os.makedirs(self.folder / name)
-                os.chdir(self.folder / name)
-                for linked in set(os.listdir(ROOT)).difference(ignored(os.listdir(ROOT))):
-                    if not linked.startswith("."):
-                        os.symlink(ROOT / linked, linked)
-                self.shows(text)
-                left = [made for made in os.listdir() if not os.path.islink(made)]
-                left += [made for made in MADE.findall(blocks_of(text, "sh")) if not made.startswith("/")]
-                if (ROOT / ".git").exists():
-                    self.assertEqual(set(left).difference(ignored(left)), set())
-
-    def shows(self, text):
-        """Asserts that a document's commands print what it shows. One shell runs all of them, without input, and prints
-        END after each."""
-        found = re.findall(r"^\$ (.*\n(?:> .*\n)*)((?:(?!\$ ).*\n)*)", blocks_of(text, "console"), re.M)
-        commands = [command.replace("\n> ", "\n") for command, _ in found]
-        end = f"}} </dev/null; status=$?; echo; echo '{END}'; (exit $status)\n"
-        words = ("timeout", LONGEST, "bash", "-c", "".join(f"{{ {command}{end}" for command in commands))
-        ran = run(*words, timeout=LONGEST + 60, stderr=subprocess.STDOUT, text=True, errors="replace")
-        printed = ran.stdout.split(f"\n{END}\n")  # the last one comes after the last END
-        self.assertEqual(len(printed), len(commands) + 1, f"the shell hung at: {commands[len(printed) - 1:][:1]}")
-        for command, (_, shown), output in zip(commands, found, printed):
-            with self.subTest(command=command):
-                self.assertEqual(stripped(output), stripped(shown))
-
-    def test_stored_reports_are_what_ffosolve_prints(self):
-        reports = sorted(ROOT.glob("examples/*.report"))
-        self.assertTrue(reports)
-        for report in reports:
-            self.ends((0, report.read_bytes(), b""), built(), report.with_suffix(".obf"))
+@pytest.mark.parametrize("name", TEXTS)
+def test_commands_print_what_is_shown_and_leave_only_ignored_files(folder, name):
+    """One shell runs all commands of a document, without input, and prints END after each."""
+    built()
+    for linked in set(os.listdir(ROOT)).difference(ignored(os.listdir(ROOT))):
+        if not linked.startswith("."):
+            os.symlink(ROOT / linked, linked)
+    found = re.findall(r"^\$ (.*\n(?:> .*\n)*)((?:(?!\$ ).*\n)*)", blocks_of(TEXTS[name], "console"), re.M)
+    commands = [command.replace("\n> ", "\n") for command, _ in found]
+    end = f"}} </dev/null; status=$?; echo; echo '{END}'; (exit $status)\n"
+    words = ("timeout", LONGEST, "bash", "-c", "".join(f"{{ {command}{end}" for command in commands))
+    ran = run(*words, timeout=LONGEST + 60, stderr=subprocess.STDOUT, text=True, errors="replace")
+    printed = ran.stdout.split(f"\n{END}\n")  # the last one comes after the last END
+    assert len(printed) == len(commands) + 1, f"the shell hung at: {commands[len(printed) - 1:][:1]}"
+    for command, (_, shown), output in zip(commands, found, printed):
+        assert stripped(output) == stripped(shown), command
+    left = [made for made in os.listdir() if not os.path.islink(made)]
+    left += [made for made in MADE.findall(blocks_of(TEXTS[name], "sh")) if not made.startswith("/")]
+    if (ROOT / ".git").exists():
+        assert set(left).difference(ignored(left)) == set()
 
 
-class Names(unittest.TestCase):
-    def test_targets_of_links_exist(self):
-        for name, text in TEXTS.items():
-            links = [to for to in re.findall(r"\]\(([^)#]+)[^)]*\)", text) if "://" not in to]
-            self.assertEqual([to for to in links if not (ROOT / name).parent.joinpath(to).exists()], [], name)
+def test_stored_reports_are_what_ffosolve_prints():
+    reports = sorted(ROOT.glob("examples/*.report"))
+    assert reports
+    for report in reports:
+        ends((0, report.read_bytes(), b""), built(), report.with_suffix(".obf"))
 
-    def test_files_between_backticks_exist_unless_a_build_or_installation_makes_them(self):
-        folders = "bench bin crates docs examples include packaging python rust scripts share tests .ci".split()
-        path = re.compile(rf"`((?:{'|'.join(map(re.escape, folders))})/[\w./-]*\w)")
-        for name, text in TEXTS.items():
-            lost = [to for to in path.findall(text) if not (ROOT / to).exists() and not list(ROOT.glob(to))]
-            self.assertEqual([to for to in lost if not re.search(r"/out(/|$)|^share/doc/", to)], [], name)
 
-    def test_qualified_names_are_declared(self):
-        """In three documents, a name like `Rules.flips` has to be declared in a specification Rules.antt, one like
-        `laws::one_meaning` in a file laws.rt, and one like `Grid::plain_value` where `Grid` has an enum or impl."""
-        qualified = re.compile(r"`([A-Z]\w*(?=\.)|\w+(?=::))(\.(?!antt|md)|::)(\w+)`")
-        sources = {path: path.read_text() for path in ROOT.glob("crates/*/src/**/*.rt")}
-        for name in ("definitions.md", "guarantees.md", "architecture.md"):
-            for owner, mark, word in qualified.findall(TEXTS[f"docs/{name}"]):
-                of_type = re.compile(rf"\b(?:impl(?:<.*>)?|enum) {owner}\b")
-                files = [path for path, text in sources.items() if path.stem == owner or of_type.search(text)]
-                files = files if mark == "::" else ROOT.glob(f"crates/*/specs/{owner}.antt")
-                declares = re.compile(DECLARES.replace("NAME", word))
-                self.assertTrue(any(declares.search(it.read_text()) for it in files), f"{name}: {owner}{mark}{word}")
+def test_targets_of_links_exist():
+    for name, text in TEXTS.items():
+        links = [to for to in re.findall(r"\]\(([^)#]+)[^)]*\)", text) if "://" not in to]
+        assert [to for to in links if not (ROOT / name).parent.joinpath(to).exists()] == [], name
 
-    def test_other_names_of_definitions_occur_in_sources(self):
-        """These are the names in docs/definitions.md that look like `AreRanked` (CamelCase) or `lists_text` (`_`)."""
-        sources = [*ROOT.glob("crates/*/specs/*.antt"), *ROOT.glob("crates/*/src/**/*.rt")]
-        words = set(re.findall(r"\w+", "\n".join(source.read_text() for source in sources)))
-        named = re.findall(r"`([A-Z]\w*[a-z][A-Z]\w*|[a-z]+_\w+)`", TEXTS["docs/definitions.md"])
-        self.assertEqual([word for word in named if word not in words], [])
+
+def test_files_between_backticks_exist_unless_a_build_or_installation_makes_them():
+    folders = "bench bin crates docs examples include packaging python rust scripts share tests .ci".split()
+    path = re.compile(rf"`((?:{'|'.join(map(re.escape, folders))})/[\w./-]*\w)")
+    for name, text in TEXTS.items():
+        lost = [to for to in path.findall(text) if not (ROOT / to).exists() and not list(ROOT.glob(to))]
+        assert [to for to in lost if not re.search(r"/out(/|$)|^share/doc/", to)] == [], name
+
+
+def test_qualified_names_are_declared():
+    """In three documents, a name like `Rules.flips` has to be declared in a specification Rules.antt, one like
+    `laws::one_meaning` in a file laws.rt, and one like `Grid::plain_value` where `Grid` has an enum or impl."""
+    qualified = re.compile(r"`([A-Z]\w*(?=\.)|\w+(?=::))(\.(?!antt|md)|::)(\w+)`")
+    sources = {path: path.read_text() for path in ROOT.glob("crates/*/src/**/*.rt")}
+    for name in ("definitions.md", "guarantees.md", "architecture.md"):
+        for owner, mark, word in qualified.findall(TEXTS[f"docs/{name}"]):
+            of_type = re.compile(rf"\b(?:impl(?:<.*>)?|enum) {owner}\b")
+            files = [path for path, text in sources.items() if path.stem == owner or of_type.search(text)]
+            files = files if mark == "::" else ROOT.glob(f"crates/*/specs/{owner}.antt")
+            declares = re.compile(DECLARES.replace("NAME", word))
+            assert any(declares.search(it.read_text()) for it in files), f"{name}: {owner}{mark}{word}"
+
+
+def test_other_names_of_definitions_occur_in_sources():
+    """These are the names in docs/definitions.md that look like `AreRanked` (CamelCase) or `lists_text` (`_`)."""
+    sources = [*ROOT.glob("crates/*/specs/*.antt"), *ROOT.glob("crates/*/src/**/*.rt")]
+    words = set(re.findall(r"\w+", "\n".join(source.read_text() for source in sources)))
+    named = re.findall(r"`([A-Z]\w*[a-z][A-Z]\w*|[a-z]+_\w+)`", TEXTS["docs/definitions.md"])
+    assert [word for word in named if word not in words] == []

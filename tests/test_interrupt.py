@@ -2,7 +2,9 @@
 import signal
 import sys
 
-from .support import ROOT, InFolder, as_at_a_login, need_module, refuse_threads, run
+import pytest
+
+from .support import ROOT, as_at_a_login, ends, refuse_threads, run
 from . import positions  # noqa: F401 - sets FFOSOLVE_LIBRARY
 
 BOARD = "-OXXXXX-XXXXXXXOXXXXXXXXXXXXXXXXXXXOXXXXXXXXXXXXXXXXXXXXXXXXXXXX X;"
@@ -33,22 +35,23 @@ PROGRAM = """if True:
 """
 
 
-class Interrupted(InFolder):
-    def test_each_call_is_interrupted_and_the_program_ends_though_threads_go_on_solving(self):
-        need_module("numpy")
-        stopped = ["solve(start) TimeoutError", *(f"{call} KeyboardInterrupt" for call in CALLS), "+62 H1\n"]
-        self.ends((0, "\n".join(stopped), ""), sys.executable, "-c", PROGRAM, BOARD, *CALLS, cwd=ROOT / "python/src",
-                  preexec_fn=as_at_a_login)
+def test_each_call_is_interrupted_and_the_program_ends_though_threads_go_on_solving():
+    pytest.importorskip("numpy")
+    stopped = ["solve(start) TimeoutError", *(f"{call} KeyboardInterrupt" for call in CALLS), "+62 H1\n"]
+    ends((0, "\n".join(stopped), ""), sys.executable, "-c", PROGRAM, BOARD, *CALLS, cwd=ROOT / "python/src",
+         preexec_fn=as_at_a_login)
 
-    def test_a_program_that_does_not_catch_the_interrupt_ends(self):
-        code = "import os, threading, signal; from ffosolve import Position, Solver\n"
-        code += "threading.Timer(0.2, os.kill, (os.getpid(), signal.SIGINT)).start()\n"
-        code += "Solver(max_empties=60).solve(Position.start())"
-        ran = run(sys.executable, "-c", code, cwd=ROOT / "python/src", preexec_fn=as_at_a_login)
-        self.assertEqual((ran.returncode, ran.stderr.splitlines()[-1]), (-signal.SIGINT, b"KeyboardInterrupt"))
 
-    def test_a_call_is_made_without_a_thread_if_none_can_be_started(self):
-        code = "import sys; from ffosolve import Position, Solver\n"
-        code += "print(Solver().solve_all([Position.from_obf(sys.argv[1])] * 4097)[-1])"
-        self.ends((0, "+62 H1\n", ""), sys.executable, "-c", code, BOARD, cwd=ROOT / "python/src",
-                  preexec_fn=refuse_threads)
+def test_a_program_that_does_not_catch_the_interrupt_ends():
+    code = "import os, threading, signal; from ffosolve import Position, Solver\n"
+    code += "threading.Timer(0.2, os.kill, (os.getpid(), signal.SIGINT)).start()\n"
+    code += "Solver(max_empties=60).solve(Position.start())"
+    ran = run(sys.executable, "-c", code, cwd=ROOT / "python/src", preexec_fn=as_at_a_login)
+    assert (ran.returncode, ran.stderr.splitlines()[-1]) == (-signal.SIGINT, b"KeyboardInterrupt")
+
+
+def test_a_call_is_made_without_a_thread_if_none_can_be_started():
+    code = "import sys; from ffosolve import Position, Solver\n"
+    code += "print(Solver().solve_all([Position.from_obf(sys.argv[1])] * 4097)[-1])"
+    ends((0, "+62 H1\n", ""), sys.executable, "-c", code, BOARD, cwd=ROOT / "python/src",
+         preexec_fn=refuse_threads)

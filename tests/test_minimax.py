@@ -4,9 +4,11 @@ import itertools
 import os
 from concurrent.futures import ProcessPoolExecutor, ThreadPoolExecutor
 
+import pytest
+
 from bench import player
 
-from .support import SECONDS, InFolder, built
+from .support import SECONDS, built, ends
 from .positions import random_positions
 from ffosolve import Answer, Kind, NoMove, Scoring, Solver, square_name
 
@@ -28,43 +30,47 @@ def solved(position):
     return rows
 
 
-class RandomPositions(InFolder):
-    @classmethod
-    def setUpClass(cls):
-        positions = random_positions(POSITIONS, range(MOST + 1)) + random_positions(DEEP, (7, 8))
-        with ProcessPoolExecutor() as pool:
-            cls.rows = list(zip(Scoring, zip(*pool.map(solved, positions, chunksize=20))))
+@pytest.fixture(scope="module")
+def solved_rows():
+    positions = random_positions(POSITIONS, range(MOST + 1)) + random_positions(DEEP, (7, 8))
+    with ProcessPoolExecutor() as pool:
+        return list(zip(*pool.map(solved, positions, chunksize=20)))
 
-    def compare(self, scoring, row, number):
-        """Asserts that a Solver's methods find what `row`, an item of what `solved` returns, says of a position; `play`
-        must refuse illegal moves. `number` chooses the table's size, and a right or wrong claim for `confirm`."""
-        position, wanted, scores = row
-        legal, solver = player.moves(*position), Solver(scoring=scoring, entries=(0, 1, 64, 1024)[number % 4])
-        claims = wanted, wanted._replace(score=wanted.score + number % 5), wanted._replace(best=wanted.best ^ number)
-        found = solver.solve(position), solver.confirm(position, claims[number % 3]), solver.moves(position)
-        self.assertEqual(found, (wanted, wanted, legal), row)
-        self.assertEqual(list(solver.move_scores(position).items()), scores, row)
-        for square in range(64):
-            if not legal >> square & 1:
-                self.assertRaises(NoMove, solver.play, position, square)
 
-    def test_python_finds_what_minimax_finds(self):
-        for scoring, rows in self.rows:
-            with ThreadPoolExecutor(8) as pool:
-                compared = list(pool.map(self.compare, itertools.repeat(scoring), rows, itertools.count()))
-            self.assertEqual(len(compared), POSITIONS + DEEP)
-            positions, answers, scores = zip(*rows)
-            solver = Solver(scoring=scoring, entries=1024)
-            self.assertEqual(solver.solve_all(positions), list(answers))
-            self.assertEqual([list(it.items()) for it in solver.move_scores_all(positions)], list(scores))
+def compare(scoring, row, number):
+    """Asserts that a Solver's methods find what `row`, an item of what `solved` returns, says of a position; `play`
+    must refuse illegal moves. `number` chooses the table's size, and a right or wrong claim for `confirm`."""
+    position, wanted, scores = row
+    legal, solver = player.moves(*position), Solver(scoring=scoring, entries=(0, 1, 64, 1024)[number % 4])
+    claims = wanted, wanted._replace(score=wanted.score + number % 5), wanted._replace(best=wanted.best ^ number)
+    found = solver.solve(position), solver.confirm(position, claims[number % 3]), solver.moves(position)
+    assert found == (wanted, wanted, legal), row
+    assert list(solver.move_scores(position).items()) == scores, row
+    for square in range(64):
+        if not legal >> square & 1:
+            with pytest.raises(NoMove):
+                solver.play(position, square)
 
-    def test_ffoscores_prints_what_minimax_finds(self):
-        for scoring, rows in self.rows:
-            asked = wanted = ""
-            for position, answer, scores in rows:
-                moves = sorted(scores, key=lambda it: -it[1]) or [(("", "PS", "--")[answer.kind], answer.score)]
-                asked += f"{position.to_obf()}\n"
-                wanted += position.to_obf() + "".join(f" {name}:{score:+03};" for name, score in moves) + "\n"
-            for entries in (0, 65_536):
-                words = "--scoring", scoring.name.lower(), "--table", entries
-                self.ends((0, wanted, ""), built("ffoscores"), *words, input=asked, timeout=5 * SECONDS)
+
+@pytest.mark.parametrize("scoring", Scoring)
+def test_python_finds_what_minimax_finds(solved_rows, scoring):
+    rows = solved_rows[scoring]
+    with ThreadPoolExecutor(8) as pool:
+        compared = list(pool.map(compare, itertools.repeat(scoring), rows, itertools.count()))
+    assert len(compared) == POSITIONS + DEEP
+    positions, answers, scores = zip(*rows)
+    solver = Solver(scoring=scoring, entries=1024)
+    assert solver.solve_all(positions) == list(answers)
+    assert [list(it.items()) for it in solver.move_scores_all(positions)] == list(scores)
+
+
+@pytest.mark.parametrize("scoring", Scoring)
+def test_ffoscores_prints_what_minimax_finds(solved_rows, scoring):
+    asked = wanted = ""
+    for position, answer, scores in solved_rows[scoring]:
+        moves = sorted(scores, key=lambda it: -it[1]) or [(("", "PS", "--")[answer.kind], answer.score)]
+        asked += f"{position.to_obf()}\n"
+        wanted += position.to_obf() + "".join(f" {name}:{score:+03};" for name, score in moves) + "\n"
+    for entries in (0, 65_536):
+        words = "--scoring", scoring.name.lower(), "--table", entries
+        ends((0, wanted, ""), built("ffoscores"), *words, input=asked, timeout=5 * SECONDS)

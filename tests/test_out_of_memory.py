@@ -3,7 +3,9 @@ import re
 import tempfile
 from pathlib import Path
 
-from tests.support import ROOT, InFolder, built, need, preload, refuse_threads, run, stored
+import pytest
+
+from tests.support import ROOT, built, need, preload, refuse_threads, run, stored
 
 TEXT, PRINTED = stored("crates", "ffosolve", "stdin"), stored("crates", "ffosolve", "stdout")
 KINDS, SCORES = stored("examples", "kinds.obf"), stored("examples", "kinds.scores")
@@ -44,57 +46,52 @@ def outcomes(*words, **how):
     return found
 
 
-class Programs(InFolder):
-    def test_each_refused_request_ends_ffosolve_unless_it_starts_a_thread(self):
-        self.assertEqual(outcome(built(), input=TEXT), (0, PRINTED, b"", {}))
-        for words, threads, prepare in (
-            ((), 3, refuse_threads),
-            (("--workers", "0", *FILES), 2, refuse_threads),
-            (("--workers", "2", *FILES), 4, refuse_threads),
-            (("--workers", "2", *FILES), 4, None),
-        ):
-            with self.subTest(words=words, prepare=prepare):
-                done, reported = outcome(built(), *words, input=TEXT), (1, b"", b"ffosolve: out of memory\n", {})
-                *refused, last = outcomes(built(), *words, input=TEXT, preexec_fn=prepare)
-                self.assertEqual(last, done)
-                self.assertEqual([run for run in enumerate(refused, 1) if run[1] not in (done, reported)], [])
-                self.assertGreaterEqual(len(refused), 10 * threads)
-                if prepare:  # otherwise the number of the request that starts a thread varies from run to run
-                    # One more run goes on: that without room for all words of the command line at once.
-                    self.assertEqual(refused.count(done), threads + 1)
-
-    def test_more_than_nine_in_ten_refused_requests_end_ffoscores_and_others_change_nothing(self):
-        done, error = (1, SCORES, b"", {}), b"ffoscores: out of memory\n"
-        *refused, last = outcomes(built("ffoscores"), "--table", "100", input=KINDS)
-        self.assertEqual(last, done)
-        ended = [run for run in enumerate(refused, 1) if run[1] != done]
-        self.assertEqual([run for run in ended if run[1] != (3, SCORES[:len(run[1][1])], error, {})], [])
-        self.assertGreater(10 * len(ended), 9 * len(refused))
+@pytest.mark.parametrize("words, threads, prepare", (
+    ((), 3, refuse_threads),
+    (("--workers", "0", *FILES), 2, refuse_threads),
+    (("--workers", "2", *FILES), 4, refuse_threads),
+    (("--workers", "2", *FILES), 4, None),
+))
+def test_each_refused_request_ends_ffosolve_unless_it_starts_a_thread(folder, words, threads, prepare):
+    assert outcome(built(), input=TEXT) == (0, PRINTED, b"", {})
+    done, reported = outcome(built(), *words, input=TEXT), (1, b"", b"ffosolve: out of memory\n", {})
+    *refused, last = outcomes(built(), *words, input=TEXT, preexec_fn=prepare)
+    assert last == done
+    assert [run for run in enumerate(refused, 1) if run[1] not in (done, reported)] == []
+    assert len(refused) >= 10 * threads
+    if prepare:  # otherwise the number of the request that starts a thread varies from run to run
+        # One more run goes on: that without room for all words of the command line at once.
+        assert refused.count(done) == threads + 1
 
 
-class Crates(InFolder):
-    @classmethod
-    def setUpClass(cls):
-        """Builds CRATE_TESTS by `rt test` if it is missing or older than a source of the crates. `rt test` proves the
-        crates first, which takes minutes unless `rt test` or `rt ci` has proved them before."""
-        newest = max(path.stat().st_mtime for path in ROOT.glob("crates/*/src/**/*.rt"))
-        if not CRATE_TESTS.exists() or CRATE_TESTS.stat().st_mtime < newest:
-            need("rt")
-            how = {"stdout": None, "stderr": None, "timeout": 2700, "check": True}
-            run("rt", "test", "--", TESTS[0], cwd=ROOT / "crates/crate_tests", **how)
+def test_more_than_nine_in_ten_refused_requests_end_ffoscores_and_others_change_nothing(folder):
+    done, error = (1, SCORES, b"", {}), b"ffoscores: out of memory\n"
+    *refused, last = outcomes(built("ffoscores"), "--table", "100", input=KINDS)
+    assert last == done
+    ended = [run for run in enumerate(refused, 1) if run[1] != done]
+    assert [run for run in ended if run[1] != (3, SCORES[:len(run[1][1])], error, {})] == []
+    assert 10 * len(ended) > 9 * len(refused)
 
-    def test_a_crates_test_passes_or_reports_only_out_of_memory_at_each_refused_request(self):
-        listed = run(CRATE_TESTS, "--list", check=True, text=True).stdout
-        self.assertEqual([part for part in TESTS if part not in listed], [])
-        tests = re.findall(rf"^(tests::\S*(?:{'|'.join(TESTS)})\S*): test$", listed, re.M)
-        self.assertLessEqual(ENDED.keys(), set(tests))
-        for test in tests:
-            with self.subTest(test=test):
-                *refused, last = outcomes(CRATE_TESTS, test, text=True)
-                ended = [run for run in enumerate(refused, 1) if run[1][0] != 0]
-                self.assertEqual(last[0], 0, last)
-                for number, (_, _, errors, _) in ended:
-                    reports = re.findall(r"^\w+: (.*)$", errors, re.M)
-                    self.assertTrue(len(reports) == 1 and reports[0] in REPORTS, f"request {number}: {errors}")
-                if test in ENDED:
-                    self.assertEqual((len(refused), len(ended)), (ENDED[test] or len(refused),) * 2)
+
+@pytest.mark.timeout(2700)
+def test_a_crates_test_passes_or_reports_only_out_of_memory_at_each_refused_request(folder):
+    """Builds CRATE_TESTS by `rt test` if it is missing or older than a source of the crates. `rt test` proves the
+    crates first, which takes minutes unless `rt test` or `rt ci` has proved them before."""
+    newest = max(path.stat().st_mtime for path in ROOT.glob("crates/*/src/**/*.rt"))
+    if not CRATE_TESTS.exists() or CRATE_TESTS.stat().st_mtime < newest:
+        need("rt")
+        how = {"stdout": None, "stderr": None, "timeout": 2700, "check": True}
+        run("rt", "test", "--", TESTS[0], cwd=ROOT / "crates/crate_tests", **how)
+    listed = run(CRATE_TESTS, "--list", check=True, text=True).stdout
+    assert [part for part in TESTS if part not in listed] == []
+    tests = re.findall(rf"^(tests::\S*(?:{'|'.join(TESTS)})\S*): test$", listed, re.M)
+    assert ENDED.keys() <= set(tests)
+    for test in tests:
+        *refused, last = outcomes(CRATE_TESTS, test, text=True)
+        ended = [run for run in enumerate(refused, 1) if run[1][0] != 0]
+        assert last[0] == 0, (test, last)
+        for number, (_, _, errors, _) in ended:
+            reports = re.findall(r"^\w+: (.*)$", errors, re.M)
+            assert len(reports) == 1 and reports[0] in REPORTS, f"{test}: request {number}: {errors}"
+        if test in ENDED:
+            assert (len(refused), len(ended)) == (ENDED[test] or len(refused),) * 2, test

@@ -6,12 +6,13 @@ import os
 import random
 import re
 import sys
-import unittest
 import xml.etree.ElementTree
+
+import pytest
 
 from bench import player
 
-from .support import ROOT, built, need, need_module, run
+from .support import ROOT, built, need, run
 from .games import NAMES, positions_of, random_games, squares_of, transcript
 from .positions import random_positions
 import ffosolve
@@ -21,194 +22,206 @@ from ffosolve import NoMove, Position, Scoring, Solver
 AT_PASS = "-OOOOOOXXXXXXXXXXXXXXXXXXXXXXXXXXXXXXXXXXXXXXXXXXXXXXXXXXXXXXXXX O;"
 FINISHED = "XXXXXXXXXXXXXXXXXXXXXXXXXXXXXXXX----------------OOOOOOOOOOOOOOOO X;"
 BOARD = "--XXXXX--OOOXX-O-OOOXXOX-OXOXOXXOXXXOXXX--XOXOXX-XXXOOO--OOOOO-- X;"
+SCORES = {"A2": 38, "b1": 36, "H8": -12, "A1": 38, "H1": 0}  # of moves in BOARD
 
 
 def position_of(own, opp, is_black):
     return Position(own, opp, "X" if is_black else "O")
 
 
-class Rules(unittest.TestCase):
-    def test_moves_passes_and_ends_are_those_of_the_plain_player(self):
-        ends = 0
-        for own, opp, is_black, _ in itertools.chain(*(player.random_game(random.Random(seed)) for seed in range(60))):
-            position, other = position_of(own, opp, is_black), player.moves(opp, own) != 0
-            numbers = [square.bit_length() - 1 for square in player.squares_in(player.moves(own, opp))]
-            names = [NAMES[number] for number in numbers]
-            self.assertEqual((position.legal_moves, position.must_pass, position.is_over),
-                             (names, not names and other, not names and not other))
-            for number, name in zip(numbers, names):
-                after = position_of(*player.after(own, opp, 1 << number), not is_black)
-                for move in (name, name.lower(), number):
-                    self.assertEqual(position.play(move).to_obf(), after.to_obf())
-            if position.is_over:
-                ends += 1
-                scores = player.values(own, opp)
-                self.assertEqual([position.score(scoring) for scoring in Scoring], list(scores))
-                self.assertEqual((position.score(), position.score("discs")), scores[:2])
-        self.assertEqual(ends, 60)
-
-    def test_a_transcript_plays_on_from_any_position(self):
-        start = Position.start()
-        for number, game in enumerate(random_games(100, seed=77)):
-            squares, text = squares_of(game), transcript(game).upper()
-            cut, positions = number % len(squares), positions_of(squares)
-            middle, end = start.play_all(text[:2 * cut]), position_of(*positions[min(positions)])
-            self.assertEqual(middle.to_obf(), position_of(*positions[60 - cut]).to_obf())
-            with_passes = [NAMES[move] if move is not None else "--" for move in game]
-            noted = " ".join(with_passes) + " pass pass 33-31 % f5"
-            for at, moves in ((middle, text[2 * cut:]), (middle, squares[cut:]), (start, with_passes), (start, noted)):
-                found = at.play_all(moves)
-                self.assertIn(end, (found, found.passed()))
-                self.assertTrue(found.is_over)
-
-    def test_an_illegal_move_is_named_with_its_board_and_side(self):
-        start, after = Position.start(), Position.start().play("F5")
-        at_pass, finished = Position.from_obf(AT_PASS), Position.from_obf(FINISHED)
-        first, second, third = start.to_obf(), after.to_obf(), after.play("D6").to_obf()
-        no_square = "a square is a name such as 'F5' or a number from 0 to 63, not "
-        for error, call, move, why in (
-            (NoMove, start.play, "e3", f"E3 is not a legal move for Black in {first}"),
-            (NoMove, after.play, 37, f"F5 is not a legal move for White in {second}"),
-            (NoMove, lambda it: Solver().play(after, it), "f5", f"F5 is not a legal move for White in {second}"),
-            (NoMove, start.play, 64, f"square 64 is not a legal move for Black in {first}"),
-            (NoMove, at_pass.play, "A1", f"A1 is not a legal move: White has to pass in {AT_PASS}"),
-            (NoMove, finished.play, "A5", f"A5 is not a legal move: the game is over in {FINISHED}"),
-            (NoMove, start.play_all, "f5d6d6", f"move 3: D6 is not a legal move for Black in {third}"),
-            (NoMove, start.play_all, "f5 --", f"move 2: a pass is not a legal move for White in {second}"),
-            (NoMove, start.play_all, "f5z9", "move 2: no square has the name 'z9'"),
-            (ValueError, start.play, "I9", "no square has the name 'I9'"),
-            (TypeError, start.play, None, f"{no_square}None"),
-            (TypeError, start.play, 1.5, f"{no_square}1.5"),
-            (TypeError, start.play, ["F5"], f"{no_square}['F5']"),
-            (TypeError, start.play_all, 5, "moves are a transcript or a list of squares, not 5"),
-        ):
-            self.assertRaisesRegex(error, f"^{re.escape(why)}$", call, move)
-
-    def test_a_game_that_goes_on_has_no_score(self):
-        for position in (Position.start(), Position.from_obf(AT_PASS)):
-            self.assertRaisesRegex(ValueError, f"^the game is not over, .*: {position.to_obf()}$", position.score)
-        self.assertRaises(ffosolve.UnknownScoring, Position.from_obf(FINISHED).score, "loser")
-
-    def test_masks_that_share_a_square_have_no_moves(self):
-        shared = Position(3, 2)
-        for call in (lambda: shared.legal_moves, lambda: shared.must_pass, lambda: shared.is_over, shared.score,
-                     lambda: shared.play(9), lambda: shared.play_all("f5")):
-            self.assertRaises(ffosolve.SharedSquare, call)
-
-    def test_only_rules_and_solvers_need_a_library_and_rules_take_that_of_a_solver(self):
-        code = """if True:
-            import sys
-            from ffosolve import START, LibraryNotFound, Solver, read_lines
-            position, = read_lines([sys.argv[2]])
-            print(position.to_obf())
-            print(position.show())
-            for call in (Solver, lambda: START.legal_moves):
-                try:
-                    print(call())
-                except LibraryNotFound as error:
-                    print(type(error).__name__)
-            print(Solver(sys.argv[1]).solve(position), START.legal_moves)
-        """
-        words = (sys.executable, "-c", code, os.path.abspath(os.environ["FFOSOLVE_LIBRARY"]), AT_PASS)
-        ran = run(*words, cwd=ROOT / "python/src", env={"FFOSOLVE_LIBRARY": "/nowhere/it.so"}, text=True)
-        shown = f"{AT_PASS}\n{Position.from_obf(AT_PASS)}\n"
-        found = "LibraryNotFound\nLibraryNotFound\n-64 PS ['D3', 'C4', 'F5', 'E6']\n"
-        self.assertEqual(ran.stdout, shown + found, ran.stderr)
+def test_moves_passes_and_ends_are_those_of_the_plain_player():
+    ends = 0
+    for own, opp, is_black, _ in itertools.chain(*(player.random_game(random.Random(seed)) for seed in range(60))):
+        position, other = position_of(own, opp, is_black), player.moves(opp, own) != 0
+        numbers = [square.bit_length() - 1 for square in player.squares_in(player.moves(own, opp))]
+        names = [NAMES[number] for number in numbers]
+        assert (position.legal_moves, position.must_pass) == (names, not names and other)
+        assert position.is_over == (not names and not other)
+        for number, name in zip(numbers, names):
+            after = position_of(*player.after(own, opp, 1 << number), not is_black)
+            for move in (name, name.lower(), number):
+                assert position.play(move).to_obf() == after.to_obf()
+        if position.is_over:
+            ends += 1
+            scores = player.values(own, opp)
+            assert [position.score(scoring) for scoring in Scoring] == list(scores)
+            assert (position.score(), position.score("discs")) == scores[:2]
+    assert ends == 60
 
 
-class Shown(unittest.TestCase):
-    SCORES = {"A2": 38, "b1": 36, "H8": -12, "A1": 38, "H1": 0}
-
-    def test_an_answer_reads_as_its_row_of_a_report_and_its_board_names_a_pass_and_an_end(self):
-        for line, text, mover, state in (
-            (AT_PASS, "-64 PS", "White", "has to pass: -64"),
-            (FINISHED, "+32 --", "Black", "scores +32: the game is over"),
-            (AT_PASS.replace(" O", " X"), "+64 A1", "Black", "is to move"),
-        ):
-            position = Position.from_obf(line)
-            answer = Solver().solve(position)
-            board = position.show(answer)
-            self.assertEqual((str(answer), str(board).splitlines()[-1]), (text, f"{position.side} {state}"))
-            self.assertEqual(board._repr_svg_().count(f">{mover} {state}</text>"), 1)
-
-    def test_an_answer_names_all_best_moves(self):
-        two = ffosolve.Answer(0, ffosolve.Kind.MOVES, 0x81)
-        self.assertEqual((str(two), f"{two}"), ("+00 A1,H1", "+00 A1,H1"))
-        self.assertEqual(repr(two), "Answer(score=0, kind=<Kind.MOVES: 0>, best=129)")
-
-    def test_a_board_as_text_has_letters_scores_and_the_side_to_move(self):
-        position = Position.from_obf(BOARD)
-        rows = [f"{row + 1} {' '.join(BOARD[8 * row:8 * row + 8])}" for row in range(8)]
-        self.assertEqual(str(position).splitlines(), ["  A B C D E F G H", *rows, "X is to move"])
-        of_white = Position.from_obf(BOARD.replace(" X;", " O;"))
-        self.assertEqual(str(of_white).splitlines(), ["  A B C D E F G H", *rows, "O is to move"])
-        self.assertEqual(str(Position(*of_white)), str(of_white).translate(str.maketrans("XO", "OX")))
-        shown = str(position.show(self.SCORES, side="O")).splitlines()
-        self.assertEqual(shown[1], "1 +38*  +36    O    O    O    O    O   +0")
-        self.assertEqual((shown[2][:6], shown[8][-4:], shown[-1]), ("2 +38*", " -12", "O is to move"))
-
-    def test_wrong_scores_and_sides_are_refused(self):
-        for scores, side, error, why in (
-            ({"C1": 3}, "X", ValueError, "C1 has a score, but is not empty"),
-            ({"I9": 3}, "X", ValueError, "no square has the name 'I9'"),
-            ({9: 3}, "X", ValueError, "no square has the name 9"),
-            ({"A1": "x"}, "X", TypeError, "the score of A1 is a number, not 'x'"),
-            ({"A1": None}, "X", TypeError, "the score of A1 is a number, not None"),
-            ({}, "black", ValueError, "the side to move is 'X' or 'O', not 'black'"),
-        ):
-            self.assertRaisesRegex(error, f"^{why}$", Position.from_obf(BOARD).show, scores, side)
-
-    def picture(self, svg):
-        """Returns a function from x and y, in pixels from the left and the top, to the picture's colour there (hex)."""
-        need("rsvg-convert")
-        xml.etree.ElementTree.fromstring(svg)
-        png = run("rsvg-convert", input=svg.encode(), check=True).stdout
-        picture = need_module("PIL.Image").open(io.BytesIO(png)).convert("RGB")
-        return lambda x, y: "".join(f"{part:02x}" for part in picture.getpixel((x, y)))
-
-    def test_a_picture_has_discs_scores_and_marks_in_their_squares(self):
-        """A square is 44 pixels wide, and the margin 22. A disc covers the middle of its square, but no corner."""
-        position, corners = Position.from_obf(BOARD), [(22 + 44 * (at % 8), 22 + 44 * (at // 8)) for at in range(64)]
-        self.assertEqual("".join(re.findall(r">(\w)</text>", position._repr_svg_())), "A1B2C3D4E5F6G7H8")
-        black, white, green, yellow = "111111", "fafafa", "2f8f5b", "ffd54a"
-        for board, mover, other in ((position, black, white), (position.show(side="O"), white, black)):
-            at = self.picture(board._repr_svg_())
-            colours = {"X": mover, "O": other, "-": green}
-            self.assertEqual([at(x + 22, y + 22) for x, y in corners], [colours[letter] for letter in BOARD[:64]])
-            self.assertEqual(({at(x + 4, y + 4) for x, y in corners}, at(32, 391)), ({green}, mover))
-        at = self.picture(position.show(self.SCORES)._repr_svg_())
-        for place, (x, y) in enumerate(corners):
-            name = ffosolve.square_name(place)
-            self.assertEqual(at(x + 4, y + 4), yellow if name in ("A1", "A2") else green, name)
-            colours = {at(x + right, y + down) for right in range(8, 36) for down in range(14, 30)}
-            if BOARD[place] == "-":
-                self.assertEqual(len(colours) > 3, name in ("A1", "A2", "B1", "H1", "H8"), name)
+def test_a_transcript_plays_on_from_any_position():
+    start = Position.start()
+    for number, game in enumerate(random_games(100, seed=77)):
+        squares, text = squares_of(game), transcript(game).upper()
+        cut, positions = number % len(squares), positions_of(squares)
+        middle, end = start.play_all(text[:2 * cut]), position_of(*positions[min(positions)])
+        assert middle.to_obf() == position_of(*positions[60 - cut]).to_obf()
+        with_passes = [NAMES[move] if move is not None else "--" for move in game]
+        noted = " ".join(with_passes) + " pass pass 33-31 % f5"
+        for at, moves in ((middle, text[2 * cut:]), (middle, squares[cut:]), (start, with_passes), (start, noted)):
+            found = at.play_all(moves)
+            assert end in (found, found.passed())
+            assert found.is_over
 
 
-class MostEmpties(unittest.TestCase):
-    def test_the_default_is_that_of_the_programs(self):
-        text = run(built(), "--help", check=True).stdout.decode()
-        default = re.search(r"--max-empties.*?\[default: (\d+)\]", text, re.DOTALL)[1]
-        self.assertEqual(Solver().max_empties, int(default))
+def test_an_illegal_move_is_named_with_its_board_and_side():
+    start, after = Position.start(), Position.start().play("F5")
+    at_pass, finished = Position.from_obf(AT_PASS), Position.from_obf(FINISHED)
+    first, second, third = start.to_obf(), after.to_obf(), after.play("D6").to_obf()
+    no_square = "a square is a name such as 'F5' or a number from 0 to 63, not "
+    for error, call, move, why in (
+        (NoMove, start.play, "e3", f"E3 is not a legal move for Black in {first}"),
+        (NoMove, after.play, 37, f"F5 is not a legal move for White in {second}"),
+        (NoMove, lambda it: Solver().play(after, it), "f5", f"F5 is not a legal move for White in {second}"),
+        (NoMove, start.play, 64, f"square 64 is not a legal move for Black in {first}"),
+        (NoMove, at_pass.play, "A1", f"A1 is not a legal move: White has to pass in {AT_PASS}"),
+        (NoMove, finished.play, "A5", f"A5 is not a legal move: the game is over in {FINISHED}"),
+        (NoMove, start.play_all, "f5d6d6", f"move 3: D6 is not a legal move for Black in {third}"),
+        (NoMove, start.play_all, "f5 --", f"move 2: a pass is not a legal move for White in {second}"),
+        (NoMove, start.play_all, "f5z9", "move 2: no square has the name 'z9'"),
+        (ValueError, start.play, "I9", "no square has the name 'I9'"),
+        (TypeError, start.play, None, f"{no_square}None"),
+        (TypeError, start.play, 1.5, f"{no_square}1.5"),
+        (TypeError, start.play, ["F5"], f"{no_square}['F5']"),
+        (TypeError, start.play_all, 5, "moves are a transcript or a list of squares, not 5"),
+    ):
+        with pytest.raises(error, match=f"^{re.escape(why)}$"):
+            call(move)
 
-    def test_more_empty_squares_are_refused_before_anything_is_solved(self):
-        """The first position of a list would take hours if it were solved."""
-        solver, positions = Solver(max_empties=33), random_positions(2, [33, 34])
-        wide = positions[1]
-        arrays = need_module("numpy").array(positions, "uint64").T
-        why = "34 empty squares are more than max_empties=33 of the Solver"
-        for index, call, *given in (
-            (None, solver.solve, wide),
-            (None, solver.move_scores, wide),
-            (None, solver.confirm, wide, ffosolve.Answer(0, ffosolve.Kind.OVER, 0)),
-            *((1, functools.partial(call, threads=threads), positions)
-              for call in (solver.solve_all, solver.move_scores_all) for threads in (1, 2)),
-            (1, solver.solve_arrays, *arrays),
-            (1, solver.move_scores_arrays, *arrays),
-            (0, next, solver.solve_iter([wide])),
-            (0, next, solver.move_scores_iter([wide])),
-        ):
-            with self.assertRaises(ffosolve.TooManyEmpties) as refused:
-                call(*given)
-            text = why if index is None else f"position at index {index}: {why}"
-            self.assertEqual((str(refused.exception), refused.exception.index), (text, index))
+
+def test_a_game_that_goes_on_has_no_score():
+    for position in (Position.start(), Position.from_obf(AT_PASS)):
+        with pytest.raises(ValueError, match=f"^the game is not over, .*: {position.to_obf()}$"):
+            position.score()
+    with pytest.raises(ffosolve.UnknownScoring):
+        Position.from_obf(FINISHED).score("loser")
+
+
+def test_masks_that_share_a_square_have_no_moves():
+    shared = Position(3, 2)
+    for call in (lambda: shared.legal_moves, lambda: shared.must_pass, lambda: shared.is_over, shared.score,
+                 lambda: shared.play(9), lambda: shared.play_all("f5")):
+        with pytest.raises(ffosolve.SharedSquare):
+            call()
+
+
+def test_only_rules_and_solvers_need_a_library_and_rules_take_that_of_a_solver():
+    code = """if True:
+        import sys
+        from ffosolve import START, LibraryNotFound, Solver, read_lines
+        position, = read_lines([sys.argv[2]])
+        print(position.to_obf())
+        print(position.show())
+        for call in (Solver, lambda: START.legal_moves):
+            try:
+                print(call())
+            except LibraryNotFound as error:
+                print(type(error).__name__)
+        print(Solver(sys.argv[1]).solve(position), START.legal_moves)
+    """
+    words = (sys.executable, "-c", code, os.path.abspath(os.environ["FFOSOLVE_LIBRARY"]), AT_PASS)
+    ran = run(*words, cwd=ROOT / "python/src", env={"FFOSOLVE_LIBRARY": "/nowhere/it.so"}, text=True)
+    shown = f"{AT_PASS}\n{Position.from_obf(AT_PASS)}\n"
+    found = "LibraryNotFound\nLibraryNotFound\n-64 PS ['D3', 'C4', 'F5', 'E6']\n"
+    assert ran.stdout == shown + found, ran.stderr
+
+
+def test_an_answer_reads_as_its_row_of_a_report_and_its_board_names_a_pass_and_an_end():
+    for line, text, mover, state in (
+        (AT_PASS, "-64 PS", "White", "has to pass: -64"),
+        (FINISHED, "+32 --", "Black", "scores +32: the game is over"),
+        (AT_PASS.replace(" O", " X"), "+64 A1", "Black", "is to move"),
+    ):
+        position = Position.from_obf(line)
+        answer = Solver().solve(position)
+        board = position.show(answer)
+        assert (str(answer), str(board).splitlines()[-1]) == (text, f"{position.side} {state}")
+        assert board._repr_svg_().count(f">{mover} {state}</text>") == 1
+
+
+def test_an_answer_names_all_best_moves():
+    two = ffosolve.Answer(0, ffosolve.Kind.MOVES, 0x81)
+    assert (str(two), f"{two}") == ("+00 A1,H1", "+00 A1,H1")
+    assert repr(two) == "Answer(score=0, kind=<Kind.MOVES: 0>, best=129)"
+
+
+def test_a_board_as_text_has_letters_scores_and_the_side_to_move():
+    position = Position.from_obf(BOARD)
+    rows = [f"{row + 1} {' '.join(BOARD[8 * row:8 * row + 8])}" for row in range(8)]
+    assert str(position).splitlines() == ["  A B C D E F G H", *rows, "X is to move"]
+    of_white = Position.from_obf(BOARD.replace(" X;", " O;"))
+    assert str(of_white).splitlines() == ["  A B C D E F G H", *rows, "O is to move"]
+    assert str(Position(*of_white)) == str(of_white).translate(str.maketrans("XO", "OX"))
+    shown = str(position.show(SCORES, side="O")).splitlines()
+    assert shown[1] == "1 +38*  +36    O    O    O    O    O   +0"
+    assert (shown[2][:6], shown[8][-4:], shown[-1]) == ("2 +38*", " -12", "O is to move")
+
+
+def test_wrong_scores_and_sides_are_refused():
+    for scores, side, error, why in (
+        ({"C1": 3}, "X", ValueError, "C1 has a score, but is not empty"),
+        ({"I9": 3}, "X", ValueError, "no square has the name 'I9'"),
+        ({9: 3}, "X", ValueError, "no square has the name 9"),
+        ({"A1": "x"}, "X", TypeError, "the score of A1 is a number, not 'x'"),
+        ({"A1": None}, "X", TypeError, "the score of A1 is a number, not None"),
+        ({}, "black", ValueError, "the side to move is 'X' or 'O', not 'black'"),
+    ):
+        with pytest.raises(error, match=f"^{why}$"):
+            Position.from_obf(BOARD).show(scores, side)
+
+
+def picture(svg):
+    """Returns a function from x and y, in pixels from the left and the top, to the picture's colour there (hex)."""
+    need("rsvg-convert")
+    xml.etree.ElementTree.fromstring(svg)
+    png = run("rsvg-convert", input=svg.encode(), check=True).stdout
+    picture = pytest.importorskip("PIL.Image").open(io.BytesIO(png)).convert("RGB")
+    return lambda x, y: "".join(f"{part:02x}" for part in picture.getpixel((x, y)))
+
+
+def test_a_picture_has_discs_scores_and_marks_in_their_squares():
+    """A square is 44 pixels wide, and the margin 22. A disc covers the middle of its square, but no corner."""
+    position, corners = Position.from_obf(BOARD), [(22 + 44 * (at % 8), 22 + 44 * (at // 8)) for at in range(64)]
+    assert "".join(re.findall(r">(\w)</text>", position._repr_svg_())) == "A1B2C3D4E5F6G7H8"
+    black, white, green, yellow = "111111", "fafafa", "2f8f5b", "ffd54a"
+    for board, mover, other in ((position, black, white), (position.show(side="O"), white, black)):
+        at = picture(board._repr_svg_())
+        colours = {"X": mover, "O": other, "-": green}
+        assert [at(x + 22, y + 22) for x, y in corners] == [colours[letter] for letter in BOARD[:64]]
+        assert ({at(x + 4, y + 4) for x, y in corners}, at(32, 391)) == ({green}, mover)
+    at = picture(position.show(SCORES)._repr_svg_())
+    for place, (x, y) in enumerate(corners):
+        name = ffosolve.square_name(place)
+        assert at(x + 4, y + 4) == (yellow if name in ("A1", "A2") else green), name
+        colours = {at(x + right, y + down) for right in range(8, 36) for down in range(14, 30)}
+        if BOARD[place] == "-":
+            assert (len(colours) > 3) == (name in ("A1", "A2", "B1", "H1", "H8")), name
+
+
+def test_the_default_is_that_of_the_programs():
+    text = run(built(), "--help", check=True).stdout.decode()
+    default = re.search(r"--max-empties.*?\[default: (\d+)\]", text, re.DOTALL)[1]
+    assert Solver().max_empties == int(default)
+
+
+def test_more_empty_squares_are_refused_before_anything_is_solved():
+    """The first position of a list would take hours if it were solved."""
+    solver, positions = Solver(max_empties=33), random_positions(2, [33, 34])
+    wide = positions[1]
+    arrays = pytest.importorskip("numpy").array(positions, "uint64").T
+    why = "34 empty squares are more than max_empties=33 of the Solver"
+    for index, call, *given in (
+        (None, solver.solve, wide),
+        (None, solver.move_scores, wide),
+        (None, solver.confirm, wide, ffosolve.Answer(0, ffosolve.Kind.OVER, 0)),
+        *((1, functools.partial(call, threads=threads), positions)
+          for call in (solver.solve_all, solver.move_scores_all) for threads in (1, 2)),
+        (1, solver.solve_arrays, *arrays),
+        (1, solver.move_scores_arrays, *arrays),
+        (0, next, solver.solve_iter([wide])),
+        (0, next, solver.move_scores_iter([wide])),
+    ):
+        with pytest.raises(ffosolve.TooManyEmpties) as refused:
+            call(*given)
+        text = why if index is None else f"position at index {index}: {why}"
+        assert (str(refused.value), refused.value.index) == (text, index)
