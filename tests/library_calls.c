@@ -5,6 +5,7 @@
        move_scores OWN OPP SCORING ENTRIES     the mask of moves, SQUARE:SCORE of each, + how many squares have no score
        solve_all SCORING ENTRIES ROOM OWN OPP .., move_scores_all ..    at INDEX if refused, INDEX: and the same of each
        moves OWN OPP, play OWN OPP SQUARE      masks
+       canonical OWN OPP, image MASK SYMMETRY  OWN OPP SYMMETRY, and a mask
        read_line ROOM TEXT                     at INDEX, or OWN OPP SIDE LISTED, then each KIND/SQUARE/SCORE listed
        long_line                               what read_line prints for a line of 8,000,000 listed moves
        names                                   the values of the header's constants, and the text of each status */
@@ -22,6 +23,7 @@ static size_t numbers;
 
 static struct written {
     size_t at;
+    uint32_t symmetry;
     ffosolve_position after;
     ffosolve_answer answers[ROOM];
     ffosolve_move_scores_of found[ROOM];
@@ -47,6 +49,8 @@ static int32_t status_of(const char *call, const char *text, size_t length) {
     CALL(move_scores_all, positions, count, of_all, number[1], now.found, number[2], &now.at);
     CALL(moves, position, &now.found[0].moves);
     CALL(play, position, (uint8_t)number[2], &now.after);
+    CALL(canonical, position, &now.after, &now.symmetry);
+    CALL(image, number[0], (uint32_t)number[1], &now.found[0].moves);
     return ffosolve_read_line(text, length, &now.line, now.listed, number[0], &now.at);
 }
 
@@ -55,6 +59,7 @@ static void make(const char *call, const char *text, size_t length) {
     printf("%" PRId32, status_of(call, text, length));
     if (IS_SET(at)) printf(" at %zu", now.at);
     if (IS_SET(after)) printf(" %" PRIx64 " %" PRIx64, now.after.own, now.after.opp);
+    if (IS_SET(symmetry)) printf(" %" PRIu32, now.symmetry);
     if (IS_SET(line)) {
         printf(" %" PRIx64 " %" PRIx64, now.line.position.own, now.line.position.opp);
         printf(" %" PRId32 " %zu", now.line.side, now.line.listed);
@@ -102,7 +107,9 @@ static void show_names(void) {
         FFOSOLVE_WINNER, FFOSOLVE_DISCS, FFOSOLVE_SIGN, FFOSOLVE_MOVES, FFOSOLVE_PASS, FFOSOLVE_OVER, FFOSOLVE_BLACK,
         FFOSOLVE_WHITE, FFOSOLVE_MOST_ENTRIES, FFOSOLVE_MOST_EMPTIES, FFOSOLVE_VERSION, (int)ffosolve_version(),
         (int)ffosolve_limit(FFOSOLVE_LIMIT_ENTRIES), (int)ffosolve_limit(FFOSOLVE_LIMIT_EMPTIES),
-        (int)ffosolve_limit(FFOSOLVE_LIMIT_SCORINGS), (int)ffosolve_limit(3)};
+        (int)ffosolve_limit(FFOSOLVE_LIMIT_SCORINGS), (int)ffosolve_limit(3), FFOSOLVE_IDENTITY, FFOSOLVE_FLIP_COLUMNS,
+        FFOSOLVE_FLIP_ROWS, FFOSOLVE_HALF_TURN, FFOSOLVE_TRANSPOSE, FFOSOLVE_TURN_RIGHT, FFOSOLVE_TURN_LEFT,
+        FFOSOLVE_ANTI_TRANSPOSE};
     const char *text = "";
     printf("%s", FFOSOLVE_VERSION_TEXT);
     for (size_t i = 0; i < sizeof values / sizeof *values; i++) printf(" %d", values[i]);

@@ -1,10 +1,11 @@
 // For LD_PRELOAD, with variables of the environment. REFUSED is a number n: the nth request for memory fails, and the
 // file `refused` appears in the current folder. WATCHED: each fsync or rename writes `sync ` or `rename ` to standard
-// error. NO_SYNC: each fsync fails.
+// error. NO_SYNC: each fsync fails. COUNTED: each thread that is started writes `thread ` to standard error.
 #define _GNU_SOURCE
 #include <dlfcn.h>
 #include <errno.h>
 #include <fcntl.h>
+#include <pthread.h>
 #include <stdatomic.h>
 #include <stdio.h>
 #include <stdlib.h>
@@ -33,4 +34,9 @@ int fsync(int file) {
 int rename(const char *from, const char *to) {
     if (getenv("WATCHED")) dprintf(STDERR_FILENO, "rename ");
     return NEXT(rename)(from, to);
+}
+
+int pthread_create(pthread_t *made, const pthread_attr_t *how, void *(*call)(void *), void *with) {
+    if (getenv("COUNTED")) dprintf(STDERR_FILENO, "thread ");
+    return NEXT(pthread_create)(made, how, call, with);
 }

@@ -23,6 +23,48 @@ add_executable(in_cxx answers.cpp)
 target_link_libraries(shared ffosolve::ffosolve)
 target_link_libraries(in_cxx ffosolve::ffosolve)
 """
+# A made-up library: each function prints the numbers that it gets.
+PRINTED_IN_C = r"""#include <stdint.h>
+#include <stdio.h>
+struct position { uint64_t own, opp; };
+struct answer { int32_t score, kind; uint64_t best; };
+int ffosolve_solve(struct position position, uint32_t scoring, size_t entries) {
+    return printf("solve %u %zu\n", scoring, entries) < 0;
+}
+int ffosolve_confirm(struct position position, uint32_t scoring, size_t entries, struct answer claim) {
+    return printf("confirm %u %zu %d\n", scoring, entries, claim.score) < 0;
+}
+int ffosolve_solve_all(void *positions, size_t count, uint32_t scoring, size_t entries) {
+    return printf("solve_all %zu %u %zu\n", count, scoring, entries) < 0;
+}
+int ffosolve_move_scores_all(void *positions, size_t count, uint32_t scoring, size_t entries) {
+    return printf("move_scores_all %zu %u %zu\n", count, scoring, entries) < 0;
+}
+"""
+ASKED_IN_RUST = """use ffosolve::*;
+fn main() {
+    let [few, some, many] = [8, 12, 20].map(|empties| Position::new(1, !1 << empties).expect("masks apart"));
+    for solver in [Solver::new(), Solver::new().scoring(Scoring::Sign).entries(5)] {
+        for position in [few, some, many] {
+            solver.solve(position).expect("an answer");
+            solver.confirm(position, Answer { score: 7, best: Best::Pass }).expect("an answer");
+            solver.move_scores(position).expect("scores");
+        }
+        solver.solve_all(&[some, many, few]).expect("answers");
+        solver.move_scores_all(&[some, few]).expect("scores");
+        solver.threads(2).solve_all(&[many, few, few]).expect("answers");
+    }
+}
+"""
+
+
+def asked(scoring, few, some, many):
+    """Yields the lines that ASKED_IN_RUST has to print for a solver, with its tables for each number of squares."""
+    for entries in (few, some, many):
+        yield from (f"solve {scoring} {entries}", f"confirm {scoring} {entries} 7")
+        yield f"move_scores_all 1 {scoring} {entries}"
+    yield from (f"solve_all 3 {scoring} {many}", f"move_scores_all 2 {scoring} {some}")
+    yield from (f"solve_all 1 {scoring} {many}", f"solve_all 2 {scoring} {few}")  # a part for each thread
 
 
 def shown(language, *names):
@@ -82,8 +124,8 @@ class Examples(unittest.TestCase):
 
     def test_the_example_in_rust_runs(self):
         self.assertTrue(PREFIX.crate)
-        PREFIX.cargo("build", PREFIX.work / "examples/rust", "--quiet")
-        self.answers(PREFIX.work / "target/debug/answers")
+        PREFIX.cargo("build", PREFIX.work / "rust", "--quiet", "--example", "answers")
+        self.answers(PREFIX.work / "target/debug/examples/answers")
 
     def command(self, language, block):
         """Builds a block of code, unless it is in Python; returns the words of a command that runs the block."""
@@ -120,11 +162,10 @@ class PythonPackage(unittest.TestCase):
     def test_a_library_of_another_version_or_without_a_call_is_refused(self):
         need("cc")
         older, lacking = "has version 20000, not 1.x.y", "is not this package's library"
-        whole = len(PREFIX.calls)
-        for calls, number, why in ((whole, 10203, ""), (whole, 20000, older), (whole - 1, 10203, lacking)):
-            names = sorted(PREFIX.calls)[::-1][:calls]
-            source = PREFIX.write("other.c", "".join(f"int {name}(void) {{ return {number}; }}\n" for name in names))
-            other = PREFIX.work / f"other-{calls}-{number}.so"
+        for missing, number, why in (("", 10203, ""), ("", 20000, older), ("ffosolve_play", 10203, lacking)):
+            calls = PREFIX.calls - {missing}
+            source = PREFIX.write("other.c", "".join(f"int {name}(void) {{ return {number}; }}\n" for name in calls))
+            other = PREFIX.work / f"other-{len(calls)}-{number}.so"
             PREFIX.make("cc", "-shared", "-fPIC", "-o", other, source)
             env = {**PREFIX.environment, "FFOSOLVE_LIBRARY": str(other)}
             ran = PREFIX.run(PREFIX.site and sys.executable, "-c", "import ffosolve; ffosolve.Solver()", env=env)
@@ -182,16 +223,24 @@ class RustCrate(unittest.TestCase):
                 passed = re.findall(r"^test result: ok. (\d+) passed", ran.stdout, re.MULTILINE)
                 self.assertGreater(len(passed), 2, ran.stdout)
 
-    def test_the_compiler_that_the_manifests_name_takes_crate_and_example(self):
-        for name in ("rust", "examples"):  # copies without what another cargo has made
-            shutil.copytree(PREFIX.shipped / name, PREFIX.work / "oldest" / name)
-        for crate in (PREFIX.work / "oldest/rust", PREFIX.work / "oldest/examples/rust"):
-            oldest = re.search(r'^rust-version = "(.+)"$', (crate / "Cargo.toml").read_text(), re.MULTILINE)[1]
-            folders = [folder for folder in os.get_exec_path() if os.path.exists(f"{folder}/rustc")
-                       and run(f"{folder}/rustc", "--version", text=True).stdout.startswith(f"rustc {oldest}.")]
-            folder = folders[0] if folders else lack(f"rustc {oldest}")
-            places = {"RUSTC": f"{folder}/rustc", "CARGO_TARGET_DIR": str(PREFIX.work / "oldest/target")}
-            PREFIX.make(f"{folder}/cargo", "check", "--quiet", cwd=crate, env={**PREFIX.environment, **places})
+    def test_the_compiler_that_the_manifest_names_takes_crate_and_example(self):
+        crate = shutil.copytree(PREFIX.shipped / "rust", PREFIX.work / "oldest/rust")  # without what another cargo made
+        oldest = re.search(r'^rust-version = "(.+)"$', (crate / "Cargo.toml").read_text(), re.MULTILINE)[1]
+        folders = [folder for folder in os.get_exec_path() if os.path.exists(f"{folder}/rustc")
+                   and run(f"{folder}/rustc", "--version", text=True).stdout.startswith(f"rustc {oldest}.")]
+        folder = folders[0] if folders else lack(f"rustc {oldest}")
+        places = {"RUSTC": f"{folder}/rustc", "CARGO_TARGET_DIR": str(PREFIX.work / "oldest/target")}
+        words = "check", "--quiet", "--lib", "--examples"
+        PREFIX.make(f"{folder}/cargo", *words, cwd=crate, env={**PREFIX.environment, **places})
+
+    def test_the_library_gets_the_scoring_the_table_and_the_claim_that_were_asked_for(self):
+        """Builds ASKED_IN_RUST with a made-up library, PRINTED_IN_C, whose functions print what they get."""
+        folder = PREFIX.write("that-prints/calls.c", PRINTED_IN_C).parent
+        PREFIX.make("cc", "-c", "-I", PREFIX.header.parent, "calls.c", cwd=folder)
+        PREFIX.make("ar", "rcs", "libffosolve.a", "calls.o", cwd=folder)
+        program = PREFIX.rust_client("asked", ASKED_IN_RUST, FFOSOLVE_LIB_DIR=str(folder))
+        wanted = [*asked(0, 0, 4096, 65536), *asked(2, 5, 5, 5)]  # by default the tables that ffosolve.h suggests
+        self.assertEqual(sorted(PREFIX.make(program).stdout.splitlines()), sorted(wanted))
 
     def test_ffosolve_lib_dir_names_the_folder_of_the_library(self):
         shutil.copytree(PREFIX.libraries, PREFIX.work / "libraries", symlinks=True)

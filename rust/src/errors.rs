@@ -1,5 +1,5 @@
 //! Why calls and lines are refused.
-use crate::{MOST_EMPTIES, MOST_ENTRIES};
+use crate::MOST_ENTRIES;
 use std::fmt;
 
 /// Defines errors. A row has a status of the library, the variant, the name of the number in it, and the text. This
@@ -48,10 +48,11 @@ refusals! {
         2 TooManyEntries: "more than {MOST_ENTRIES} table entries",
         4 SharedSquare: "the masks share a square",
         /// The index in a list, counted from 0, of the first such position.
-        5 TooManyEmpties { index }: "position at index {index}: more than {MOST_EMPTIES} empty squares",
+        5 TooManyEmpties { index }: "position at index {index}: more empty squares than the solver takes",
         6 NoMove: "illegal move",
         /// There is no memory for the table; never with 0 entries.
         7 NoMemory: "out of memory",
+        12 UnknownSymmetry: "no symmetry has the number",
     }
     /// Why a line holds no position; columns are counted from 1, in bytes.
     ObfError {

@@ -20,6 +20,11 @@ impl Position {
         }
     }
 
+    /// The position in which a game begins.
+    pub const fn start() -> Position {
+        Position { own: 0x0000_0008_1000_0000, opp: 0x0000_0010_0800_0000 }
+    }
+
     /// The position of a line of OBF text, which is read or refused as by `Line::from_obf`.
     pub fn from_obf<T: AsRef<[u8]> + ?Sized>(text: &T) -> Result<Position, ObfError> {
         Ok(Line::from_obf(text)?.position)
@@ -63,6 +68,16 @@ impl Position {
         let status = unsafe { raw::ffosolve_moves(self.raw(), &mut moves) };
         debug_assert_eq!(status, 0, "the masks of a position share no square");
         Squares(moves)
+    }
+
+    /// Whether the side to move has no legal move, but the other side has one.
+    pub fn must_pass(self) -> bool {
+        self.moves().is_empty() && !self.passed().moves().is_empty()
+    }
+
+    /// Whether neither side has a legal move.
+    pub fn is_over(self) -> bool {
+        self.moves().is_empty() && self.passed().moves().is_empty()
     }
 
     /// The position after a move to a square, in which the other side is to move.

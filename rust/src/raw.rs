@@ -41,6 +41,8 @@ extern "C" {
         found: *mut MoveScores, room: usize, at: *mut usize) -> i32;
     pub fn ffosolve_moves(position: Position, moves: *mut u64) -> i32;
     pub fn ffosolve_play(position: Position, square: u8, after: *mut Position) -> i32;
+    pub fn ffosolve_canonical(position: Position, canonical: *mut Position, symmetry: *mut u32) -> i32;
+    pub fn ffosolve_image(mask: u64, symmetry: u32, image: *mut u64) -> i32;
     pub fn ffosolve_read_line(text: *const u8, length: usize, line: *mut Line, listed: *mut Listed,
         room: usize, at: *mut usize) -> i32;
     pub fn ffosolve_limit(limit: u32) -> usize;

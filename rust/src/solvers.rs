@@ -1,8 +1,12 @@
 //! The solver, its scorings, its limits and its answers.
 use crate::{raw, Error, Position, Square, Squares};
+use std::sync::atomic::{AtomicUsize, Ordering};
+use std::thread;
 
 /// The greatest number of empty squares in a position to solve.
 pub const MOST_EMPTIES: usize = 60;
+/// The greatest number of empty squares in a position that a `Solver` takes, unless `max_empties` sets another.
+pub const DEFAULT_EMPTIES: usize = 20;
 /// The greatest number of entries in a table.
 pub const MOST_ENTRIES: usize = 4_194_304;
 
@@ -80,20 +84,27 @@ pub fn library_version() -> u32 {
     unsafe { raw::ffosolve_version() }
 }
 
-/// Solves positions under a scoring. Each call searches with a new table, and keeps nothing.
+/// Solves positions under a scoring. Each call searches with new tables, and keeps nothing.
 ///
 /// # Errors
-/// Each call tests for `TooManyEntries`, `TooManyEmpties` and `NoMemory`, in this order.
-#[derive(Clone, Copy, PartialEq, Eq, Hash, Debug, Default)]
+/// Each call tests for `TooManyEmpties`, `TooManyEntries` and `NoMemory`, in this order.
+#[derive(Clone, Copy, PartialEq, Eq, Hash, Debug)]
 pub struct Solver {
     scoring: Scoring,
     entries: Option<usize>,
+    max_empties: usize,
+    threads: usize,
 }
 
+/// A call of the library for many positions, which writes an `R` for each.
+type CallForAll<R> =
+    unsafe extern "C" fn(*const raw::Position, usize, u32, usize, *mut R, usize, *mut usize) -> i32;
+
 impl Solver {
-    /// A solver under `Scoring::Winner`, which chooses the size of its tables by the empty squares (`table_entries`).
+    /// A solver under `Scoring::Winner` for positions with up to `DEFAULT_EMPTIES` empty squares. It chooses the size
+    /// of its tables by the empty squares (`table_entries`), and starts no threads.
     pub const fn new() -> Solver {
-        Solver { scoring: Scoring::Winner, entries: None }
+        Solver { scoring: Scoring::Winner, entries: None, max_empties: DEFAULT_EMPTIES, threads: 1 }
     }
 
     /// The solver under another scoring.
@@ -108,11 +119,25 @@ impl Solver {
         Solver { entries: Some(entries), ..self }
     }
 
+    /// The solver for positions with up to this many empty squares, but no more than `MOST_EMPTIES`. Others might take
+    /// hopelessly long, and are refused.
+    #[must_use]
+    pub const fn max_empties(self, most: usize) -> Solver {
+        let max_empties = if most < MOST_EMPTIES { most } else { MOST_EMPTIES };
+        Solver { max_empties, ..self }
+    }
+
+    /// The solver with up to this many threads for each call of many positions. One position is solved by one thread.
+    #[must_use]
+    pub const fn threads(self, threads: usize) -> Solver {
+        Solver { threads, ..self }
+    }
+
     /// The answer for a position.
     pub fn solve(&self, position: Position) -> Result<Answer, Error> {
-        let (mut answer, scoring, entries) = (raw::Answer::default(), self.scoring as u32, self.table(&[position]));
+        let (mut answer, entries) = (raw::Answer::default(), self.entries_for(&[position])?);
         // SAFETY: the pointer is to an answer of this call's own.
-        let status = unsafe { raw::ffosolve_solve(position.raw(), scoring, entries, &mut answer) };
+        let status = unsafe { raw::ffosolve_solve(position.raw(), self.scoring as u32, entries, &mut answer) };
         Error::of_status(status, 0).map(|()| Answer::of_raw(answer))
     }
 
@@ -120,38 +145,99 @@ impl Solver {
     /// result equals it. From 6 empty squares on, this is faster than `solve` if most claimed scores are right.
     pub fn confirm(&self, position: Position, claim: Answer) -> Result<Answer, Error> {
         let claim = raw::Answer { score: claim.score.into(), ..Default::default() }; // nothing but the score matters
-        let (mut answer, scoring, entries) = (raw::Answer::default(), self.scoring as u32, self.table(&[position]));
+        let (mut answer, entries) = (raw::Answer::default(), self.entries_for(&[position])?);
         // SAFETY: the pointer is to an answer of this call's own.
-        let status = unsafe { raw::ffosolve_confirm(position.raw(), scoring, entries, claim, &mut answer) };
+        let status = unsafe { raw::ffosolve_confirm(position.raw(), self.scoring as u32, entries, claim, &mut answer) };
         Error::of_status(status, 0).map(|()| Answer::of_raw(answer))
     }
 
-    /// The answers for positions, in their order. One table serves them all.
+    /// The answers for positions, in their order. One table serves them all; with several threads, each cuts off parts
+    /// of the list, which have a table each.
     pub fn solve_all(&self, positions: &[Position]) -> Result<Vec<Answer>, Error> {
-        let asked: Vec<raw::Position> = positions.iter().map(|position| position.raw()).collect();
-        let mut answers = vec![raw::Answer::default(); asked.len()];
-        let (count, scoring, entries, mut at) = (asked.len(), self.scoring as u32, self.table(positions), 0);
-        let (from, to) = (asked.as_ptr(), answers.as_mut_ptr());
-        // SAFETY: the lists have these lengths, and the answers are this call's own.
-        let status = unsafe { raw::ffosolve_solve_all(from, count, scoring, entries, to, count, &mut at) };
-        Error::of_status(status, at)?;
-        Ok(answers.into_iter().map(Answer::of_raw).collect())
+        self.call_all(raw::ffosolve_solve_all, raw::Answer::default(), Answer::of_raw, positions)
     }
 
     /// Each legal move with its score for the side to move, in the order of the squares; empty without a legal move.
     /// One table serves all moves.
     pub fn move_scores(&self, position: Position) -> Result<Vec<(Square, i8)>, Error> {
-        let (mut scores, mut moves, entries) = ([0; 64], 0, self.table(&[position]));
-        let scoring = self.scoring as u32;
-        // SAFETY: the pointers are to 64 scores and a number of this call's own.
-        let status = unsafe { raw::ffosolve_move_scores(position.raw(), scoring, entries, &mut scores, &mut moves) };
-        Error::of_status(status, 0)?;
-        let score_at = |square: Square| (square, scores[usize::from(square.number())]);
-        Ok(Squares(moves).map(score_at).collect())
+        self.move_scores_all(&[position]).map(|mut found| found.remove(0))
     }
 
-    fn table(&self, positions: &[Position]) -> usize {
-        let empties = positions.iter().map(|position| position.empties().len()).max();
-        self.entries.unwrap_or(table_entries(empties.unwrap_or(0)))
+    /// What `move_scores` returns for each position, in their order, with tables and threads as `solve_all` has them.
+    pub fn move_scores_all(&self, positions: &[Position]) -> Result<Vec<Vec<(Square, i8)>>, Error> {
+        let unset = raw::MoveScores { scores: [0; 64], moves: 0 };
+        let read = |found: raw::MoveScores| {
+            Squares(found.moves).map(|square| (square, found.scores[usize::from(square.number())])).collect()
+        };
+        self.call_all(raw::ffosolve_move_scores_all, unset, read, positions)
     }
+
+    /// The entries of a table for positions, or the refusal of the first that has too many empty squares.
+    fn entries_for(&self, positions: &[Position]) -> Result<usize, Error> {
+        let empties = || positions.iter().map(|position| position.empties().len());
+        match empties().position(|count| count > self.max_empties) {
+            Some(index) => Err(Error::TooManyEmpties { index }),
+            None => Ok(self.entries.unwrap_or_else(|| table_entries(empties().max().unwrap_or(0)))),
+        }
+    }
+
+    /// What `read` makes of each record that `call` writes for the positions.
+    fn call_all<R: Copy + Sync, A: Send>(
+        &self, call: CallForAll<R>, unset: R, read: fn(R) -> A, positions: &[Position],
+    ) -> Result<Vec<A>, Error> {
+        self.entries_for(positions)?; // before any position is solved
+        if self.threads < 2 {
+            return self.call_part(call, unset, read, positions);
+        }
+        let (parts, next) = (parts_of(positions), AtomicUsize::new(0));
+        let work = || {
+            let take = || Some(next.fetch_add(1, Ordering::Relaxed)).filter(|at| *at < parts.len());
+            let solve = |at: usize| (at, self.call_part(call, unset, read, parts[at]));
+            std::iter::from_fn(take).map(solve).collect::<Vec<_>>()
+        };
+        let mut found = thread::scope(|scope| {
+            let start = |_| thread::Builder::new().spawn_scoped(scope, work).ok(); // the caller works in any case
+            let started: Vec<_> = (1..self.threads.min(parts.len())).map(start).collect();
+            let mut found = work();
+            for thread in started.into_iter().flatten() {
+                found.extend(thread.join().expect("a thread that solves does not panic"));
+            }
+            found
+        });
+        found.sort_by_key(|(at, _)| *at);
+        let parts: Result<Vec<Vec<A>>, Error> = found.into_iter().map(|(_, part)| part).collect();
+        Ok(parts?.into_iter().flatten().collect())
+    }
+
+    fn call_part<R: Copy, A>(
+        &self, call: CallForAll<R>, unset: R, read: fn(R) -> A, positions: &[Position],
+    ) -> Result<Vec<A>, Error> {
+        let asked: Vec<raw::Position> = positions.iter().map(|position| position.raw()).collect();
+        let (mut found, count, mut at) = (vec![unset; asked.len()], asked.len(), 0);
+        let (entries, scoring, to) = (self.entries_for(positions)?, self.scoring as u32, found.as_mut_ptr());
+        // SAFETY: the lists have these lengths, and `found` is this call's own.
+        let status = unsafe { call(asked.as_ptr(), count, scoring, entries, to, count, &mut at) };
+        Error::of_status(status, at)?;
+        Ok(found.into_iter().map(read).collect())
+    }
+}
+
+impl Default for Solver {
+    fn default() -> Solver {
+        Solver::new()
+    }
+}
+
+/// Cuts positions into parts that are solved in some hundredths of a second, or that end with a position that takes
+/// longer. The weight of a position doubles with each empty square from 8 to 16.
+fn parts_of(positions: &[Position]) -> Vec<&[Position]> {
+    let (mut parts, mut start, mut weight) = (Vec::new(), 0, 0);
+    for (at, position) in positions.iter().enumerate() {
+        weight += 1 << position.empties().len().clamp(8, 16);
+        if weight >= 1 << 16 || at + 1 == positions.len() {
+            parts.push(&positions[start..=at]);
+            (start, weight) = (at + 1, 0);
+        }
+    }
+    parts
 }

@@ -39,9 +39,87 @@ fn solves() {
     assert_eq!([ANSWER, at_pass, at_end].map(|answer| answer.squares().to_string()), ["H1", "", ""]);
 }
 
+/// The positions of a game in which each side plays its first legal move, and the moves; a pass is `--`.
+fn first_game() -> (Vec<Position>, Vec<String>) {
+    let (mut positions, mut moves) = (vec![Position::start()], Vec::new());
+    let mut at = Position::start();
+    while !at.is_over() {
+        if at.must_pass() {
+            at = at.passed();
+            moves.push("--".to_owned());
+        }
+        let square = at.moves().next().expect("a move");
+        at = at.play(square).expect("a legal move");
+        moves.push(square.to_string());
+        positions.push(at);
+    }
+    (positions, moves)
+}
+
+#[test]
+fn many_positions_have_the_answers_and_scores_of_each() {
+    let (positions, _) = first_game();
+    let last = positions[positions.len() - 12..].repeat(40);
+    let [(few, scored), more] = [1, 3].map(|threads| {
+        let solver = Solver::new().threads(threads);
+        assert_eq!((solver.solve_all(&[]), solver.move_scores_all(&[])), (Ok(Vec::new()), Ok(Vec::new())));
+        (solver.solve_all(&last).expect("answers"), solver.move_scores_all(&last).expect("scores"))
+    });
+    assert_eq!((few.len(), &few, &scored), (480, &more.0, &more.1));
+    for (at, position) in last.iter().enumerate().take(12) {
+        assert_eq!(Ok(few[12 + at]), Solver::new().solve(*position));
+        assert_eq!(Ok(scored[12 + at].clone()), Solver::new().move_scores(*position));
+    }
+}
+
+#[test]
+fn reads_transcripts() {
+    let (positions, moves) = first_game();
+    let (start, last) = (Position::start(), positions[positions.len() - 1]);
+    assert!(moves.contains(&"--".to_owned()));
+    let without_passes = moves.concat().replace("--", "");
+    let numbered: String = moves.iter().enumerate().map(|(at, word)| format!("{}. {word},", at + 1)).collect();
+    let texts = [moves.join(" "), without_passes.to_lowercase(), moves.join("-"), numbered + "33-31 % f5"];
+    for text in texts {
+        assert_eq!(start.positions(&text).as_ref(), Ok(&positions), "{text}");
+        assert_eq!(start.play_all(&text), Ok(last));
+    }
+    let halves = without_passes.split_at(40);
+    assert_eq!(start.play_all(halves.0).and_then(|middle| middle.play_all(halves.1)), Ok(last));
+    assert_eq!((start.positions(""), start.play_all("% f5")), (Ok(vec![start]), Ok(start)));
+    for (text, number, word) in [
+        ("f5d6d6", 3, "d6"), ("f5 pass", 2, "pass"), ("e3", 1, "e3"), ("F5z9d6", 2, "z9"), ("f5 d", 2, "d"),
+        ("f5 12 +2 d6", 2, "+2"), ("f5\u{e4}\u{f6}", 2, "\u{e4}\u{f6}"),
+    ] {
+        let error = start.play_all(text).expect_err(text);
+        assert_eq!((error.number, &error.word[..]), (number, word));
+        assert_eq!(error.to_string(), format!("move {number}: {word} is not a legal move"));
+    }
+}
+
+#[test]
+fn images_have_one_canonical_position_and_images_of_best_moves() {
+    let (canonical, symmetry) = corners().canonical();
+    assert_eq!(canonical, position(0x3efe_ffff_efff_ffff, 0x4001_0000_1000_0000));
+    assert_eq!(symmetry, Symmetry::HalfTurn);
+    let images = Symmetry::ALL.map(|symmetry| corners().image(symmetry));
+    assert_eq!(HashSet::from(images).len(), 8);
+    assert_eq!(images[3], canonical);
+    let corner = ["H1", "A1", "H8", "A8", "A8", "H8", "A1", "H1"];
+    for ((symmetry, image), corner) in Symmetry::ALL.into_iter().zip(images).zip(corner) {
+        assert_eq!(image.canonical().0, canonical);
+        assert_eq!(image.image(symmetry.inverse()), corners());
+        assert_eq!(square("H1").image(symmetry), square(corner));
+        assert_eq!(Squares(0x80).image(symmetry), Squares(square(corner).bit()));
+        let best = Best::Moves(Squares(square(corner).bit()));
+        assert_eq!(Solver::new().solve(image), Ok(Answer { best, ..ANSWER }));
+    }
+}
+
 #[test]
 fn plays() {
     let start = position(0x0000_0008_1000_0000, 0x0000_0010_0800_0000);
+    assert_eq!((start, start.must_pass(), start.is_over()), (Position::start(), false, false));
     assert_eq!(start.moves().to_string(), "D3,C4,F5,E6");
     assert_eq!(start.play(square("d3")), Ok(position(0x0000_0010_0000_0000, 0x0000_0008_1808_0000)));
     for name in ["A1", "D4", "H8"] {
@@ -54,6 +132,14 @@ fn refuses() {
     let wide = position(1, 6);
     assert_eq!(Position::new(3, 2), Err(Error::SharedSquare));
     let (solver, large) = (Solver::new(), Solver::new().entries(MOST_ENTRIES + 1));
+    assert_eq!(solver, solver.max_empties(DEFAULT_EMPTIES));
+    let (of_21, of_60) = (position(1, !1 << 21), position(1, !1 << 60));
+    for (most, of, is_solved) in [(20, of_21, false), (21, of_21, true), (99, of_60, true), (99, wide, false)] {
+        let solver = solver.max_empties(most);
+        for found in [solver.solve(of).map(drop), solver.solve_all(&[of]).map(drop), solver.move_scores(of).map(drop)] {
+            assert_eq!(found.is_ok(), is_solved);
+        }
+    }
     let first = Error::TooManyEmpties { index: 0 };
     for (by, of, error) in [(solver, wide, first), (large, corners(), Error::TooManyEntries)] {
         assert_eq!(by.solve(of), Err(error));

@@ -3,3 +3,5 @@
 pub mod FirstRefused
 -- What the call that reads a line returns.
 pub mod LineMeaning
+-- The symmetry that a number finds.
+pub mod SymmetryNumbers

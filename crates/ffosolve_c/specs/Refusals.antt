@@ -10,6 +10,7 @@ use Rattle.ffosolve_c.specs.declared.call_refusal.CallRefusal.TheVariants.{Unkno
 use Rattle.ffosolve_c.specs.declared.call_refusal.CallRefusal.TheVariants.{UnequalLengths, SharedSquare}
 use Rattle.ffosolve_c.specs.declared.call_refusal.CallRefusal.TheVariants.{TooManyEmpties, NoMove, NoMemory}
 use Rattle.ffosolve_c.specs.declared.call_refusal.CallRefusal.TheVariants.{Skipped, ShortBoard, BadSquare, BadSide}
+use Rattle.ffosolve_c.specs.declared.call_refusal.CallRefusal.TheVariants.{UnknownSymmetry}
 use Rattle.obf_text.specs.declared.line_fault.LineFault.{LineFault}
 use Rattle.obf_text.specs.declared.line_fault.LineFault.TheVariants as fault
 use Rattle.ffosolve_c.specs.CValues.{discs_at, numbered_scoring}
@@ -26,6 +27,7 @@ call_status Skipped = pos 8
 call_status ShortBoard = pos 9
 call_status BadSquare = pos 10
 call_status BadSide = pos 11
+call_status UnknownSymmetry = pos 12
 
 -- why a line with a fault is refused
 abbrev pub fault_refusal : LineFault → CallRefusal

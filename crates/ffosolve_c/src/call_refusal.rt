@@ -31,10 +31,12 @@ pub enum CallRefusal {
     BadSquare,
     /// The side to move is missing.
     BadSide,
+    /// No symmetry has the number.
+    UnknownSymmetry,
 }
 
 impl CallRefusal {
-    /// The status that C reads, from 1 to 11.
+    /// The status that C reads, from 1 to 12.
     pub fn status(self) -> i32
         ensures number { result ≡ call_status self }
         ensures not_done { result ≢ pos 0 }
@@ -51,6 +53,7 @@ impl CallRefusal {
             CallRefusal::ShortBoard => 9,
             CallRefusal::BadSquare => 10,
             CallRefusal::BadSide => 11,
+            CallRefusal::UnknownSymmetry => 12,
         }
     }
 

@@ -1,7 +1,11 @@
 //! The calls of `ffosolve.h`, in its order.
 
-ghost use Rattle.std.specs.Prelude.{◌≡◌, ◌≢◌, ◌↔◌, pos, Some, bit_and, length, map};
-ghost use Rattle.othello_bits.specs.Pos.{moves_of, play_of, IsMove};
+ghost use Rattle.std.specs.Prelude.{◌≡◌, ◌≢◌, ◌↔◌, ◌<◌, pos, Some, bit_and, length, map};
+ghost use Rattle.othello_rules.specs.declared.discs.Side.TheVariants.{Black};
+ghost use Rattle.othello_bits.specs.Pos.{moves_of, play_of, position_of, IsMove};
+ghost use Rattle.othello_bits.specs.Symmetries.{canonical_of, first_symmetry, mask_image};
+ghost use Rattle.othello_bits.specs.Symmetries.{place, symmetries};
+ghost use Rattle.othello_bits.specs.declared.sym.Sym.{Sym};
 ghost use Rattle.obf_text.specs.Obf.{Entry, Faulty, Holds, Meaning, Says, place_of};
 ghost use Rattle.obf_text.specs.declared.line_fault.LineFault.{LineFault};
 ghost use Rattle.ffosolve_c.specs.declared.call_refusal.CallRefusal.TheVariants as refusal;
@@ -20,6 +24,7 @@ use crate::many_positions::{answer_all, score_each};
 use crate::one_position::answer_one;
 use crate::position::{FfosolvePosition, play_move, position_of};
 use crate::scores::{FfosolveMoveScores, score_all};
+use crate::symmetry::{canonical_position, numbered_symmetry};
 use bound_table::BoundTable;
 use endgame_search::Task;
 use obf_text::{Item, read_line};
@@ -207,6 +212,54 @@ pub extern "C" fn ffosolve_play(
             0
         }
         Err(refused) => refused.status(),
+    }
+}
+
+/// Writes the canonical position of all images of the position, and the number of the first symmetry
+/// that leads to it. The canonical position is the image with the least pair (own, opp), compared as
+/// numbers, own first. The numbers of symmetries are those of their places in `Sym::all`, from 0.
+/// The status is 0; or 4, `SharedSquare`, and then `canonical` and `symmetry` are as they were.
+#[unsafe(no_mangle)]
+pub extern "C" fn ffosolve_canonical(
+    position: FfosolvePosition,
+    canonical: &mut FfosolvePosition,
+    symmetry: &mut u32,
+) -> i32
+    ensures done { (result ≡ pos 0) ↔ (bit_and position.own position.opp ≡ 0) }
+    ensures shared { result ≢ pos 0 → result ≡ call_status refusal.SharedSquare }
+    ensures canonical { result ≡ pos 0
+        → canonical.new ≡ c_position (canonical_of (discs_at position)) }
+    ensures symmetry { result ≡ pos 0
+        → symmetry.new ≡ place (first_symmetry (position_of Black (discs_at position))) }
+    ensures unchanged { result ≢ pos 0 → canonical.new ≡ canonical.old }
+    ensures symmetry_unchanged { result ≢ pos 0 → symmetry.new ≡ symmetry.old }
+{
+    match canonical_position(position) {
+        Ok((position, number)) => {
+            *canonical = position;
+            *symmetry = number;
+            0
+        }
+        Err(refused) => refused.status(),
+    }
+}
+
+/// Writes the mask of the squares to which the symmetry with the number `symmetry` sends the squares
+/// of a mask. Square n is bit n. The status is 0; or 12, `UnknownSymmetry`, if the number is above 7,
+/// and then `image` is as it was.
+#[unsafe(no_mangle)]
+pub extern "C" fn ffosolve_image(mask: u64, symmetry: u32, image: &mut u64) -> i32
+    ensures done { (result ≡ pos 0) ↔ (symmetry < length symmetries) }
+    ensures unknown { result ≢ pos 0 → result ≡ call_status refusal.UnknownSymmetry }
+    ensures image { (s : Sym) → symmetry ≡ place s → image.new ≡ mask_image s mask }
+    ensures unchanged { result ≢ pos 0 → image.new ≡ image.old }
+{
+    match numbered_symmetry(symmetry) {
+        Some(sym) => {
+            *image = sym.mask(mask);
+            0
+        }
+        None => CallRefusal::UnknownSymmetry.status(),
     }
 }
 

@@ -20,14 +20,15 @@ mod many_positions;
 mod one_position;
 mod position;
 mod scores;
+mod symmetry;
 mod table;
 
 pub use answer::FfosolveAnswer;
 pub use call_refusal::CallRefusal;
 pub use calls::{
-    ffosolve_confirm, ffosolve_limit, ffosolve_move_scores, ffosolve_move_scores_all,
-    ffosolve_moves, ffosolve_play, ffosolve_read_line, ffosolve_solve, ffosolve_solve_all,
-    ffosolve_version,
+    ffosolve_canonical, ffosolve_confirm, ffosolve_image, ffosolve_limit, ffosolve_move_scores,
+    ffosolve_move_scores_all, ffosolve_moves, ffosolve_play, ffosolve_read_line, ffosolve_solve,
+    ffosolve_solve_all, ffosolve_version,
 };
 pub use line::FfosolveLine;
 pub use listed::FfosolveListed;

@@ -38,14 +38,23 @@ fn line_len(text: &[u8]) -> usize
     text.len()
 }
 
-// The number of empty squares among the first 64 bytes of a text's first line; 0 if they are
-// more than the limit, since such a line is refused.
+// A text without the spaces and tabs at its start.
+fn without_first_blanks(text: &[u8]) -> &[u8] {
+    match text.iter().position(|b| *b != b' ' && *b != b'\t') {
+        Some(start) => &text[start..],
+        None => &text[text.len()..],
+    }
+}
+
+// The number of empty squares on the board of a text's first line: among the 64 bytes after its
+// first blanks, up to a `%`. It is 0 if they are more than the limit, since such a line is refused.
 fn empties_in(text: &[u8], limit: u8) -> usize {
+    let board = without_first_blanks(text);
     let mut empties = 0usize;
-    for byte in &text[..text.len().min(64)] {
+    for byte in &board[..board.len().min(64)] {
         match byte {
             b'-' | b'.' => empties = empties.saturating_add(1),
-            b'\n' => break,
+            b'\n' | b'%' => break,
             _ => {}
         }
     }

@@ -9,6 +9,7 @@ from ._library import MOST_EMPTIES, MOST_ENTRIES
 __all__ = [
     "BadSide", "BadSquare", "LineRefused", "NoMemory", "NoMove", "NoPosition", "OtherRefusal", "Refused",
     "SharedSquare", "ShortBoard", "Status", "TooManyEmpties", "TooManyEntries", "UnequalLengths", "UnknownScoring",
+    "UnknownSymmetry",
 ]
 
 
@@ -27,6 +28,7 @@ class Status(enum.IntEnum):
     SHORT_BOARD = 9
     BAD_SQUARE = 10
     BAD_SIDE = 11
+    UNKNOWN_SYMMETRY = 12
 
 
 REFUSALS: Dict[int, Type["Refused"]] = {}  # the class of each status
@@ -123,6 +125,10 @@ class BadSquare(LineRefused, status=Status.BAD_SQUARE, reason="bad square at col
 
 class BadSide(LineRefused, status=Status.BAD_SIDE, reason="bad side at column {}"):
     """The side to move is missing: another byte is in its place, or the line ends."""
+
+
+class UnknownSymmetry(Refused, ValueError, status=Status.UNKNOWN_SYMMETRY, reason="no symmetry has the number"):
+    """The number of a symmetry is not from 0 to 7."""
 
 
 def refusal_of(status: int) -> Refused:

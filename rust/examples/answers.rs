@@ -2,7 +2,9 @@
 //! the answer for each: the score and the best moves, PS for a pass, or -- at the end of the game. Then plays the first
 //! position to its end, always with the first best move.
 //!
-//!     cargo run <../masks.txt              if the library is not installed, FFOSOLVE_LIB_DIR names its folder
+//!     cargo run --example answers <../examples/masks.txt
+//!
+//! If the library is not installed, FFOSOLVE_LIB_DIR names its folder.
 use ffosolve::{Answer, Best, Position, Solver};
 use std::error::Error;
 use std::io;
