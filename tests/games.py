@@ -1,15 +1,13 @@
-"""Games for tests: transcripts, records of WTHOR files, and the lists of ffosolve-games with ffosolve's reports.
+"""Games for tests: transcripts, records of WTHOR files, books with their exact scores, and runs of ffosolve-games.
 
 A position is (own, opp, is_black): the masks of the mover's and the other side's discs, and whether Black moves. In a
 WTHOR file, a game has two scores, in Black's discs: theoretical, after perfect play from a position, and real."""
-import hashlib
 import random
 import struct
 import sys
 
 from bench import player
-
-from .support import ROOT, InFolder, run, write
+from tests.support import ROOT, run, write
 
 PROGRAM = ROOT / "bin/ffosolve-games"
 NAMES = [column + row for row in "12345678" for column in "ABCDEFGH"]
@@ -75,48 +73,40 @@ def line_of(position, comment):
     return f"{player.line(*position)} % {comment}\n"
 
 
-def with_digest(lines):
-    """Returns the list `lines` and, if it has a theoretical score, its digest: 4 lines with a checksum of its games."""
-    if ", theoretical score " not in lines:
-        return lines
-    games = [line for line in lines.splitlines(True) if line.strip() and not line.startswith("%")]
-    number = int(hashlib.sha256("".join(games).encode()).hexdigest()[:6], 16)
-    black = [number // 64 ** (3 - at) % 64 for at in range(4)]
-    return lines + "".join(f"{'X' * n}-{'O' * (63 - n)} X; % digest, line {at} of 4\n" for at, n in enumerate(black, 1))
+def book_of(positions):
+    """Returns a book with the exact scores of positions, but `--` in place of the best moves. Each position is turned
+    or mirrored as its place in the list says."""
+    lines = []
+    for at, (own, opp, _) in enumerate(positions):
+        lines.append(f"{image(player.line(own, opp, True)[:64], at % 8)} X; --:{player.values(own, opp)[0]:+03};\n")
+    return "% ffobook 2 winner\n" + "".join(lines)
 
 
-def report_of(listed, refused=None):
-    """Returns ffosolve's report of the list `listed`. A row has the right score, but `--` in place of the best moves.
-    `refused` is {number of a line that the report refuses: reason}."""
-    rows, refused = [], refused or {}
-    for number, line in enumerate(listed.splitlines(), 1):
-        if line and line[0] != "%":
-            sides = "XO" if line[65] == "X" else "OX"
-            own, opp = (sum(1 << square for square in range(64) if line[square] == side) for side in sides)
-            exact = f"{player.values(own, opp)[0]:+03} -- unlisted"
-            row = f"refused: {refused[number]}" if number in refused else exact
-            rows.append(f"{number} {row}\n")
-    return f"[1]\n{''.join(rows)}solved {len(rows) - len(refused)} refused {len(refused)}\n"
+def image(board, number):
+    """Returns an image of a board of 64 squares: exchanges rows and columns if bit 2 of `number` is set, turns each row
+    back to front if bit 1 is set, and exchanges the rows, the first with the last and so on, if bit 0 is set."""
+    at = [(row, column) for row in range(8) for column in range(8)]
+    for bit, moved in ((4, lambda row, column: (column, row)), (2, lambda row, column: (row, 7 - column)),
+                       (1, lambda row, column: (7 - row, column))):
+        at = [moved(*place) for place in at] if number & bit else at
+    return "".join(board[8 * row + column] for row, column in at)
 
 
-class Case(InFolder):
-    """Has a whole random game: its squares GAME, without passes; AT, its `positions_of`; and its WTHOR RECORD."""
+def games(*words, status=None, out="", err="", **how):
+    """Runs `ffosolve-games WORDS`. Asserts its output, unless `out` is None; its errors, the lines of `err`, each after
+    the program's name; and its status, by default 1 if `err` has a line, else 0."""
+    ran = run(sys.executable, PROGRAM, *words, **how)
+    assert ran.stderr.decode() == "".join(f"ffosolve-games: {line}\n" for line in err.splitlines()), words
+    assert out is None or ran.stdout.decode() == out, words
+    assert ran.returncode == (bool(err) if status is None else status), words
 
-    maxDiff = 2000
-    GAME = squares_of(*random_games(1, seed=3))
-    AT = positions_of(GAME)
-    RECORD = record(GAME)
 
-    def games(self, *words, status=None, out="", err="", **how):
-        """Runs `ffosolve-games WORDS`. Asserts its output, `with_digest(out)`, unless `out` is None; its errors, the
-        lines of `err`, each after the program's name; and its status, by default 1 if `err` has a line, else 0."""
-        ran = run(sys.executable, PROGRAM, *words, **how)
-        self.assertEqual(ran.stderr.decode(), "".join(f"ffosolve-games: {line}\n" for line in err.splitlines()))
-        if out is not None:
-            self.assertEqual(ran.stdout.decode(), with_digest(out))
-        self.assertEqual(ran.returncode, bool(err) if status is None else status)
+def reads(name, content, *words, **expected):
+    """Writes `content` to the file `name`, and calls `games` with that name as the last word."""
+    write(name, content)
+    games(*words, name, **expected)
 
-    def reads(self, name, content, *words, **expected):
-        """Writes `content` to the file `name`, and calls `games` with that name as the last word."""
-        write(name, content)
-        self.games(*words, name, **expected)
+
+GAME = squares_of(*random_games(1, seed=3))  # a whole game: its squares, without passes
+AT = positions_of(GAME)
+GAME_RECORD = record(GAME)

@@ -1,144 +1,55 @@
-"""`ffosolve-games compare` prints a list's wrong theoretical scores; --fix writes corrected copies of WTHOR files.
+"""`ffosolve-games compare` prints wrong theoretical scores; --fix writes corrected copies of WTHOR files.
 A theoretical score is what a WTHOR file claims for perfect play from a position of a game."""
-import contextlib
-import itertools
 import os
 import re
 import signal
 import stat
 import sys
-import unittest.mock
 from pathlib import Path
+from unittest import mock
 
-from .games import (PROGRAM, Case, discs_of_black, line_of, positions_of, random_games, record, report_of, with_digest,
-                    wthor)
-from .support import ROOT, SECONDS, as_at_a_login, built, limited, run, stored, wait_until, write
+import pytest
+
+from bench import player
+from tests import positions  # noqa: F401 - sets FFOSOLVE_LIBRARY
+from tests.games import PROGRAM, book_of, discs_of_black, games, positions_of, random_games, record, wthor
+from tests.support import ROOT, SECONDS, as_at_a_login, built, limited, run, stored, wait_until, write
+
+pytestmark = pytest.mark.usefixtures("folder")
+EMPTIES = 5
+PLAYED = [game for game in random_games(14, seed=7) if EMPTIES in positions_of(game)]
+POSITIONS = [positions_of(game)[EMPTIES] for game in PLAYED]
+COUNT = len(PLAYED)
+EXACT = list(map(discs_of_black, POSITIONS))
+PUBLISHED = [it + {2: -2, 5: 7}.get(at, 0) for at, it in enumerate(EXACT)]
+RECORDS = list(map(record, PLAYED, PUBLISHED))
+EXACT_RECORDS = list(map(record, PLAYED, EXACT))
+# A WTHOR file with two wrong theoretical scores, and then four more bytes.
+WHOLE = wthor(RECORDS, empties=EMPTIES) + b"more"
+WANTED = wthor(EXACT_RECORDS, empties=EMPTIES) + b"more"
+BOOK = book_of(POSITIONS)
+COMPARE = ("compare", "book", "it.wtb")
+GOES_ON = f"it.wtb, game {COUNT + 1}: the file goes on, but its header counts {COUNT} games\n"
+CHANGED = f"new.wtb: theoretical scores changed 2 of {COUNT}, not compared 0"
 
 
-class Compare(Case):
-    """GAMES lists three positions of examples/kinds.obf, with scores +62, -64 and +32, the first also with colours
-    exchanged, and the last also with the other side to move."""
+@pytest.fixture(autouse=True)
+def files(folder):
+    write("it.wtb", WHOLE)
+    write("book", BOOK)
 
-    TWO = "-OXXXXX-XXXXXXXOXXXXXXXXXXXXXXXXXXXOXXXXXXXXXXXXXXXXXXXXXXXXXXXX"
-    PASS = "-OOOOOOXXXXXXXXXXXXXXXXXXXXXXXXXXXXXXXXXXXXXXXXXXXXXXXXXXXXXXXXX"
-    OVER = "XXXXXXXXXXXXXXXXXXXXXXXXXXXXXXXX----------------OOOOOOOOOOOOOOOO"
-    GAMES = (
-        "% what ffosolve-games prints\n"
-        f"{TWO} X; % a, b.wtb, game 7, theoretical score 63\n"
-        f"{TWO.translate(str.maketrans('XO', 'OX'))} O; % a, b.wtb, game 8, theoretical score 34\n"
-        f"{PASS} O; % a, b.wtb, game 9, theoretical score 0\n"
-        "\n"
-        f"{OVER} X; % c, game 1\n"
-        f"{OVER} O; % c, game 2, theoretical score 48\n"
-    )
-    LISTED = with_digest(GAMES)
-    EXACT = with_digest(GAMES.replace("score 34", "score 1").replace("score 0", "score 64"))
-    REPORT = report_of(LISTED).replace("+62 --", "+62 H1").replace("4 -64 --", "4 -64 PS")
 
-    def compare(self, listed, report, **expected):
-        write("list", listed)
-        write("report", report)
-        self.games("compare", "list", "report", **expected)
+def difference(at, name="it.wtb", title=" (2001)", exact=None):
+    exact = EXACT[at] if exact is None else exact
+    return (f"{name}, game {at + 1}{title}: published {PUBLISHED[at]}, exact {exact}, "
+            f"difference {PUBLISHED[at] - exact:+}\n")
 
-    def unfit(self, report, why):
-        self.compare(self.LISTED, report, status=3, err=f"report is not a report of list: {why}")
 
-    def test_scores_are_discs_of_black(self):
-        out = ("a, b.wtb, game 8: published 34, exact 1, difference +33\n"
-               "a, b.wtb, game 9: published 0, exact 64, difference -64\n"
-               "compared 4 differ 2 refused 0 unscored 1\n")
-        self.compare(self.LISTED, self.REPORT, status=1, out=out)
-        self.games("compare", "-", "report", input=self.LISTED.encode(), status=1, out=out)
-        self.games("compare", "list", "-", input=self.REPORT.encode(), status=1, out=out)
-        self.compare(self.LISTED.replace("\n", "\r\n"), self.REPORT, status=1, out=out)
+def counts(compared=COUNT, differ=2, unsolved=0):
+    return f"compared {compared} differ {differ} unsolved {unsolved}\n"
 
-    def test_exact_scores_end_with_status_0(self):
-        self.compare(self.EXACT, report_of(self.EXACT), out="compared 4 differ 0 refused 0 unscored 1\n")
 
-    def test_a_refused_position_is_not_compared(self):
-        out = "compared 3 differ 0 refused 1 unscored 1\n"
-        for refused in ({2: "2 empties, limit 1"}, {7: "16 empties, limit 15"}):
-            self.compare(self.EXACT, report_of(self.EXACT, refused), status=1, out=out)
-
-    def test_a_changed_list_is_refused(self):
-        lines = self.LISTED.splitlines(True)
-        changed = "its line {} is not the digest of the lines before it, so they were changed"
-        undigested = "it has no digest after line {}; print it again"
-        for listed, why in (
-            (self.LISTED.replace(self.PASS, self.PASS[1:]), "its line 4 is refused: bad square at column 64"),
-            (self.LISTED.replace("theoretical score 34", "theoretical score 33"), changed.format(8)),
-            (self.LISTED.replace("game 9", "game 8"), changed.format(8)),
-            (self.LISTED.replace("X; % c", "O; % c"), changed.format(8)),
-            ("".join(lines[:1] + lines[2:]), changed.format(7)),
-            ("".join(lines[:1] + lines[2:3] + lines[1:2] + lines[3:]), changed.format(8)),
-            ("".join(lines[:8] + lines[9:]), changed.format(9)),
-            (self.LISTED.replace("line 3 of 4", "line 4 of 4"), changed.format(10)),
-            ("".join(lines[:9] + lines[1:2] + lines[9:]), changed.format(10)),
-            (self.GAMES, undigested.format(7)),
-            ("".join(lines[:-1]), undigested.format(7)),
-            (self.LISTED + lines[1], undigested.format(12)),
-            (self.REPORT, "it is a report; LIST comes first"),
-            (re.sub(", theo.*", "", self.GAMES), "it has no theoretical score"),
-            ("", "it has no theoretical score"),
-            ("% games\n", "it has no theoretical score"),
-        ):
-            self.compare(listed, self.REPORT, status=3, err=f"cannot compare list: {why}")
-
-    def test_comments_and_other_lists_may_be_added_to_a_list(self):
-        listed = f"{self.EXACT}% more\n\n{self.EXACT}"
-        self.compare(listed, report_of(listed), out="compared 8 differ 0 refused 0 unscored 2\n")
-
-    def test_the_report_of_another_game_is_refused(self):
-        """Compares each of 100 lists, of one game each, with the reports of all 100: only its own is accepted."""
-        from ffosolve._published import Comparison, Unfit
-
-        played = [positions for positions in map(positions_of, random_games(120, seed=8)) if 4 in positions]
-        lists = [with_digest(line_of(positions[4], f"it.wtb, game {number}, theoretical score 30"))
-                 for number, positions in enumerate(played[:100], 1)]
-        reports, accepted = [report_of(listed).encode().splitlines(True) for listed in lists], []
-        for (at, listed), (other, report) in itertools.product(enumerate(lists), enumerate(reports)):
-            with contextlib.suppress(Unfit):
-                Comparison(listed.encode().splitlines(True), report)
-                accepted.append((at, other))
-        self.assertEqual(accepted, [(at, at) for at in range(100)])
-
-    def test_what_is_not_a_report_is_refused(self):
-        rows = self.REPORT.splitlines(True)
-        cut = "the report does not end with the line `solved N refused N`, so it is incomplete"
-        no_row = "line 2 of the report is not a row of this list"
-        for report, why in (
-            ("", "the report is empty"),
-            ("".join(rows[1:]), "the report does not begin with the line `[1]`"),
-            (self.LISTED, "the report does not begin with the line `[1]`"),
-            ("".join(rows[:-1]), cut),
-            (self.REPORT[:-12], cut),
-            ("[1]\n", cut),
-            (self.REPORT + self.REPORT.replace("[1]", "[2]"), "the report is of several lists"),
-            ("".join(rows[:3] + ["x\n"] + rows[3:]), "line 4 of the report is not a row of this list"),
-            (self.REPORT.replace("2 +62 H1 unlisted", "2 +62 H1 agree"), no_row),
-            (self.REPORT.replace("2 +62 H1", "2 +62 H9"), no_row),
-            (self.REPORT.replace("2 +62 H1", "9" * 5000 + " +62 H1"), no_row),
-            ("".join(rows[:3] + rows[2:]), "line 4 of the report is a second row of line 3 of the list"),
-            ("".join(rows[:2] + rows[3:]),
-             "the report ends with `solved 9 refused 0`, but has 8 rows, 0 of them refused"),
-        ):
-            self.unfit(report, why)
-        self.games("compare", "list", "none", status=3, err="cannot read none: No such file or directory")
-
-    def test_rows_of_another_list_or_scoring_are_refused(self):
-        for number, score in (line.split()[:2] for line in self.REPORT.splitlines()[6:-1]):
-            said = (f"line {number} of the list is part of its digest, {score}, but {{}} in the report, "
-                    "which is of another list or scoring")
-            less = f"+{abs(int(score) - 1):02}"
-            for row, what in ((f"{less} --", f"has {less}"), ("+01 --", "has +01"), ("+08 H1", "has +08")):
-                self.unfit(self.REPORT.replace(f"{number} {score} --", f"{number} {row}"), said.format(what))
-            self.unfit(report_of(self.LISTED, {int(number): "1 empties, limit 0"}), said.format("is refused"))
-        for old, new, why in (
-            ("4 -64", "5 -64", "4 of the list has no row in the report"),
-            ("2 +62", "1 +62", "1 of the list is not a position, but the report has a row for it"),
-            ("7 -32", "12 -32", "7 of the list has no row in the report"),
-        ):
-            self.unfit(self.REPORT.replace(old, new), f"line {why}")
+DIFFERENCES = difference(2) + difference(5)
 
 
 def contents():
@@ -147,205 +58,466 @@ def contents():
     return {str(path): os.readlink(path) if path.is_symlink() else path.read_bytes() for path in paths}
 
 
-class Fix(Case):
-    """The file it.wtb has a few random games with theoretical scores, two of which are wrong, and then four more bytes.
-    The file `list` is what ffosolve-games prints for it.wtb, and `report` is the report of that list."""
+def fix(status, err, *words, place="new.wtb", written=None, out=None, files=("it.wtb",), **how):
+    """Runs `compare book FILES --fix PLACE WORDS`. Asserts its status, its errors and, unless `out` is None, its
+    output; that it writes the files `written`, {path: content}, by default none; and that it changes no other."""
+    before = contents()
+    goes_on = "".join(GOES_ON.replace("it.wtb", name) for name in files if Path(name).read_bytes() == WHOLE)
+    games("compare", "book", *files, "--fix", place, *words, status=status, err=goes_on + err, out=out, **how)
+    assert contents() == {**before, **(written or {})}
 
-    FIX = (sys.executable, PROGRAM, "compare", "list", "report", "--fix", "new.wtb")
 
-    def setUp(self):
-        super().setUp()
-        self.played = [game for game in random_games(12, seed=7) if 5 in positions_of(game)]
-        self.exact = [discs_of_black(positions_of(game)[5]) for game in self.played]
-        self.published = [it + {2: -2, 5: 7}.get(number, 0) for number, it in enumerate(self.exact)]
-        self.records = list(map(record, self.played, self.published))
-        self.exact_records = list(map(record, self.played, self.exact))
-        self.whole = wthor(self.records, empties=5) + b"more"
-        write("it.wtb", self.whole)
-        self.write_list("it.wtb")
-        self.wanted = wthor(self.exact_records, empties=5) + b"more"
-        self.err = f"new.wtb: theoretical scores changed 2 of {len(self.exact)}, not compared 0"
+@pytest.mark.parametrize("empties, is_over, kinds", ((3, False, 6), (1, True, 2)))
+def test_scores_are_discs_of_black_and_the_winner_gets_the_empty_squares(empties, is_over, kinds):
+    """Positions of both sides to move, some at which they must pass, or positions of finished games. All scores in the
+    file are too high by 1."""
+    known = [(game, positions_of(game)) for game in random_games(600, seed=7)]
+    played = [(game, found[empties]) for game, found in known if empties in found]
+    can = {at: (player.moves(*at[:2]) > 0, player.moves(at[1], at[0]) > 0) for _, at in played}
+    played = [(game, at) for game, at in played if (can[at] == (False, False)) == is_over]
+    assert len({(at[2], *can[at]) for _, at in played}) == kinds
+    exact = [discs_of_black(at) for _, at in played]
+    write("it.wtb", wthor([record(game, score + 1) for (game, _), score in zip(played, exact)], empties=empties))
+    write("book", book_of([at for _, at in played]))
+    out = "".join(f"it.wtb, game {number} (2001): published {score + 1}, exact {score}, difference +1\n"
+                  for number, score in enumerate(exact, 1))
+    err = "".join(f"it.wtb, game {number}: its theoretical score is 65, more than 64 discs\n"
+                  for number, score in enumerate(exact, 1) if score == 64)
+    games(*COMPARE, status=1, out=out + counts(len(played), len(played)), err=err)
 
-    def differences(self, name):
-        """Returns what `compare` prints about it.wtb if that file is called `name` instead."""
-        rows = [f"{name}, game {at + 1}: published {self.published[at]}, exact {self.exact[at]}, difference {less}\n"
-                for at, less in ((2, "-2"), (5, "+7"))]
-        return "".join(rows) + f"compared {len(self.exact)} differ 2 refused 0 unscored 0\n"
 
-    def write_list(self, *words, skipped=(), **how):
-        """Writes `list`, printed by `ffosolve-games WORDS`, and its `report`, which refuses the lines `skipped`."""
-        listed = run(PROGRAM, *words, **how).stdout.decode()
-        write("list", listed)
-        write("report", report_of(listed, dict.fromkeys(skipped, "5 empties, limit 4")))
+def test_wrong_scores_are_told_and_counted():
+    games(*COMPARE, err=GOES_ON, out=DIFFERENCES + counts())
+    games("compare", "-", "it.wtb", input=BOOK.encode(), err=GOES_ON, out=DIFFERENCES + counts())
+    write("book", BOOK.replace("\n", "\r\n"))
+    games(*COMPARE, err=GOES_ON, out=DIFFERENCES + counts())
 
-    def fix(self, status, err, *words, place="new.wtb", written=None, out=None, **how):
-        """Runs `compare list report --fix PLACE WORDS`. Asserts its status, its errors and, unless `out` is None, its
-        output; that it writes the files `written`, {path: content}, by default none; and that it changes no other."""
-        before = contents()
-        self.games("compare", "list", "report", "--fix", place, *words, status=status, err=err, out=out, **how)
-        self.assertEqual(contents(), {**before, **(written or {})})
 
-    def test_the_scores_that_are_wrong_are_changed_and_no_other_byte(self):
-        self.games("compare", "list", "report", status=1, out=self.differences("it.wtb"))
-        self.fix(1, self.err, written={"new.wtb": self.wanted}, out=self.differences("it.wtb"))
-        self.assertEqual(stat.S_IMODE(os.stat("new.wtb").st_mode), 0o644)
-        self.write_list("new.wtb")
-        self.games("compare", "list", "report", out=f"compared {len(self.exact)} differ 0 refused 0 unscored 0\n")
-        again = f"again.wtb: theoretical scores changed 0 of {len(self.exact)}, not compared 0"
-        self.fix(0, again, place="again.wtb", written={"again.wtb": self.wanted})
+def test_exact_scores_end_with_status_0():
+    write("it.wtb", wthor(EXACT_RECORDS, empties=EMPTIES))
+    games(*COMPARE, out=counts(differ=0))
 
-    def test_games_that_are_not_compared_stay_as_they_are(self):
-        """One game is refused in the report. Another has a byte that is not a square, so it is not in the list."""
-        self.records[0] = self.records[0][:8] + b"\x63" + self.records[0][9:]
-        write("it.wtb", wthor(self.records, empties=5))
-        self.write_list("it.wtb", skipped=[2])
-        self.records[5] = self.exact_records[5]
-        self.fix(1, f"new.wtb: theoretical scores changed 1 of {len(self.exact)}, not compared 2",
-                 written={"new.wtb": wthor(self.records, empties=5)})
 
-    def test_a_header_without_a_number_of_empty_squares_gets_that_of_the_list(self):
-        write("it.wtb", wthor(self.records, empties=0))
-        self.write_list("--empties=5", "it.wtb")
-        self.fix(1, self.err, written={"new.wtb": self.wanted.removesuffix(b"more")})
+def test_a_position_that_the_book_lacks_is_not_compared():
+    write("it.wtb", wthor(EXACT_RECORDS, empties=EMPTIES))
+    lines = BOOK.splitlines(True)
+    write("book", "".join(lines[:4] + lines[5:]))
+    games(*COMPARE, status=1, out=counts(COUNT - 1, 0, 1))
+    write("book", lines[0])
+    games(*COMPARE, status=1, out=counts(0, 0, COUNT))
 
-    def test_real_scores_are_changed_only_if_asked(self):
-        """Game 1 has a wrong real score, game 2 ends too early, and game 3 has a byte that is not a square."""
-        self.records[0] = more = record(self.played[0], self.published[0], real=70)
-        self.records[1] = record(self.played[1][:-1], self.published[1], real=1)
-        self.records[2] = self.records[2][:6] + b"\1" + self.records[2][7:67] + b"\x63"
-        write("it.wtb", wthor(self.records, empties=5) + more)
-        self.write_list("it.wtb")
-        changed = f"theoretical scores changed 1 of {len(self.exact)}, not compared 1"
-        self.records[5] = self.exact_records[5]
-        self.fix(1, f"new.wtb: {changed}", written={"new.wtb": wthor(self.records, empties=5) + more})
-        self.records[0] = record(self.played[0], self.published[0])
-        self.fix(1, f"real.wtb: {changed}; real scores changed 1, not checked 2", "--real", place="real.wtb",
-                 written={"real.wtb": wthor(self.records, empties=5) + more})
 
-    def test_all_files_of_a_list_are_written_into_a_folder(self):
-        write("other/one.wtb", wthor(self.records[:3], empties=0))
-        os.mkdir("new")
-        self.write_list("--empties=5", "it.wtb", "other/one.wtb")
-        written = {"new/it.wtb": self.wanted, "new/one.wtb": wthor(self.exact_records[:3], empties=5)}
-        self.fix(1, f"new/it.wtb: theoretical scores changed 2 of {len(self.exact)}, not compared 0\n"
-                    "new/one.wtb: theoretical scores changed 1 of 3, not compared 0", place="new", written=written)
-        os.remove("new/it.wtb")
-        self.fix(3, "new/one.wtb already exists and would be overwritten", place="new")
+def test_each_score_is_that_of_its_position():
+    """Compares each of 100 positions with the books of all others, which lack it."""
+    from ffosolve import Position
+    from ffosolve._theoretical_scores import exact_scores
 
-    def test_several_files_are_written_all_or_none(self):
-        """First the second file lacks a game that the list has, then it is larger than a run may write."""
-        write("other/two.wtb", self.whole)
-        os.mkdir("new")
-        self.write_list("it.wtb", "other/two.wtb")
-        write("other/two.wtb", wthor(self.records[:3], empties=5))
-        self.fix(3, "other/two.wtb is not the WTHOR file of the list: it has no game 4", place="new")
-        write("other/two.wtb", self.whole + b"more")
-        self.fix(3, "cannot write new/two.wtb: File too large", place="new",
-                 preexec_fn=limited(RLIMIT_FSIZE=len(self.whole)))
+    at = [found[4] for found in map(positions_of, random_games(120, seed=8)) if 4 in found][:100]
+    header, *lines = book_of(at).encode().splitlines(True)
+    for number, (own, opp, _) in enumerate(at):
+        position = Position(own, opp)
+        assert exact_scores([header, *lines[:number], *lines[number + 1:]], [position]) == {}
+        assert exact_scores([header, lines[number]], [position]) == {position: player.values(own, opp)[0]}
 
-    def test_one_place_for_two_files_is_refused(self):
-        write("other.wtb", self.whole)
-        self.write_list("it.wtb", "other.wtb")
-        self.fix(3, "--fix takes a folder, since the list names 2 WTHOR files")
-        write("other/it.wtb", self.whole)
-        self.write_list("it.wtb", "other/it.wtb")
-        err = "two WTHOR files of the list have one name, so --fix can't write them into one folder"
-        self.fix(3, err, place="other")
 
-    def test_no_file_is_overwritten(self):
-        os.symlink("it.wtb", "link.wtb")
-        os.link("it.wtb", "twin.wtb")
-        os.symlink("nowhere", "broken.wtb")
-        write("folder/it.wtb", "another")
-        write("other.wtb", "other")
-        for place in ("it.wtb", "./it.wtb", "link.wtb", "twin.wtb", "broken.wtb", "other.wtb", "list", "report"):
-            self.fix(3, f"{place} already exists and would be overwritten", place=place)
-        self.fix(3, "folder/it.wtb already exists and would be overwritten", place="folder")
+def test_every_game_of_a_file_is_compared():
+    """The last of 10,001 games has a wrong score."""
+    write("it.wtb", wthor([EXACT_RECORDS[0]] * 10_000 + [record(PLAYED[0], EXACT[0] ^ 1)], empties=EMPTIES))
+    exact, less = EXACT[0], (EXACT[0] ^ 1) - EXACT[0]
+    line = f"it.wtb, game 10001 (2001): published {exact ^ 1}, exact {exact}, difference {less:+}\n"
+    games(*COMPARE, status=1, out=line + counts(10_001, 1))
 
-    def test_a_full_disk_leaves_no_file(self):
-        for size in (0, 1, 16, len(self.whole) - 1):
-            self.fix(3, "cannot write new.wtb: File too large", preexec_fn=limited(RLIMIT_FSIZE=size))
 
-    def test_a_place_in_a_missing_folder_is_refused(self):
-        self.fix(3, "cannot write none/new.wtb: No such file or directory", place="none/new.wtb")
-        self.fix(3, "cannot write '': No such file or directory", place="")
+@pytest.mark.parametrize("entry, why", (
+    ("--:+99;", "its line 2 has the score +99, with which no game ends"),
+    ("--:-99;", "its line 2 has the score -99, with which no game ends"),
+    ("--:+66;", "its line 2 has the score +66, with which no game ends"),
+    ("--:-66;", "its line 2 has the score -66, with which no game ends"),
+    ("--:+01;", "its line 2 has the score +01, with which no game ends"),
+    ("PS:-63;", "its line 2 has the score -63, with which no game ends"),
+    ("A1:+99; B1:+99;", "its line 2 has the score +99, with which no game ends"),
+    ("A1:+02; B1:+04;", "its line 2 is not an entry of a book"),
+    ("A1:+2;", "its line 2 is not an entry of a book"),
+    ("A1:+100;", "its line 2 is not an entry of a book"),
+    ("A9:+02;", "its line 2 is not an entry of a book"),
+    ("", "its line 2 is not an entry of a book"),
+))
+def test_a_score_that_no_game_has_is_refused_with_its_line(entry, why):
+    lines = BOOK.splitlines(True)
+    write("book", f"{lines[0]}{lines[1][:67]} {entry}\n{''.join(lines[2:])}")
+    for words in ((), ("--fix", "new.wtb", "--real")):
+        games(*COMPARE, *words, status=3, err=f"{GOES_ON}book is not a book of exact scores: {why}", out="")
+    assert sorted(contents()) == ["book", "it.wtb"]
 
-    def test_a_file_system_without_hard_links_gets_the_file(self):
-        """The content is on the disk before the file gets its name. With hard links, no existing file is replaced."""
-        from ffosolve._fix_wthor import write_new
 
-        def sync(file):
-            synced.append((os.fstat(file).st_size, os.path.exists("new.wtb")))
+@pytest.mark.parametrize("empties, black", ((4, True), (5, False)))
+def test_each_score_that_a_game_can_have_is_compared_and_written(empties, black):
+    """Each of 65 games gets one of the scores from -64 to 64, whatever its position."""
+    found = [game for game in random_games(90, seed=4) if positions_of(game).get(empties, (0, 0, 0))[2] == black][:65]
+    header, *lines = book_of([positions_of(game)[empties] for game in found]).splitlines(True)
+    write("book", header + "".join(f"{line[:67]} --:{score:+03};\n" for line, score in zip(lines, range(-64, 66, 2))))
+    exact = range(65) if black else range(64, -1, -1)
+    write("it.wtb", wthor(list(map(record, found, [255] * 65)), empties=empties))
+    ran = run(sys.executable, PROGRAM, *COMPARE, "--fix", "new.wtb", text=True)
+    assert [int(text) for text in re.findall("exact ([0-9]+)", ran.stdout)] == [*exact]
+    assert Path("new.wtb").read_bytes() == wthor(list(map(record, found, exact)), empties=empties)
 
-        before, synced, patch = contents(), [], unittest.mock.patch
-        with patch("os.link", side_effect=PermissionError), patch("os.fsync", sync):
-            write_new({"new.wtb": [b"new", b"file"]})
-        self.assertEqual(synced, [(7, False)])
-        self.assertRaises(FileExistsError, write_new, {"new.wtb": [b"other"]})
-        self.assertEqual(contents(), {**before, "new.wtb": b"newfile"})
 
-    def test_a_file_that_is_not_that_of_the_list_is_refused(self):
-        why = "it.wtb is not the WTHOR file of the list: "
-        lines = Path("list").read_text().replace(", game 1,", ", game 0,").splitlines(True)
-        listed = with_digest("".join(lines[:-4]))
-        write("list", listed)
-        write("report", report_of(listed))
-        self.fix(3, why + "it has no game 0")
-        self.write_list("it.wtb")
-        another = "its game 4 has another position or theoretical score"
-        for content, err in (
-            *((wthor([*self.records[:3], record(*it), *self.records[4:]], empties=5), another) for it in
-              ((self.played[0], self.published[3]), ([], self.published[3]), (self.played[3], self.exact[3] + 1))),
-            (wthor(self.records[:3], empties=5), "it has no game 4"),
-            (wthor(self.records, empties=6), "game 1 was compared with 5 empty squares, and not 6"),
-            (b"text", "it ends within its header of 16 bytes"),
-        ):
-            write("it.wtb", content)
-            self.fix(3, why + err)
-        os.remove("it.wtb")
-        self.fix(3, "cannot read it.wtb, which the list names: No such file or directory")
-        os.mkfifo("it.wtb")
-        self.fix(3, "it.wtb, which the list names, is not a regular file")
+HEADER = "it does not begin with `% ffobook 2 winner`, as what ffosolve-many --book-out writes"
 
-    def test_a_list_without_a_file_to_fix_is_refused(self):
-        self.write_list("it.wtb", skipped=range(1, len(self.exact) + 1))
-        self.fix(3, "no theoretical score is compared, so --fix has none to write")
-        self.write_list("-", input=self.whole)
-        self.fix(3, "cannot read -, which the list names: No such file or directory")
 
-    def test_one_of_several_runs_writes_the_file(self):
-        before, runs = contents(), [self.start(*self.FIX) for _ in range(6)]
-        ends = sorted((it.communicate(timeout=SECONDS)[1].decode(), it.returncode) for it in runs)
-        lost = "ffosolve-games: new.wtb already exists and would be overwritten\n", 3
-        self.assertEqual(ends, sorted([(f"ffosolve-games: {self.err}\n", 1), *[lost] * 5]))
-        self.assertEqual(contents(), {**before, "new.wtb": self.wanted})
+@pytest.mark.parametrize("book, why", (
+    ("", HEADER),
+    (BOOK.split("\n", 1)[1], HEADER),
+    (BOOK.replace("winner", "discs"), HEADER),
+    (BOOK.replace("winner", "sign"), HEADER),
+    (BOOK.replace("winner", "winner "), HEADER),
+    ("[1]\n1 +02 A1 unlisted\nsolved 1 refused 0\n", HEADER),
+    ("\n" + BOOK, HEADER),
+    (BOOK + "% more\n", f"its line {COUNT + 2} is not an entry of a book"),
+    (BOOK.replace("X;", "O;"), "its line 2 is not an entry of a book"),
+    (BOOK[:-3], f"its line {COUNT + 1} is not an entry of a book"),
+))
+def test_what_is_not_a_book_is_refused(book, why):
+    write("book", book)
+    games(*COMPARE, status=3, err=f"{GOES_ON}book is not a book of exact scores: {why}")
 
-    def test_an_interrupted_run_leaves_no_file_under_the_name(self):
-        """Ctrl-C leaves no temporary file either, but SIGKILL leaves one. A later run writes the file all the same."""
-        write("it.wtb", wthor(self.records, empties=5, count=10 ** 8))
-        os.truncate("it.wtb", 16 + 68 * 10 ** 8)
-        for number in (signal.SIGINT, signal.SIGKILL):
-            child = self.start(*self.FIX, preexec_fn=as_at_a_login)
-            wait_until(lambda: list(Path().glob("new.wtb.*.new")))
-            child.send_signal(number)
-            child.communicate(timeout=SECONDS)
-            self.assertEqual(child.returncode, 128 + number if number == signal.SIGINT else -number)
-            self.assertFalse(os.path.exists("new.wtb"))
-            self.assertEqual(bool(list(Path().glob("new.wtb.*.new"))), number == signal.SIGKILL)
-        write("it.wtb", self.whole)
-        self.fix(1, self.err, written={"new.wtb": self.wanted})
 
-    def test_the_commands_of_guide_and_help_fix_a_file(self):
-        built("ffosolve")
-        guide = "".join(re.findall(r"^```sh\n(.*?)^```", stored("docs", "check-wthor.md").decode(), re.M | re.S))
-        of_help = re.search(r"^examples:\n.*?\n\n(.*?)\n\n", run(PROGRAM, "--help").stdout.decode(), re.M | re.S)[1]
-        for place, commands, count in (("guide", guide, 4), ("help", of_help, 3)):
-            self.assertEqual(len(commands.splitlines()), count)
-            name, new = re.search(r"\S+\.wtb", commands)[0], commands.split()[-1]
-            write(f"{place}/{name}", self.whole)
-            os.symlink(ROOT / "bin", f"{place}/bin")
-            path = {"PATH": f"{ROOT}/bin:{os.environ['PATH']}"}
-            ran = run("sh", "-c", commands, timeout=300, cwd=place, env={**os.environ, **path})
-            out = self.differences(name) * (count - 2)  # for each command that compares
-            self.assertEqual((ran.returncode, ran.stdout.decode()), (1, out), ran.stderr)
-            self.assertEqual(Path(place, new).read_bytes(), self.wanted)
+def test_files_that_are_not_there_are_refused():
+    games("compare", "none", "it.wtb", status=3, err=GOES_ON + "cannot read none: No such file or directory")
+    games("compare", "book", "none.wtb", status=3, err="cannot read none.wtb: No such file or directory")
+
+
+def test_a_file_without_theoretical_scores_is_refused():
+    write("text", "f5d6c3")
+    for words in ((), ("--empties=5",)):
+        games(*COMPARE, "text", *words, status=3, err=GOES_ON + "text is a text, which has no theoretical scores")
+    write("no.wtb", wthor([], empties=EMPTIES))
+    games("compare", "book", "no.wtb", status=3, err="no game has a position with a theoretical score")
+    os.mkfifo("pipe")
+    games("compare", "book", "pipe", status=3, err="pipe is not a regular file")
+
+
+def test_the_number_of_empty_squares_is_that_of_the_header_if_it_has_one():
+    """Two files have a header without the number, so --empties counts for them; the third file has another number."""
+    write("a.wtb", wthor(RECORDS, empties=0))
+    write("b.wtb", wthor(EXACT_RECORDS, empties=0))
+    write("c.wtb", wthor([record(PLAYED[0], discs_of_black(positions_of(PLAYED[0])[4]))], empties=4))
+    write("book", BOOK + book_of([positions_of(PLAYED[0])[4]]).split("\n", 1)[1])
+    games("compare", "book", "a.wtb", "--empties", "5", "c.wtb", "b.wtb", status=1,
+          out=difference(2, "a.wtb") + difference(5, "a.wtb") + counts(2 * COUNT + 1))
+    games("compare", "book", "a.wtb", "c.wtb", status=2,
+          err="a.wtb does not say how many squares are empty at its theoretical scores; "
+              "try --empties 22 or 24, the usual numbers")
+
+
+def names(size, *texts):
+    """Returns a file of players or tournaments, with `size` bytes for each name."""
+    return wthor([], another=len(texts)) + b"".join(text.encode("latin-1").ljust(size, b"\0") for text in texts)
+
+
+def test_players_tournament_and_year_are_told():
+    """In each record, the tournament has the number 7, Black 300, and White 301, all counted from 0."""
+    write("in/it.wtb", wthor(RECORDS, empties=EMPTIES))
+    players, tournaments = [*["?"] * 300, "Ann Smith", "Andr\u00e9 \x01\u00a0B."], [*["?"] * 7, "Rome"]
+    for made, title in (
+        ({}, "2001"),
+        ({"WTHOR.JOU": names(20, *players)}, "2001, Ann Smith - Andr\u00e9 B."),
+        ({"WTHOR.TRN": names(26, *tournaments)}, "2001, Ann Smith - Andr\u00e9 B., Rome"),
+        ({"WTHOR.JOU": names(20, *players[:-1])}, "2001, Rome"),
+        ({"WTHOR.TRN": b""}, "2001"),
+        ({"WTHOR.TRN": names(26, *tournaments)[:-30]}, "2001"),
+        ({"WTHOR.JOU": names(20, *players), "other.jou": b""}, "2001"),
+    ):
+        for name, content in made.items():
+            write(f"in/{name}", content)
+        out = difference(2, "in/it.wtb", f" ({title})") + difference(5, "in/it.wtb", f" ({title})")
+        games("compare", "book", "in/it.wtb", status=1, out=out + counts())
+
+
+def test_a_year_that_the_header_lacks_is_left_out():
+    whole = wthor(RECORDS, empties=EMPTIES)
+    write("it.wtb", whole[:10] + b"\0\0" + whole[12:])
+    games(*COMPARE, status=1, out=difference(2, title="") + difference(5, title="") + counts())
+
+
+def test_the_scores_that_are_wrong_are_changed_and_no_other_byte():
+    fix(1, CHANGED, written={"new.wtb": WANTED}, out=DIFFERENCES + counts())
+    assert stat.S_IMODE(os.stat("new.wtb").st_mode) == 0o644
+    games("compare", "book", "new.wtb", err=GOES_ON.replace("it.wtb", "new.wtb"), out=counts(differ=0))
+    write("it.wtb", wthor(EXACT_RECORDS, empties=EMPTIES))
+    again = f"again.wtb: theoretical scores changed 0 of {COUNT}, not compared 0"
+    fix(0, again, place="again.wtb", written={"again.wtb": wthor(EXACT_RECORDS, empties=EMPTIES)})
+
+
+def test_games_that_are_not_compared_stay_as_they_are():
+    """The book lacks the position of one game. Another game has a byte that is not a square."""
+    records = [RECORDS[0][:8] + b"\x63" + RECORDS[0][9:], *RECORDS[1:]]
+    write("it.wtb", wthor(records, empties=EMPTIES))
+    lines = BOOK.splitlines(True)
+    write("book", "".join(lines[:3] + lines[4:]))
+    records[5] = EXACT_RECORDS[5]
+    fix(1, f"it.wtb, game 1, move 1: 99 is not a square\n"
+           f"new.wtb: theoretical scores changed 1 of {COUNT}, not compared 2",
+        written={"new.wtb": wthor(records, empties=EMPTIES)}, out=difference(5) + counts(COUNT - 2, 1, 1))
+
+
+def test_a_header_without_a_number_of_empty_squares_gets_that_of_the_option():
+    write("it.wtb", wthor(RECORDS, empties=0))
+    fix(1, CHANGED, "--empties=5", written={"new.wtb": WANTED.removesuffix(b"more")})
+
+
+def test_real_scores_are_changed_only_if_asked():
+    """Games 1 and 5 have wrong real scores; the book lacks the position of game 5. Game 2 ends too early, and game 3
+    has a byte that is not a square."""
+    records = [*RECORDS]
+    records[0] = more = record(PLAYED[0], PUBLISHED[0], real=70)
+    records[1] = record(PLAYED[1][:-1], PUBLISHED[1], real=1)
+    records[2] = records[2][:6] + b"\1" + records[2][7:67] + b"\x63"
+    records[4] = record(PLAYED[4], 9, real=0)
+    write("it.wtb", wthor(records, empties=EMPTIES) + more)
+    lines = BOOK.splitlines(True)
+    write("book", "".join(lines[:5] + lines[6:]))
+    said = "".join(f"it.wtb, {it}\n" for it in (
+        "game 1: its real score is 70, more than 64 discs",
+        "game 2: its moves stop before the end of the game, so its real score 1 is not checked",
+        "game 3, move 60: 99 is not a square",
+        f"game 5: its real score is 0, but its moves give {RECORDS[4][6]}", GOES_ON[8:-1]))
+    changed = f"theoretical scores changed 1 of {COUNT}, not compared 2"
+    records[5] = EXACT_RECORDS[5]
+    fix(1, f"{said}new.wtb: {changed}", written={"new.wtb": wthor(records, empties=EMPTIES) + more})
+    records[0], records[4] = record(PLAYED[0], PUBLISHED[0]), record(PLAYED[4], 9)
+    fix(1, f"{said}real.wtb: {changed}; real scores changed 2, not checked 2", "--real", place="real.wtb",
+        written={"real.wtb": wthor(records, empties=EMPTIES) + more})
+
+
+def test_all_files_are_written_into_a_folder():
+    write("other/one.wtb", wthor(RECORDS[:3], empties=0))
+    os.mkdir("new")
+    files = ("it.wtb", "other/one.wtb")
+    written = {"new/it.wtb": WANTED, "new/one.wtb": wthor(EXACT_RECORDS[:3], empties=EMPTIES)}
+    fix(1, f"new/it.wtb: theoretical scores changed 2 of {COUNT}, not compared 0\n"
+           "new/one.wtb: theoretical scores changed 1 of 3, not compared 0", "--empties=5", place="new", files=files,
+        written=written, out=DIFFERENCES + difference(2, "other/one.wtb") + counts(COUNT + 3, 3))
+    os.remove("new/it.wtb")
+    fix(3, "new/one.wtb already exists and would be overwritten", "--empties=5", place="new", files=files)
+
+
+def test_several_files_are_written_all_or_none():
+    """The second file is larger than a run may write."""
+    write("other/two.wtb", wthor(RECORDS, empties=EMPTIES) + b"more, and more")
+    os.mkdir("new")
+    fix(3, f"other/two.wtb, game {COUNT + 1}: the file goes on, but its header counts {COUNT} games\n"
+           "cannot write new/two.wtb: File too large", place="new", files=("it.wtb", "other/two.wtb"),
+        preexec_fn=limited(RLIMIT_FSIZE=len(WHOLE)))
+
+
+def test_one_place_for_two_files_is_refused():
+    write("other.wtb", WHOLE)
+    fix(3, "--fix takes a folder, since 2 WTHOR files are named", files=("it.wtb", "other.wtb"))
+    write("other/it.wtb", WHOLE)
+    err = "two of the WTHOR files have one name, so --fix can't write them into one folder"
+    fix(3, err, place="other", files=("it.wtb", "other/it.wtb"))
+
+
+@pytest.mark.parametrize("place", (
+    "it.wtb", "./it.wtb", "link.wtb", "twin.wtb", "broken.wtb", "other.wtb", "book", "folder",
+))
+def test_no_file_is_overwritten(place):
+    os.symlink("it.wtb", "link.wtb")
+    os.link("it.wtb", "twin.wtb")
+    os.symlink("nowhere", "broken.wtb")
+    write("folder/it.wtb", "another")
+    write("other.wtb", "other")
+    path = "folder/it.wtb" if place == "folder" else place
+    fix(3, f"{path} already exists and would be overwritten", place=place)
+
+
+def test_a_file_system_without_hard_links_gets_the_file(monkeypatch):
+    """The content is on the disk before the file gets its name. With hard links, no existing file is replaced."""
+    from ffosolve._command_line import write_whole
+
+    before, synced = contents(), []
+    with monkeypatch.context() as patch:
+        patch.setattr(os, "link", mock.Mock(side_effect=PermissionError))
+        patch.setattr(os, "fsync", lambda file: synced.append((os.fstat(file).st_size, os.path.exists("new.wtb"))))
+        write_whole({"new.wtb": [b"new", b"file"]})
+    assert synced == [(7, False)]
+    with pytest.raises(FileExistsError):
+        write_whole({"new.wtb": [b"other"]})
+    assert contents() == {**before, "new.wtb": b"newfile"}
+
+
+@pytest.mark.parametrize("size", (0, 1, 16, len(WHOLE) - 1))
+def test_a_full_disk_leaves_no_file(size):
+    fix(3, "cannot write new.wtb: File too large", preexec_fn=limited(RLIMIT_FSIZE=size))
+
+
+def test_a_place_in_a_missing_folder_is_refused():
+    fix(3, "cannot write none/new.wtb: its folder is missing, or may not be written", place="none/new.wtb")
+    fix(3, "cannot write '': No such file or directory", place="")
+
+
+def test_nothing_is_written_if_no_score_is_compared():
+    write("book", BOOK.splitlines(True)[0])
+    fix(3, "no theoretical score is compared, so --fix has none to write")
+
+
+def test_one_of_several_runs_writes_the_file(start):
+    before = contents()
+    runs = [start(sys.executable, PROGRAM, *COMPARE, "--fix", "new.wtb") for _ in range(6)]
+    ends = sorted((it.communicate(timeout=SECONDS)[1].decode(), it.returncode) for it in runs)
+    said = f"ffosolve-games: {GOES_ON}ffosolve-games: "
+    lost = f"{said}new.wtb already exists and would be overwritten\n", 3
+    assert ends == sorted([(f"{said}{CHANGED}\n", 1), *[lost] * 5])
+    assert contents() == {**before, "new.wtb": WANTED}
+
+
+@pytest.mark.parametrize("number", (signal.SIGINT, signal.SIGTERM, signal.SIGKILL))
+def test_an_interrupted_run_leaves_no_file_under_the_name(start, number):
+    """Only SIGKILL leaves a temporary file. A later run writes the file all the same."""
+    write("it.wtb", wthor(RECORDS, empties=EMPTIES) + bytes(9))
+    os.truncate("it.wtb", 68 * 10 ** 8)
+    child = start(sys.executable, PROGRAM, *COMPARE, "--fix", "new.wtb", preexec_fn=as_at_a_login)
+    wait_until(lambda: list(Path().glob("new.wtb.*.new")))
+    child.send_signal(number)
+    child.communicate(timeout=SECONDS)
+    assert child.returncode == -number
+    assert not os.path.exists("new.wtb")
+    assert bool(list(Path().glob("new.wtb.*.new"))) == (number == signal.SIGKILL)
+    write("it.wtb", WHOLE)
+    fix(1, CHANGED, written={"new.wtb": WANTED})
+
+
+CHECK = ("check", "it.wtb", "--quiet")
+FOLDER = "it.wtb.check/list.obf.parts"
+
+
+@pytest.fixture
+def solver():
+    """Makes sure that ffosolve is built, so that no message about that stands among the errors."""
+    built("ffosolve")
+
+
+def parts():
+    return len(list(Path(FOLDER, "results").glob("[0-9]" * 7)))
+
+
+@pytest.mark.usefixtures("solver")
+def test_check_solves_compares_and_fixes():
+    """The theoretical scores of two files are for 5 and 6 empty squares; two games of the first are one."""
+    write("it.wtb", wthor([*RECORDS, RECORDS[2]], empties=EMPTIES))
+    at = positions_of(PLAYED[1])[6]
+    write("other.wtb", wthor([record(PLAYED[1], discs_of_black(at) ^ 1)], empties=6))
+    os.mkdir("new")
+    words = ("it.wtb", "--fix=new", "--jobs", "2", "--lines=4", "other.wtb")
+    ran = run(sys.executable, PROGRAM, "check", *words, text=True)
+    lines = ran.stdout.splitlines(True)
+    exact = discs_of_black(at)
+    assert lines == [
+        difference(2), difference(5), difference(2).replace("game 3", f"game {COUNT + 1}"),
+        f"other.wtb, game 1 (2001): published {exact ^ 1}, exact {exact}, difference {(exact ^ 1) - exact:+}\n",
+        counts(COUNT + 2, 4)]
+    assert ran.returncode == 1
+    said = f"ffosolve-many: it.wtb.check/list.obf: {COUNT + 1} lines in {(COUNT + 4) // 4} parts, 0 of them solved"
+    assert ran.stderr.startswith(said)
+    assert Path("new/it.wtb").read_bytes() == wthor([*EXACT_RECORDS, EXACT_RECORDS[2]], empties=EMPTIES)
+    assert Path("new/other.wtb").read_bytes() == wthor([record(PLAYED[1], exact)], empties=6)
+
+
+@pytest.mark.usefixtures("solver")
+def test_check_finds_what_compare_finds_in_its_book():
+    games(*CHECK, err=GOES_ON, out=DIFFERENCES + counts())
+    games("compare", "it.wtb.check/list.book", "it.wtb", err=GOES_ON, out=DIFFERENCES + counts())
+    assert book_of(POSITIONS).count("\n") == Path("it.wtb.check/list.book").read_text().count("\n")
+    write("it.wtb", wthor(EXACT_RECORDS, empties=EMPTIES))  # other scores of the same positions, which are solved
+    games(*CHECK, out=counts(differ=0), env={**os.environ, "PATH": f"{os.environ['PATH']}"})
+
+
+@pytest.mark.usefixtures("solver")
+@pytest.mark.parametrize("number, of_all", ((signal.SIGINT, True), (signal.SIGTERM, False), (signal.SIGKILL, False)))
+def test_an_interrupted_check_goes_on(start, number, of_all):
+    words = (sys.executable, PROGRAM, *CHECK, "--lines=1", "--jobs=1")
+    child = start(*words, preexec_fn=as_at_a_login, start_new_session=True)
+    wait_until(parts)
+    (os.killpg if of_all else os.kill)(child.pid, number)
+    child.communicate(timeout=SECONDS)
+    assert child.returncode == -number
+    assert 0 < parts() < COUNT
+    games(*words[2:], err=GOES_ON, out=DIFFERENCES + counts())
+    assert parts() == COUNT
+
+
+@pytest.mark.usefixtures("solver")
+def test_a_second_check_in_one_folder_is_refused(start):
+    first = start(sys.executable, PROGRAM, *CHECK, "--lines=1", "--jobs=1", start_new_session=True)
+    wait_until(parts)
+    os.killpg(first.pid, signal.SIGSTOP)
+    ran = run(sys.executable, PROGRAM, *CHECK, "--lines=1", text=True)
+    assert (ran.returncode, ran.stdout) == (3, "")
+    assert ran.stderr.splitlines()[1] == f"ffosolve-many: another run works in {FOLDER}"
+    os.killpg(first.pid, signal.SIGCONT)
+    assert first.communicate(timeout=SECONDS)[0].decode() == DIFFERENCES + counts()
+
+
+@pytest.mark.usefixtures("solver")
+def test_options_are_those_of_ffosolve_many():
+    games(*CHECK, "--max-empties=4", status=1, err=GOES_ON, out=counts(0, 0, COUNT))
+    advice = "Try 'ffosolve-many --help'"
+    for words, status, why in (
+        (("--jobs=x",), 2, f"--jobs: takes a number from 1 to 999, not 'x'. {advice}"),
+        (("--lines=",), 2, f"--lines: '' is empty or not UTF-8. {advice}"),
+        (("--book-in=none",), 3, "cannot read none: No such file or directory"),
+        (("--max-empties=5",), 2, None),
+    ):
+        ran = run(sys.executable, PROGRAM, *CHECK, *words, text=True)
+        assert (ran.returncode, ran.stdout) == (status, "")
+        said = ran.stderr.splitlines()
+        assert said[-1] == "ffosolve-games: ffosolve-many has not solved all, so no score is compared"
+        assert why is None or said[1] == f"ffosolve-many: {why}"
+
+
+@pytest.mark.usefixtures("solver")
+def test_check_can_be_cut_for_another_scheduler():
+    ran = run(sys.executable, PROGRAM, *CHECK, "--lines=4", "--cut", text=True)
+    assert (ran.returncode, parts()) == (1, 0) and "python3 it.wtb.check/list.obf.parts/solve.py" in ran.stdout
+    for part in range((COUNT + 3) // 4):
+        run(sys.executable, f"{FOLDER}/solve.py", f"{part:07d}", check=True)
+    games(*CHECK, "--lines=4", err=GOES_ON, out=DIFFERENCES + counts())
+
+
+def test_check_refuses_before_it_solves():
+    for words, err in (
+        (("--fix=it.wtb",), f"{GOES_ON}it.wtb already exists and would be overwritten"),
+        (("--fix=none/it.wtb",), f"{GOES_ON}cannot write none/it.wtb: its folder is missing, or may not be written"),
+        (("none.wtb",), f"{GOES_ON}cannot read none.wtb: No such file or directory"),
+    ):
+        games(*CHECK, *words, status=3, err=err)
+    assert sorted(os.listdir()) == ["book", "it.wtb"]
+    games(*CHECK, status=3, err=f"{GOES_ON}cannot write it.wtb.check/list.obf: File too large",
+          preexec_fn=limited(RLIMIT_FSIZE=100))
+    assert os.listdir("it.wtb.check") == []
+
+
+def test_check_without_ffosolve_many_says_so(folder):
+    run("cp", "-r", "--parents", "bin/ffosolve-games", "python/src", "VERSION", folder, cwd=ROOT, check=True)
+    ran = run(sys.executable, "bin/ffosolve-games", *CHECK, env={**os.environ, "PATH": "/usr/bin:/bin"}, text=True)
+    assert ran.stderr.splitlines()[-1] == ("ffosolve-games: ffosolve-many is missing: it has to be next to "
+                                           f"ffosolve-games, in {folder}/bin, or on the path")
+    assert (ran.returncode, ran.stdout) == (4, "")
+
+
+def test_the_commands_of_guide_and_help_check_and_fix_a_file(solver):
+    guide = "".join(re.findall(r"^```sh\n(.*?)^```", stored("docs", "check-wthor.md").decode(), re.M | re.S))
+    of_help = re.search(r"^examples:\n.*?\n\n(.*?)\n\nstatus:", run(PROGRAM, "--help").stdout.decode(), re.M | re.S)[1]
+    for place, commands, count in (("guide", guide, 2), ("help", of_help, 4)):
+        commands = [line for line in commands.splitlines() if line]
+        assert len(commands) == count
+        name, (new,) = re.search(r"\S+\.wtb", commands[0])[0], re.findall(r"--fix (\S+)", "\n".join(commands))
+        write(f"{place}/{name}", wthor(RECORDS, empties=EMPTIES))
+        os.symlink(ROOT / "bin", f"{place}/bin")
+        path = {"PATH": f"{ROOT}/bin:{os.environ['PATH']}"}
+        ran = run("sh", "-c", "\n".join(commands), timeout=300, cwd=place, env={**os.environ, **path}, text=True)
+        out = difference(2, name) + difference(5, name) + counts()
+        assert (ran.returncode, ran.stdout) == (1, 2 * out), ran.stderr
+        assert Path(place, new).read_bytes() == wthor(EXACT_RECORDS, empties=EMPTIES)

@@ -1,124 +1,164 @@
 """ffosolve-games: its command line, what it reads, and how it reports what it can't read or write."""
 import os
+import re
 import sys
 
-from .games import PROGRAM, Case, line_of, report_of, transcript, with_digest, wthor
-from .support import MOST_BYTES, limited, run, stored, write
+import pytest
+
+from tests.games import AT, GAME, GAME_RECORD, PROGRAM, games, line_of, reads, transcript, wthor
+from tests.support import MOST_BYTES, cannot_write, ends, limited, run, stored, write
+
+TEXT, WTHOR = transcript(GAME), wthor([GAME_RECORD], empties=20)
+LINE = line_of(AT[20], "{}, game 1")
+pytestmark = pytest.mark.usefixtures("folder")
 
 
-class Command(Case):
-    TEXT, WTHOR = transcript(Case.GAME), wthor([Case.RECORD], empties=20)
-    LINE = line_of(Case.AT[20], "{}, game 1")
-    LISTED = with_digest(line_of(Case.AT[4], "x.wtb, game 1, theoretical score 30"))
+@pytest.fixture(autouse=True)
+def files(folder):
+    write("text", TEXT)
+    write("it.wtb", WTHOR)
 
-    def setUp(self):
-        super().setUp()
-        write("text", self.TEXT)
-        write("listed", self.LISTED)
 
-    def test_a_hyphen_or_no_file_means_standard_input(self):
-        for words in ((), ("-",)):
-            self.games("--empties=20", *words, input=self.TEXT.encode(), out=self.LINE.format("-"))
-        self.games("-", input=self.WTHOR, out=self.LINE.format("-").rstrip() + ", theoretical score 33\n")
+def test_a_hyphen_or_no_file_means_standard_input():
+    for words in ((), ("-",)):
+        games("--empties=20", *words, input=TEXT.encode(), out=LINE.format("-"))
+    games("-", input=WTHOR, out=LINE.format("-").rstrip() + ", theoretical score 33\n")
 
-    def test_names_of_files_are_in_the_list_as_they_are(self):
-        for name, shown in (("a b%c, game 7", "a b%c, game 7"), ("new\nline", "$'new\\nline'")):
-            self.reads(name, self.TEXT, "--empties=20", out=self.LINE.format(shown))
-        name = b"\xff.WTB"
-        write(os.fsdecode(name), self.WTHOR)
-        self.assertIn(b"% \xff.WTB, game 1, theoretical score 33\n", run(sys.executable, PROGRAM, name).stdout)
 
-    def test_names_in_messages_can_be_typed(self):
-        for name in (b"\xff", b"new\nline", b"it's \x01 \\ \xc3\xa9", b"\xc2\xa0"):
-            err = run(sys.executable, PROGRAM, "--empties=20", name).stderr.decode()
-            shown = err.removeprefix("ffosolve-games: cannot read ").removesuffix(": No such file or directory\n")
-            self.assertTrue(shown.isprintable() and shown.startswith("$'"), err)
-            self.assertEqual(run("bash", "-c", f"printf %s {shown}").stdout, name)
-        for name, shown in (("", "''"), ("it's \u00e9", "it's \u00e9")):
-            self.games("--empties=20", name, status=3, err=f"cannot read {shown}: No such file or directory")
+@pytest.mark.parametrize("name, shown", (("a b%c, game 7", "a b%c, game 7"), ("new\nline", "$'new\\nline'")))
+def test_names_of_files_are_in_the_list_as_they_are(name, shown):
+    reads(name, TEXT, "--empties=20", out=LINE.format(shown))
 
-    def test_the_status_is_the_highest_that_a_refused_file_causes(self):
-        err = "cannot read none: No such file or directory\n"
-        self.games("none", "text", status=3, err=err + "text is a text: its games need --empties N")
-        err += "cannot read .: Is a directory"
-        self.games("--empties=20", "none", ".", "text", status=3, out=self.LINE.format("text"), err=err)
 
-    def test_files_that_are_not_texts_are_refused_and_the_next_is_read(self):
-        game = self.TEXT.encode()
-        for content, why in (
-            (b"\xef\xbb\xbf" + game + b"\n", "it begins with a byte-order mark"),
-            (("\ufeff" + self.TEXT).encode("utf-16-le"), "it begins with a byte-order mark"),
-            (("\ufeff" + self.TEXT).encode("utf-16-be"), "it begins with a byte-order mark"),
-            (b"% games\r" + game + b"\r" + game + b"\r", "its lines end with CR alone"),
-            (b"\r" + game, "its lines end with CR alone"),
-            (b"f5\0d6\n" + game, "its line 1 has a NUL byte, so it is not a text"),
-            (b"PK\3\4\24\0\r\0", "its line 1 has a NUL byte, so it is not a text"),  # an archive
-        ):
-            write("bad", content)
-            err = f"cannot read bad: {why}"
-            self.games("--empties=20", "bad", "text", status=3, out=self.LINE.format("text"), err=err)
-            self.games("compare", "listed", "bad", status=3, err=err)
-            for words in (["--empties=20"], ["compare", "-", "text"]):
-                self.games(*words, input=content, status=3, err=f"cannot read -: {why}")
+def test_a_name_that_is_no_text_is_in_the_list_as_it_is():
+    name = b"\xff.WTB"
+    write(os.fsdecode(name), WTHOR)
+    assert b"% \xff.WTB, game 1, theoretical score 33\n" in run(sys.executable, PROGRAM, name).stdout
 
-    def test_a_long_line_is_refused_without_reading_it_all(self):
-        err = f"cannot read -: its line 2 has more than {MOST_BYTES} bytes"
-        for words, before, out in (
-            (("--empties=20", "-"), self.TEXT + "\n", self.LINE.format("-")),
-            (("compare", "-", "text"), self.LISTED.splitlines(True)[0], ""),
-            (("compare", "listed", "-"), "[1]\n", ""),
-        ):
-            write("long", before + "f5")
-            os.truncate("long", 300_000_000)
-            with open("long", "rb") as file:
-                self.games(*words, stdin=file, status=3, out=out, err=err, preexec_fn=limited(RLIMIT_AS=500_000_000))
-                self.assertLess(os.lseek(file.fileno(), 0, os.SEEK_CUR), 2 * MOST_BYTES)
-        longest = (self.TEXT + "%").ljust(MOST_BYTES - 1, "x") + "\n"
-        self.reads("longest", longest, "--empties=20", out=self.LINE.format("longest"))
 
-    def test_refused_words_print_the_usage(self):
-        for words in (
-            ("--empties", "61"), ("--empties", "-1"), ("--empties", "x"), ("--empties",), ("--emp", "3"), ("--no",),
-            ("compare",), ("compare", "text"), ("compare", "text", "text", "text"), ("compare", "-", "-"),
-            ("compare", "text", "text", "--fix"), ("--fix", "new.wtb", "compare", "text", "text"),
-            ("compare", "text", "text", "--fix=-"), ("compare", "text", "text", "--real"), ("--real", "text"),
-            ("compare", "text", "text", "--empties=20"),
-        ):
-            ran = run(sys.executable, PROGRAM, *words)
-            self.assertEqual((ran.returncode, ran.stdout), (2, b""))
-            self.assertRegex(ran.stderr.decode(), "usage: ffosolve-games .*\n       ffosolve-games compare ")
+@pytest.mark.parametrize("name", (b"\xff", b"new\nline", b"it's \x01 \\ \xc3\xa9", b"\xc2\xa0"))
+def test_names_in_messages_can_be_typed(name):
+    err = run(sys.executable, PROGRAM, "--empties=20", name).stderr.decode()
+    shown = err.removeprefix("ffosolve-games: cannot read ").removesuffix(": No such file or directory\n")
+    assert shown.isprintable() and shown.startswith("$'"), err
+    assert run("bash", "-c", f"printf %s {shown}").stdout == name
 
-    def test_help_has_both_uses_in_80_columns(self):
-        self.games("--version", out=f"ffosolve-games {stored('VERSION').decode()}")
-        how = {"env": {**os.environ, "COLUMNS": "80"}, "check": True, "text": True}
-        printed = run(PROGRAM, "--help", **how).stdout
-        self.games("compare", "--help", out=printed, env=how["env"])
-        self.assertRegex(" ".join(printed.split()), "Black's discs.*the winner gets the empty squares")
-        self.assertRegex(printed, "usage: ffosolve-games .*\n       ffosolve-games compare ")
-        self.assertLessEqual(max(map(len, printed.splitlines())), 80)
 
-    def test_standard_output_that_cannot_be_written_ends_with_status_3(self):
-        write("many", (self.TEXT + "\n") * 1000)
-        for words in (["--empties=20", "text"], ["--empties=20", "many"], ["--help"], ["--version"],
-                      ["compare", "--help"]):
-            self.cannot_write(PROGRAM, *words)
-            for unbuffered in ("", "1"):
-                self.ends((3, "", "ffosolve-games: cannot write standard output: File too large\n"),
-                          "sh", "-c", 'exec "$0" "$@" >out', PROGRAM, *words, preexec_fn=limited(RLIMIT_FSIZE=1),
-                          env={**os.environ, "PYTHONUNBUFFERED": unbuffered})
+@pytest.mark.parametrize("name, shown", (("", "''"), ("it's \u00e9", "it's \u00e9")))
+def test_printable_names_in_messages_are_as_they_are(name, shown):
+    games("--empties=20", name, status=3, err=f"cannot read {shown}: No such file or directory")
 
-    def test_standard_error_that_cannot_be_written_changes_no_output_and_no_status(self):
-        write("wrong", "a1\n" + self.TEXT)
-        text = self.LINE.format("text")
-        wrong = self.LINE.format("wrong").replace("game 1", "game 2")
-        for words, status, out in ((("wrong", "text"), 1, wrong + text), (("none", "text"), 3, text)):
-            for errors in ("2>errors", "2>&-"):
-                self.ends((status, out, ""), "sh", "-c", f'exec "$0" "$@" {errors}', PROGRAM, "--empties=20", *words,
-                          preexec_fn=limited(RLIMIT_FSIZE=1))
 
-    def test_a_missing_library_ends_with_status_4(self):
-        write("report", report_of(self.LISTED))
-        for words in (("--empties=20", "text"), ("compare", "listed", "report", "--fix=new.wtb")):
-            ran = run(PROGRAM, *words, env={**os.environ, "FFOSOLVE_LIBRARY": "/nowhere"})
-            self.assertEqual((ran.returncode, ran.stdout), (4, b""))
-            self.assertRegex(ran.stderr.decode(), "^ffosolve-games: /nowhere: .*\n$")
+def test_the_status_is_the_highest_that_a_refused_file_causes():
+    err = "cannot read none: No such file or directory\n"
+    games("none", "text", status=3, err=err + "text is a text: its games need --empties N")
+    err += "cannot read .: Is a directory"
+    games("--empties=20", "none", ".", "text", status=3, out=LINE.format("text"), err=err)
+
+
+@pytest.mark.parametrize("content, why", (
+    (b"\xef\xbb\xbf" + TEXT.encode() + b"\n", "it begins with a byte-order mark"),
+    (("\ufeff" + TEXT).encode("utf-16-le"), "it begins with a byte-order mark"),
+    (("\ufeff" + TEXT).encode("utf-16-be"), "it begins with a byte-order mark"),
+    (f"% games\r{TEXT}\r{TEXT}\r".encode(), "its lines end with CR alone"),
+    (b"\r" + TEXT.encode(), "its lines end with CR alone"),
+    (b"f5\0d6\n" + TEXT.encode(), "its line 1 has a NUL byte, so it is not a text"),
+    (b"PK\3\4\24\0\r\0", "it is an archive (.zip or .gz), so unpack it first"),
+    (b"PK\3\4\n\0\r\0", "it is an archive (.zip or .gz), so unpack it first"),  # its first line has no NUL byte
+))
+def test_files_that_are_not_texts_are_refused_and_the_next_is_read(content, why):
+    write("bad", content)
+    err = f"cannot read bad: {why}"
+    games("--empties=20", "bad", "text", status=3, out=LINE.format("text"), err=err)
+    games("compare", "bad", "it.wtb", status=3, err=err)
+    for words in (["--empties=20"], ["compare", "-", "it.wtb"]):
+        games(*words, input=content, status=3, err=f"cannot read -: {why}")
+
+
+@pytest.mark.parametrize("words, before, out", (
+    (("--empties=20", "-"), TEXT + "\n", LINE.format("-")),
+    (("compare", "-", "it.wtb"), "% ffobook 2 winner\n", ""),
+))
+def test_a_long_line_is_refused_without_reading_it_all(words, before, out):
+    write("long", before + "f5" if out else before)
+    os.truncate("long", 300_000_000)
+    err = f"cannot read -: its line 2 has more than {MOST_BYTES} bytes"
+    with open("long", "rb") as file:
+        games(*words, stdin=file, status=3, out=out, err=err, preexec_fn=limited(RLIMIT_AS=500_000_000))
+        assert os.lseek(file.fileno(), 0, os.SEEK_CUR) < 2 * MOST_BYTES
+
+
+def test_a_line_of_the_greatest_length_is_read():
+    longest = (TEXT + "%").ljust(MOST_BYTES - 1, "x") + "\n"
+    reads("longest", longest, "--empties=20", out=LINE.format("longest"))
+
+
+FIRST = "which has to be the first word"
+BY_NAME = "takes WTHOR files by their names, not standard input"
+
+
+@pytest.mark.parametrize("words, why", (
+    ("--empties 61", "--empties: takes a number from 0 to 60, not '61'"),
+    ("--empties -1", "--empties: takes a number from 0 to 60, not '-1'"),
+    ("--empties x", "--empties: takes a number from 0 to 60, not 'x'"),
+    ("--empties", "--empties: expected one argument"),
+    ("--emp 3", "unrecognized arguments: --emp"),
+    ("--no", "unrecognized arguments: --no"),
+    ("compare", "compare takes a BOOK and WTHOR files"),
+    ("compare text", "compare takes a BOOK and WTHOR files"),
+    ("compare text it.wtb -", f"compare {BY_NAME}"),
+    ("compare text it.wtb --fix", "--fix: expected one argument"),
+    ("--fix new.wtb compare text it.wtb", f"--fix and --real go with check or compare, {FIRST}"),
+    ("--real text", f"--fix and --real go with check or compare, {FIRST}"),
+    ("compare text it.wtb --fix=-", "--fix takes a file or a folder, not standard output"),
+    ("compare text it.wtb --real", "--real goes with --fix"),
+    ("compare text it.wtb --jobs=2", f"--jobs goes with check, {FIRST}"),
+    ("it.wtb --folder=new", f"--folder goes with check, {FIRST}"),
+    ("check", "check takes WTHOR files"),
+    ("check it.wtb -", f"check {BY_NAME}"),
+    ("check it.wtb --cut --fix new.wtb", "--fix does not go with --cut"),
+    ("check it.wtb --scores", "unrecognized arguments: --scores"),
+))
+def test_wrong_words_are_refused(words, why):
+    games(*words.split(), status=2, err=f"{why}. Try 'ffosolve-games --help'")
+
+
+def test_help_has_all_uses_in_80_columns():
+    games("--version", out=f"ffosolve-games {stored('VERSION').decode()}")
+    how = {"env": {**os.environ, "COLUMNS": "80"}, "check": True, "text": True}
+    printed = run(PROGRAM, "--help", **how).stdout
+    for task in ("compare", "check"):
+        games(task, "--help", out=printed, env=how["env"])
+    assert re.search("Black's discs.*the winner gets the empty squares", " ".join(printed.split()))
+    uses = "usage: ffosolve-games .*\n       ffosolve-games check .*\n       ffosolve-games compare "
+    assert re.match(uses, printed)
+    assert max(map(len, printed.splitlines())) <= 80
+
+
+@pytest.mark.parametrize("words", (
+    ["--empties=20", "text"], ["--empties=20", "many"], ["--help"], ["--version"], ["compare", "--help"],
+))
+def test_standard_output_that_cannot_be_written_ends_with_status_3(words):
+    write("many", (TEXT + "\n") * 1000)
+    cannot_write(PROGRAM, *words)
+    for unbuffered in ("", "1"):
+        ends((3, "", "ffosolve-games: cannot write standard output: File too large\n"),
+             "sh", "-c", 'exec "$0" "$@" >out', PROGRAM, *words, preexec_fn=limited(RLIMIT_FSIZE=1),
+             env={**os.environ, "PYTHONUNBUFFERED": unbuffered})
+
+
+def test_standard_error_that_cannot_be_written_changes_no_output_and_no_status():
+    write("wrong", "a1\n" + TEXT)
+    text = LINE.format("text")
+    wrong = LINE.format("wrong").replace("game 1", "game 2")
+    for words, status, out in ((("wrong", "text"), 1, wrong + text), (("none", "text"), 3, text)):
+        for errors in ("2>errors", "2>&-"):
+            ends((status, out, ""), "sh", "-c", f'exec "$0" "$@" {errors}', PROGRAM, "--empties=20", *words,
+                 preexec_fn=limited(RLIMIT_FSIZE=1))
+
+
+@pytest.mark.parametrize("words", (("--empties=20", "text"), ("compare", "book", "it.wtb"), ("check", "it.wtb")))
+def test_a_missing_library_ends_with_status_4(words):
+    ran = run(PROGRAM, *words, env={**os.environ, "FFOSOLVE_LIBRARY": "/nowhere"})
+    assert (ran.returncode, ran.stdout) == (4, b"")
+    assert re.fullmatch("ffosolve-games: /nowhere: .*\n", ran.stderr.decode())

@@ -325,8 +325,8 @@ class Texts(Case):
 
     def test_the_manual_page_of_ffosolve_games_has_compare_and_its_statuses(self):
         page = (self.root / "share/man/man1/ffosolve-games.1").read_text()
-        self.assertRegex(page.split(".SH DESCRIPTION")[0], r"(?m)^ffosolve\\-games compare .*LIST REPORT$")
-        self.assertRegex(page.split('.SH "STATUS"')[1], r"with compare: a(.|\n)*REPORT does not belong to it")
+        self.assertRegex(page.split(".SH DESCRIPTION")[0], r"(?m)^ffosolve\\-games compare .*BOOK FILE .*$")
+        self.assertRegex(page.split('.SH "STATUS"')[1], r"with check or compare: all(.|\n)*BOOK is not a")
 
     def offered(self, *words):
         """Runs `words`: a shell, its options with the script in BASH or FISH, and a command's words, of which the last

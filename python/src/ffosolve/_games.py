@@ -10,7 +10,7 @@ from ._library import CPosition, loaded
 from ._positions import START, Position
 from ._rules import NO_SQUARE, illegal_move, moves, size_of
 from ._squares import NAMES, square_name
-from ._text import NotText, text_lines
+from ._text import ARCHIVES, NotText, text_lines
 from ._transcripts import PASSES, words_of
 
 PASS = 64  # instead of a square's number
@@ -56,8 +56,12 @@ class Game(NamedTuple):
     def of_text(cls, text: str, number: int = 1) -> "Game":
         """The game of a transcript such as `f5d6c3` or `1. F5 2. D6`: squares with blanks, commas, hyphens or nothing
         between them, and with or without move numbers. A pass may be left out, or written `pass`, `ps`, `pa` or `--`. A
-        result at the end, such as `33-31`, is skipped, and so is everything from `%` on."""
-        words = words_of(text)
+        result at the end, such as `33-31`, is skipped, and so are headers in brackets and everything from `%` on. A
+        game in GGF, `(;GM[Othello] .. ;)`, is read, too; one of another kind or position gets a `fault`."""
+        try:
+            words = words_of(text)
+        except ValueError as why:
+            return cls(number, fault=str(why))
         return cls(number, [WORDS.get(word, NO_SQUARE) for word in words], words)
 
     @property
@@ -114,22 +118,21 @@ def games_in(file: Any, name: str) -> Tuple[Iterator[Game], Optional[int]]:
     if not name.lower().endswith(".wtb") and file.peek(1)[:1].strip(TEXT) == b"":
         lines = enumerate(text_lines(file, name), 1)
         games = (Game.of_text(line.decode("utf-8", "replace"), number) for number, line in lines)
-        return (game for game in games if game.moves), None
-    try:
-        count, empties = read_header(file)
-    except NotText as why:
-        raise NotText(f"{name} is not a WTHOR file of games: {why}") from None
+        return (game for game in games if game.moves or game.fault), None
+    count, empties = read_header(file, name)
     return records(file, count, empties), empties
 
 
-def read_header(file: BinaryIO) -> Tuple[int, int]:
+def read_header(file: BinaryIO, name: str) -> Tuple[int, int]:
     """Reads the header of a WTHOR file. Returns (number of games, number of empty squares that theoretical scores are
-    for, or 0 if the header does not say it). Raises NotText if the header is not that of games on 8 by 8 squares."""
+    for, or 0 if the header does not say it). Raises NotText, with `name` in the message, if the header is not that of
+    games on 8 by 8 squares."""
     head = file.read(HEADER.size)
-    if len(head) < HEADER.size:
-        raise NotText(f"it ends within its header of {HEADER.size} bytes" if head else "it is empty")
-    count, other, board, kind, empties = HEADER.unpack(head)
+    count, other, board, kind, empties = HEADER.unpack(head.ljust(HEADER.size, b"\0"))
     for is_wrong, why in (
+        (not head, "it is empty"),
+        (len(head) < HEADER.size, f"it ends within its header of {HEADER.size} bytes"),
+        (head.startswith(ARCHIVES), "it is an archive (.zip or .gz), so unpack it first"),
         (b"\0" not in head, "it begins like a text"),
         (board not in (0, 8), f"its board has {board} by {board} squares"),
         (other, f"its header counts {other} records of another kind, like a file of players or tournaments"),
@@ -137,7 +140,7 @@ def read_header(file: BinaryIO) -> Tuple[int, int]:
         (empties > 60, f"its theoretical scores are for {empties} empty squares, but a game has only 60"),
     ):
         if is_wrong:
-            raise NotText(why)
+            raise NotText(f"{name} is not a WTHOR file of games: {why}")
     return count, empties
 
 

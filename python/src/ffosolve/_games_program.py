@@ -1,95 +1,94 @@
-"""The program ffosolve-games and its command line. The help text, WHAT, explains theoretical scores and digests."""
+"""The program ffosolve-games and its command line. The help text, WHAT, explains theoretical scores."""
 import argparse
 import contextlib
-import errno
-import hashlib
 import io
 import os
 import re
-import signal
-import stat
+import shutil
+import subprocess
 import sys
-from typing import Callable, Dict, Iterator, List, Optional, Tuple
+from typing import Callable, Dict, Iterator, List, NoReturn, Optional, Tuple
 
-from . import __version__
-from ._fix_wthor import Fixed, write_new
-from ._games import MOST_DISCS, Game, GameRefused, final_discs, games_in, played, position_with
+from ._command_line import DONE, MISSING, MISUSED, REMARKED, UNREADABLE
+from ._command_line import Parser, Refusal, print_all, refusing, run, say, write_whole
+from ._fix_wthor import Fixed
+from ._games import MOST_DISCS, Game, GameRefused, discs_of_black, final_discs, games_in, played, position_with
 from ._library import MOST_EMPTIES, LibraryNotFound, load
 from ._positions import Position
-from ._published import BadList, Comparison, Listed, Unfit, digest_of
 from ._text import NotText, shown, text_lines
+from ._theoretical_scores import BadBook, Scored, exact_scores, title
 
 NAME = "ffosolve-games"
 USAGE = f"""{NAME} [--empties N] [FILE ...]
-       {NAME} compare [--fix PLACE [--real]] LIST REPORT"""
+       {NAME} check [--fix PLACE [--real]] [OPTION ...] FILE ...
+       {NAME} compare [--fix PLACE [--real]] BOOK FILE ..."""
 WHAT = """\
 Prints one position of each game, the first with N empty squares, as a line of
-OBF. With `compare`, prints each game whose theoretical score is not the exact
-one.
+OBF. With `check` or `compare`, prints each game whose theoretical score is not
+the exact one.
 
 A FILE is a WTHOR file (.wtb) or a text with one game in each line. A line of a
 text has the squares of the moves, as f5d6c3 or `1. F5 2. D6`, with blanks,
 commas, hyphens or nothing between them. A pass is left out, or is written as
-`pass`, `ps`, `pa` or `--`. A result at the end, as 33-31, is skipped.
+`pass`, `ps`, `pa` or `--`. Headers in brackets before the moves are skipped, as
+is a result at the end, such as 33-31. A line may also be a game in GGF.
 
 The comment of a printed line names the file and the game: its line in a text,
 or its place in a WTHOR file. If the WTHOR file has a theoretical score for N
 empty squares, the comment has that too: Black's discs after perfect play, 0 to
-64, where the winner gets the empty squares. After lines with scores come four
-finished boards. Their scores are a digest of these lines, so `compare` can
-refuse a report of another list.
+64, where the winner gets the empty squares.
 
-LIST is what was printed for WTHOR files. REPORT is what ffosolve or
-ffosolve-many prints for LIST under the scoring `winner`. Scores are Black's
-discs, and the difference is the published score minus the exact one.
+`check` takes WTHOR files, and lets ffosolve-many solve the position that each
+theoretical score is for. After an interruption, the same command goes on.
+`compare` takes the exact scores from BOOK, which ffosolve or ffosolve-many
+wrote with --book-out. Scores are Black's discs, and the difference is the
+published score minus the exact one. Players and tournaments are named if their
+files, .JOU and .TRN, are in the folder of the WTHOR file.
 """
-MORE = """\
+MORE = f"""\
 The side to move in a printed position may have to pass. A game is reported on
 standard error instead if it has an illegal move, or ends before the position.
 There is also a line if the real score of a WTHOR file's game does not fit its
 moves, or the moves stop before the end of the game.
 
---fix reads the WTHOR files that LIST names. It never overwrites a file. Scores
-that were not compared stay as they are, and a line on standard error counts
-them. A header that does not say how many squares are empty gets the N of
---empties.
+--fix never overwrites a file. Scores that were not compared stay as they are,
+and a line on standard error counts them. A header that does not say how many
+squares are empty gets the N of --empties.
 
 examples:
-  ffosolve-games --empties 20 games.txt >list.obf
+  {NAME} --empties 20 games.txt >list.obf
 
-  ffosolve-games WTH_2001.wtb >list.obf
-  ffosolve-many list.obf --max-empties 24 >list.report
-  ffosolve-games compare list.obf list.report --fix WTH_2001.new.wtb
+  {NAME} check WTH_2001.wtb --fix WTH_2001.new.wtb
+
+  {NAME} WTH_2001.wtb >list.obf
+  ffosolve-many list.obf --max-empties 24 --book-out list.book >list.report
+  {NAME} compare list.book WTH_2001.wtb
 
 status:
-  0  done; with compare: all theoretical scores are exact
+  0  done; with check or compare: all theoretical scores are exact
   1  a game is refused, or its real score is wrong or can't be checked; with
-     compare: a theoretical score is not exact, or REPORT refuses a position
+     check or compare: a theoretical score is not exact, or not compared
   2  the command line is refused, or --empties is missing
-  3  a file can't be read, or is neither a WTHOR file nor a text; LIST was
-     changed, or REPORT does not belong to it; or something can't be written
-  4  the library can't be found
+  3  a file can't be read, or is neither a WTHOR file nor a text; BOOK is not a
+     book of the scoring `winner`; something can't be written; or, with check,
+     positions are not solved
+  4  the library or ffosolve-many can't be found
 """
-DONE, REMARKED, MISUSED, UNREADABLE, NO_LIBRARY, INTERRUPTED = 0, 1, 2, 3, 4, 130
-
-
-class Stop(Exception):
-    """Ends the program or, in `list_games`, only the reading of a file. `status` is the exit status that it causes."""
-
-    def __init__(self, reason: str, status: int = UNREADABLE) -> None:
-        super().__init__(reason)
-        self.status = status
+SOLVER = "ffosolve-many"
+MANY = {  # its options that check takes: {name: (value, or "" if there is none; how the default differs)}
+    "--max-empties": ("N", "[default: as many as the positions have]"), "--lines": ("N", "[default: 10]"),
+    "--jobs": ("N", None), "--scheduler": ("ADDRESS", None), "--cut": ("", None), "--quiet": ("", None),
+    "--workers": ("N", None), "--table": ("N", None), "--book-in": ("FILE", None)}
 
 
 class Messages:
-    """Prints messages on standard error, if that can be written. `status` is the highest exit status so far."""
+    """Prints messages on standard error. `status` is the highest exit status so far."""
 
     status = DONE
 
     def report(self, reason: object, status: int) -> None:
         self.status = max(self.status, status)
-        with contextlib.suppress(OSError):
-            print(f"{NAME}: {reason}", file=sys.stderr or io.StringIO(), flush=True)
+        say(reason)
 
 
 def number_of_empties(word: str) -> int:
@@ -99,34 +98,42 @@ def number_of_empties(word: str) -> int:
 
 
 def options_of(words: List[str]) -> argparse.Namespace:
-    """The options in the command line `words`. If the first word is `compare`, `compares` is true, and `files` are LIST
-    and REPORT. Ends the program after printing the help, the version or, for wrong options, the usage and a reason."""
-    parser = argparse.ArgumentParser(
-        NAME, usage=USAGE, description=WHAT, epilog=MORE, formatter_class=argparse.RawDescriptionHelpFormatter,
-        allow_abbrev=False)
-    parser.add_argument(
-        "files", metavar="FILE", nargs="*",
-        help="WTHOR files or texts, or LIST and REPORT; `-` is standard input [default: standard input]")
+    """The options in the command line `words`. `task` is the first word if that is `check` or `compare`, else None;
+    `many` has options for ffosolve-many, {name: value, or True}. Prints the help or the version; refuses the rest."""
+    parser = Parser(USAGE, WHAT, MORE)
+    parser.add_argument("files", metavar="FILE", nargs="*",
+                        help="WTHOR files or texts; `-` is standard input [default: standard input]")
     parser.add_argument(
         "--empties", metavar="N", type=number_of_empties,
         help=f"how many squares are empty in the positions, 0 to {MOST_EMPTIES} [default: as many as for the "
-             "theoretical scores of the WTHOR file]")
-    parser.add_argument(
+             "theoretical scores of the WTHOR file]; check and compare use it only for files that do not say it")
+    parser.add_common(parser)
+    group = parser.add_argument_group("options of check and compare")
+    group.add_argument(
         "--fix", metavar="PLACE",
-        help="with compare: write the WTHOR file of LIST with the exact theoretical scores to PLACE, which must not "
-             "exist yet; or, if PLACE is a folder, all WTHOR files of LIST into it")
-    parser.add_argument(
-        "--real", action="store_true", help="with --fix: also write the real scores that the moves have")
-    parser.add_argument("--version", "-V", action="version", version=f"{NAME} {__version__}")
-    compares = words[:1] == ["compare"]
-    options = parser.parse_intermixed_args(words[compares:], argparse.Namespace(compares=compares))
-    fixes, count = options.fix is not None, len(options.files)
+        help="write the WTHOR file with the exact theoretical scores to PLACE, which must not exist yet; or, if PLACE "
+             "is a folder, all FILEs into it")
+    group.add_argument("--real", action="store_true", help="with --fix: also write the real scores that the moves have")
+    group = parser.add_argument_group("options of check, most of them for ffosolve-many")
+    group.add_argument("--folder", metavar="FOLDER", help="keeps what is solved [default: FILE.check]")
+    for name, (value, text) in MANY.items():
+        how = {"metavar": value} if value else {"action": "store_true"}
+        group.add_argument(name, help=text, **how)  # type: ignore[arg-type]
+    task = words[0] if words[:1] in (["check"], ["compare"]) else None
+    options = parser.parse_intermixed_args(words[task is not None:], argparse.Namespace(task=task))
+    given = {name: vars(options)[name[2:].replace("-", "_")] for name in MANY}
+    options.many = {name: value for name, value in given.items() if value not in (None, False)}
+    fixes, names = options.fix is not None, options.files[task == "compare":]
     for is_wrong, why in (
-        (not compares and (fixes or options.real), "--fix and --real go with compare, which has to be the first word"),
-        (compares and count != 2, f"compare takes two files, LIST and REPORT, not {count}"),
-        (compares and options.files == ["-", "-"], "LIST and REPORT can't both be standard input"),
-        (compares and options.empties is not None, "--empties does not go with compare"),
+        (not task and (fixes or options.real),
+         "--fix and --real go with check or compare, which has to be the first word"),
+        (task != "check" and (options.many or options.folder is not None),
+         f"{next(iter(options.many), '--folder')} goes with check, which has to be the first word"),
+        (task == "check" and not names, "check takes WTHOR files"),
+        (task == "compare" and not names, "compare takes a BOOK and WTHOR files"),
+        (task and "-" in names, f"{task} takes WTHOR files by their names, not standard input"),
         (options.real and not fixes, "--real goes with --fix"),
+        (fixes and options.cut, "--fix does not go with --cut"),
         (options.fix == "-", "--fix takes a file or a folder, not standard output"),
     ):
         if is_wrong:
@@ -134,61 +141,50 @@ def options_of(words: List[str]) -> argparse.Namespace:
     return options
 
 
-def main(find: Callable[[], Optional[str]] = lambda: None) -> int:
-    """Runs the program with the arguments in sys.argv, and returns its exit status. `find` returns the path of the
-    library, or None if `load` is to look for it."""
-    signal.signal(signal.SIGPIPE, signal.SIG_DFL)  # if nothing reads the output any more, the program ends silently
-    messages = Messages()
-    try:
-        if sys.stdout is None:
-            raise Stop("cannot write standard output: it is closed")
-        with open(1, "w", closefd=False) as sys.stdout:  # Python's own, if unbuffered, loses the rest of a short write
-            options = options_of(sys.argv[1:])
-            lines = (compare if options.compares else list_games)(options, find, messages)
-            sys.stdout.buffer.writelines(line + b"\n" for line in lines)
-    except LibraryNotFound as why:
-        messages.report(why, NO_LIBRARY)
-    except Stop as why:
-        messages.report(why, why.status)
-    except OSError as error:
-        messages.report(f"cannot write standard output: {error.strerror}", UNREADABLE)
-    except KeyboardInterrupt:
-        return INTERRUPTED
-    return messages.status
+def main(find: Callable[[], Optional[str]] = lambda: None) -> NoReturn:
+    """Runs the program with the arguments in sys.argv, and ends this process. `find` returns the path of the library,
+    or None if `load` is to look for it."""
+    def program() -> int:
+        options, messages = options_of(sys.argv[1:]), Messages()
+        try:
+            load(find())  # for `played`
+        except LibraryNotFound as why:
+            raise Refusal(str(why), MISSING) from None
+        task = {None: list_games, "check": check, "compare": compare}[options.task]
+        print_all(line + b"\n" for line in task(options, messages))
+        return messages.status
+
+    run(NAME, program)
 
 
-def list_games(options: argparse.Namespace, find: Callable[[], Optional[str]], messages: Messages) -> Iterator[bytes]:
-    """Yields the lines of a list: a position of each game and, if one has a theoretical score, the lines' digest."""
-    load(find())  # for `played`
-    covered, has_scores = hashlib.sha256(), False
+def list_games(options: argparse.Namespace, messages: Messages) -> Iterator[bytes]:
+    """Yields the lines of a list: a position of each game, with its theoretical score, if any, in the comment."""
     for name in options.files or ["-"]:
-        listed = shown(name) if any(letter < " " for letter in name) else name  # otherwise `--fix` can open it
+        listed = shown(name) if any(letter < " " for letter in name) else name
         try:
             with opened(name) as file:
-                for game, position in with_positions(file, name, options.empties, messages):
+                for game, position in with_positions(file, name, options, messages):
                     score = "" if game.score is None else f", theoretical score {game.score}"
-                    line = os.fsencode(f"{position.to_obf()} % {listed}, game {game.number}{score}")
-                    covered.update(line + b"\n")
-                    has_scores |= game.score is not None
-                    yield line
-        except Stop as why:
+                    yield os.fsencode(f"{position.to_obf()} % {listed}, game {game.number}{score}")
+        except Refusal as why:
             messages.report(why, why.status)
-    if has_scores:
-        yield from digest_of(covered)
 
 
-def with_positions(file: io.BufferedReader, name: str, wanted: Optional[int],
-                   messages: Messages) -> Iterator[Tuple[Game, Position]]:
-    """Yields (game, its first position with `wanted` empty squares) for each game of a file, or reports why a game has
-    none. If `wanted` is None, the number is taken from the file's header; raises Stop if there is none. A theoretical
-    score for another number of empty squares is left out. Also reports what `wrong_scores` finds."""
+def with_positions(
+    file: io.BufferedReader, name: str, options: argparse.Namespace, messages: Messages
+) -> Iterator[Tuple[Game, Position]]:
+    """Yields (game, its first position with N empty squares) for each game of a file, or reports why a game has none.
+    N is that of --empties or, without it and for `check` and `compare`, that of the file's header; refuses if there
+    is none. A theoretical score for another N is left out. Also reports what `wrong_scores` finds."""
     games, of_scores = games_in(file, shown(name))
-    empties = of_scores if wanted is None else wanted
+    if options.task and of_scores is None:
+        raise Refusal(f"{shown(name)} is a text, which has no theoretical scores")
+    empties = of_scores if options.empties is None or options.task and of_scores else options.empties
     if empties is None:
-        raise Stop(f"{shown(name)} is a text: its games need --empties N", MISUSED)
-    if wanted is None and empties == 0:
-        raise Stop(f"{shown(name)} does not say how many squares are empty at its theoretical scores; "
-                   "try --empties 22 or 24, the usual numbers", MISUSED)
+        raise Refusal(f"{shown(name)} is a text: its games need --empties N", MISUSED)
+    if options.empties is None and empties == 0:
+        raise Refusal(f"{shown(name)} does not say how many squares are empty at its theoretical scores; "
+                      "try --empties 22 or 24, the usual numbers", MISUSED)
     for game in games:
         try:
             found = played(game)
@@ -215,80 +211,125 @@ def wrong_scores(game: Game, discs: Optional[int]) -> Iterator[str]:
             yield f"its real score is {score}, but its moves give {discs}"
 
 
-def compare(options: argparse.Namespace, find: Callable[[], Optional[str]], messages: Messages) -> Iterator[bytes]:
+def check(options: argparse.Namespace, messages: Messages) -> Iterator[bytes]:
+    """Lets ffosolve-many solve the positions of theoretical scores in a folder, then yields what `compare` yields. With
+    --cut, only lets it cut their list, and yields nothing."""
+    scored, copies = scored_games(options, messages), places(options)
+    positions = dict.fromkeys(it.position for it in scored)
+    folder = f"{options.files[0]}.check" if options.folder is None else options.folder
+    listed, book = os.path.join(folder, "list.obf"), os.path.join(folder, "list.book")
+    with refusing("write", listed):
+        os.makedirs(folder, exist_ok=True)
+        write_whole({listed: (it.to_obf().encode() + b"\n" for it in positions)}, replaces=True)
+    words = {"--max-empties": max(it.empties for it in positions), "--lines": 10, **options.many, "--book-out": book}
+    solve_many([name if value is True else f"{name}={value}" for name, value in words.items()] + ["--", listed])
+    if not options.cut:
+        yield from compared(scored, book, copies, options, messages)
+
+
+def solve_many(words: List[str]) -> None:
+    """Runs ffosolve-many, which is next to this program or on the path. Refuses unless it ends with status 0."""
+    here = os.path.dirname(os.path.realpath(sys.argv[0]))
+    program = shutil.which(os.path.join(here, SOLVER)) or shutil.which(SOLVER)
+    if program is None:
+        raise Refusal(f"{SOLVER} is missing: it has to be next to {NAME}, in {here}, or on the path", MISSING)
+    words = ["setpriv", "--pdeathsig", "TERM", program, *words]  # so that it ends with this program
+    output = None if "--cut" in words else subprocess.DEVNULL
+    with refusing("run", SOLVER):
+        status = subprocess.run(words, stdin=subprocess.DEVNULL, stdout=output).returncode
+    if status:
+        raise Refusal(f"{SOLVER} has not solved all, so no score is compared", status if status > 1 else UNREADABLE)
+
+
+def compare(options: argparse.Namespace, messages: Messages) -> Iterator[bytes]:
     """Yields a line for each wrong theoretical score, and one with counts. With --fix, first writes corrected files."""
-    listed, solved = options.files
+    book, *options.files = options.files
+    yield from compared(scored_games(options, messages), book, places(options), options, messages)
+
+
+def scored_games(options: argparse.Namespace, messages: Messages) -> List[Scored]:
+    """The games with theoretical scores in WTHOR files. Refuses if there is none, or a file can't be read."""
+    scored: List[Scored] = []
+    for name in options.files:
+        if os.path.exists(name) and not os.path.isfile(name):
+            raise Refusal(f"{shown(name)} is not a regular file")
+        with opened(name) as file:
+            for game, position in with_positions(file, name, options, messages):
+                scored += [] if game.score is None else [Scored(name, game.number, position, game.score)]
+    if not scored:
+        raise Refusal("no game has a position with a theoretical score")
+    return scored
+
+
+def compared(
+    scored: List[Scored], book: str, copies: Dict[str, str], options: argparse.Namespace, messages: Messages
+) -> Iterator[bytes]:
+    """Yields what `compare` yields, for the exact scores in a book, after writing the `copies`, {path: WTHOR file}."""
     try:
-        found = Comparison(lines_of(listed), lines_of(solved))
-    except BadList as why:
-        raise Stop(f"cannot compare {shown(listed)}: {why}") from None
-    except Unfit as why:
-        raise Stop(f"{shown(solved)} is not a report of {shown(listed)}: {why}") from None
-    if options.fix is not None:
-        load(find())  # for `played`
-        fix(options.fix, found.compared, options.real, messages)
-    if found.differences or found.refused:
-        messages.status = REMARKED
-    for it in found.differences:
-        difference = f"published {it.published}, exact {it.exact}, difference {it.published - it.exact:+}"
-        yield os.fsencode(f"{it.file}, game {it.game}: {difference}")
-    yield (b"compared %d differ %d refused %d unscored %d"
-           % (len(found.compared), len(found.differences), found.refused, found.unscored))
+        with opened(book) as file:
+            exact = exact_scores(text_lines(file, shown(book)), (it.position for it in scored))
+    except BadBook as why:
+        raise Refusal(f"{shown(book)} is not a book of exact scores: {why}") from None
+    fix(copies, exact, options, messages)
+    differ = unsolved = 0
+    for it in scored:
+        if it.position not in exact:
+            unsolved += 1
+            continue
+        discs = discs_of_black(exact[it.position], it.position.side)
+        if discs != it.published:
+            differ += 1
+            difference = f"published {it.published}, exact {discs}, difference {it.published - discs:+}"
+            name = os.fsencode(f"{shown(it.file)}, game {it.game}")
+            yield name + f"{title(it.file, it.game)}: {difference}".encode()
+    if differ or unsolved:
+        messages.status = max(messages.status, REMARKED)
+    yield b"compared %d differ %d unsolved %d" % (len(scored) - unsolved, differ, unsolved)
 
 
-def fix(place: str, compared: List[Listed], with_real: bool, messages: Messages) -> None:
-    """Copies the WTHOR files that `compared` names to the new file `place` or into the folder `place`, and corrects the
-    copies as `Fixed` does. Raises Stop if that fails, and otherwise reports how many scores changed."""
-    of_files: Dict[str, List[Listed]] = {}
-    for it in compared:
-        of_files.setdefault(it.file, []).append(it)
-    if not of_files:
-        raise Stop("no theoretical score is compared, so --fix has none to write")
-    paths = [os.path.join(place, os.path.basename(name)) for name in of_files] if os.path.isdir(place) else [place]
-    if len(paths) < len(of_files):
-        raise Stop(f"--fix takes a folder, since the list names {len(of_files)} WTHOR files")
-    if len(set(paths)) < len(of_files):
-        raise Stop("two WTHOR files of the list have one name, so --fix can't write them into one folder")
+def places(options: argparse.Namespace) -> Dict[str, str]:
+    """{new path: WTHOR file to copy there} for --fix. Refuses if two have one path, or a file can't be new there."""
+    if options.fix is None:
+        return {}
+    place, names = options.fix, options.files
+    paths = [os.path.join(place, os.path.basename(name)) for name in names] if os.path.isdir(place) else [place]
+    if len(paths) < len(names):
+        raise Refusal(f"--fix takes a folder, since {len(names)} WTHOR files are named")
+    if len(set(paths)) < len(names):
+        raise Refusal("two of the WTHOR files have one name, so --fix can't write them into one folder")
+    for path in paths:
+        if os.path.lexists(path):
+            raise Refusal(f"{shown(path)} already exists and would be overwritten")
+        if not os.access(os.path.dirname(path) or ".", os.W_OK):
+            raise Refusal(f"cannot write {shown(path)}: its folder is missing, or may not be written")
+    return dict(zip(paths, names))
+
+
+def fix(copies: Dict[str, str], exact: Dict[Position, int], options: argparse.Namespace, messages: Messages) -> None:
+    """Writes copies of WTHOR files, {path: file}, and corrects them as `Fixed` does. Refuses if that fails, and
+    otherwise reports how many scores changed."""
+    if copies and not exact:
+        raise Refusal("no theoretical score is compared, so --fix has none to write")
     with contextlib.ExitStack() as stack:
-        fixed: Dict[str, Fixed] = {}
+        fixed = {path: Fixed(stack.enter_context(opened(name)), shown(name), exact, options.empties, options.real)
+                 for path, name in copies.items()}
         try:
-            for path, (name, of_file) in zip(paths, of_files.items()):
-                if os.path.lexists(path):
-                    raise FileExistsError(errno.EEXIST, "it exists", path)
-                fixed[path] = Fixed(shown(name), stack.enter_context(opened_again(name)), of_file, with_real)
-            write_new(fixed)
+            write_whole(fixed)
         except FileExistsError as error:
-            raise Stop(f"{shown(error.filename)} already exists and would be overwritten") from None
-        except Unfit as why:
-            raise Stop(str(why)) from None
+            raise Refusal(f"{shown(error.filename)} already exists and would be overwritten") from None
+        except NotText as why:
+            raise Refusal(str(why)) from None
         except OSError as error:
-            raise Stop(f"cannot write {shown(error.filename)}: {error.strerror}") from None
+            raise Refusal(f"cannot write {shown(error.filename)}: {error.strerror}") from None
     for path, copy in fixed.items():
         messages.report(f"{shown(path)}: {copy.summary()}", DONE)
 
 
-def opened_again(name: str) -> io.BufferedReader:
-    """Opens a WTHOR file that a list names. Raises Stop if the file can't be read or is not a regular file."""
-    try:
-        if not stat.S_ISREG(os.stat(name).st_mode):
-            raise Stop(f"{shown(name)}, which the list names, is not a regular file")
-        return open(name, "rb")
-    except OSError as error:
-        raise Stop(f"cannot read {shown(name)}, which the list names: {error.strerror}") from None
-
-
-def lines_of(name: str) -> Iterator[bytes]:
-    with opened(name) as file:
-        yield from text_lines(file, shown(name))
-
-
 @contextlib.contextmanager
 def opened(name: str) -> Iterator[io.BufferedReader]:
-    """Opens a file, or standard input for `-`. OSError and NotText, also in the body of the `with`, become Stop."""
+    """Opens a file, or standard input for `-`. OSError and NotText, also in the body of the `with`, become Refusal."""
     try:
-        with open(0 if name == "-" else name, "rb", closefd=name != "-") as file:
+        with refusing("read", name), open(0 if name == "-" else name, "rb", closefd=name != "-") as file:
             yield file
     except NotText as why:
-        raise Stop(str(why)) from None
-    except OSError as error:
-        raise Stop(f"cannot read {shown(name)}: {error.strerror}") from None
+        raise Refusal(str(why)) from None

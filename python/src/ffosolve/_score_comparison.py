@@ -6,7 +6,7 @@ from typing import Any, Iterator, List, NamedTuple, Tuple, Union
 from ._positions import LINE, MOVES, Line, Source, lines_of, read_line, without_end
 from ._refusals import LineRefused, NoPosition
 
-SCORE = re.compile(rb"([A-Ha-h][1-8]|[Pp][Ss]|--):([+-]?(?:\d+\.?\d*|\.\d+))")
+SCORE = re.compile(rb"([A-Ha-h][1-8]|[Pp][Ss]|--):([+-]?(?:\d{1,15}(?:\.\d*)?|\.\d+))")
 Number = Union[int, float]
 
 
@@ -42,8 +42,9 @@ class ScoreComparison(NamedTuple):
 
 def compare_scores(listed: Source, scored: Source) -> ScoreComparison:
     """Compares the scores of a list with the exact ones, which `ffoscores` printed for the list. Each argument is a
-    path, an open file or an iterable of lines. A listed score may be any decimal number, such as +61.5. Raises
-    ValueError if a line of `scored` does not answer the position in the same line of `listed`.
+    path, an open file or an iterable of lines. A listed score may be any decimal number with up to 15 digits before its
+    point, such as +61.5. Raises ValueError if a line of `scored` does not score each legal move of the position in the
+    same line of `listed`, LibraryNotFound, and OSError and TypeError as `read_lines` does.
 
         ffoscores list.obf >list.scores
 
@@ -83,9 +84,16 @@ def pairs_of(listed: Source, scored: Source) -> Iterator[Tuple[int, Any, Any]]:
         if isinstance(line, NoPosition) and isinstance(exact, NoPosition):
             continue
         is_refused = isinstance(exact, NoPosition) and without_end(answer).startswith(b"% refused: ")
-        if not is_refused and (not isinstance(line, Line) or exact != line):
+        answers = isinstance(line, Line) and isinstance(exact, Line) and exact == line and has_all_moves(exact)
+        if not is_refused and not answers:
             raise ValueError(f"line {number} of the scores is not what ffoscores prints for line {number} of the list")
         yield number, text, None if is_refused else exact
+
+
+def has_all_moves(line: Line) -> bool:
+    """Whether a line has a score for each legal move, and for no other. A pass and the end of a game count as moves."""
+    moves = line.legal_moves or ["PS" if line.must_pass else "--"]
+    return sorted(move for move, _ in line.listed) == sorted(moves)
 
 
 def found_in(text: Union[str, bytes], number: int) -> Union[Line, LineRefused]:

@@ -4,6 +4,7 @@ from typing import BinaryIO, Iterator, Union
 
 MOST_BYTES = 1_048_576  # in a line with its end; ffosolve takes as many in a whole list
 MARKS = (b"\xef\xbb\xbf", b"\xff\xfe", b"\xfe\xff")  # byte-order marks of UTF-8 and UTF-16
+ARCHIVES = (b"PK\3\4", b"\x1f\x8b")  # how a .zip and a .gz begin
 
 
 class NotText(ValueError):
@@ -12,11 +13,13 @@ class NotText(ValueError):
 
 def text_lines(file: BinaryIO, name: str, may_have_nul: bool = False) -> Iterator[bytes]:
     """Yields the lines of a text, with their line ends. Raises NotText, with `name` in the message, if the text
-    begins with a byte-order mark, ends its lines with CR alone, has a line of more than MOST_BYTES bytes, or has a NUL
-    byte and `may_have_nul` is false."""
+    begins with a byte-order mark or like an archive, ends its lines with CR alone, has a line of more than MOST_BYTES
+    bytes, or has a NUL byte and `may_have_nul` is false."""
     number, line = 1, file.readline(MOST_BYTES + 1)
     if line.startswith(MARKS):
         raise NotText(f"cannot read {name}: it begins with a byte-order mark")
+    if line.startswith(ARCHIVES):
+        raise NotText(f"cannot read {name}: it is an archive (.zip or .gz), so unpack it first")
     if not line.endswith(b"\n") and b"\r" in line.rstrip() and b"\0" not in line:
         raise NotText(f"cannot read {name}: its lines end with CR alone")
     while line:

@@ -1,4 +1,4 @@
-"""Transcripts: the moves of a game in a line of text."""
+"""Transcripts: the moves of a game in a line of text, also in GGF (https://skatgame.net/mburo/ggsa/ggf)."""
 import re
 from typing import List
 
@@ -17,9 +17,41 @@ TOKEN = re.compile(
 )
 
 
+HEADERS = re.compile(r"\s*(?:\[[^\[\]]*\]\s*)+")  # such as [Event "Final"] [Black "Ann"]
+GGF = re.compile(r"\s*(?:\d+\s*)?\(;")
+PROPERTY = re.compile(r"([A-Z]+)\[((?:[^\]\\]|\\.)*)\]")
+GGF_START = f"8{27 * '-'}O*{6 * '-'}*O{27 * '-'}*"  # 8 by 8 squares, the usual discs, Black to move; without blanks
+
+
 def words_of(text: str) -> List[str]:
     """The words of a transcript, in small letters: squares without blanks inside, passes (several hyphens become `--`)
-    and other text in words of one or two characters. Skips blanks, commas, a hyphen between moves, move numbers such as
-    `1.` and `12`, a result at the end such as `33-31` or `+2`, and everything from `%` on."""
+    and other text in words of one or two characters. Skips headers in brackets before the moves, blanks, commas, a
+    hyphen between moves, move numbers such as `1.` and `12`, a result at the end such as `33-31` or `+2`, and
+    everything from `%` on. Of a game in GGF, `(;GM[Othello] .. ;)`, has the moves; raises ValueError as `ggf_words`."""
+    if GGF.match(text):
+        return ggf_words(text)
+    text = HEADERS.sub("", text, 1) if HEADERS.match(text) else text
     words = (move or other for move, other in TOKEN.findall(text.partition("%")[0].lower()))
     return [word if len(word) < 3 else "--" if word[0] == "-" else "".join(word.split()) for word in words if word]
+
+
+def ggf_words(text: str) -> List[str]:
+    """The moves and passes of a game in GGF, the format of the Generic Game Server. Where one side moves twice, there
+    is a pass between. Raises ValueError for other or several games, a part of one, and another first position."""
+    found = PROPERTY.findall(text)
+    properties = {name: "".join(value.split()) for name, value in found}
+    for is_wrong, why in (
+        (text.count("(;") > 1, "a line has one game, but this has several in GGF"),
+        (not text.rstrip().endswith(";)"), "it begins like a game in GGF, but does not end with `;)`"),
+        (properties.get("GM", "").lower() != "othello", "it is a game in GGF or SGF without GM[Othello]"),
+        (properties.get("BO", GGF_START) != GGF_START, "it is in GGF, and does not begin from the usual position"),
+    ):
+        if is_wrong:
+            raise ValueError(why)
+    words: List[str] = []
+    mover = "B"
+    for name, value in found:
+        if name in ("B", "W"):
+            words += ["pa"] * (name != mover) + [value.partition("/")[0].strip().lower()]
+            mover = "W" if name == "B" else "B"
+    return words

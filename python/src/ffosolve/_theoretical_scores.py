@@ -1,0 +1,90 @@
+"""Theoretical scores, which WTHOR files give for perfect play from a position of each game, and the exact scores of
+these positions in a book, which ffosolve and ffosolve-many write (`--book-out`)."""
+import contextlib
+import functools
+import os
+import re
+import struct
+from typing import Dict, Iterable, Iterator, List, NamedTuple, Tuple
+
+from ._games import HEADER, RECORD
+from ._positions import Position
+
+FIRST_LINE = b"% ffobook 2 winner"
+ENTRY = re.compile(rb"([XO-]{64}) X;(?: (?:PS|--):([+-]\d\d);| [A-H][1-8]:([+-]\d\d);(?: [A-H][1-8]:\3;)*)")
+YEAR = struct.Struct("<10x H")  # in the header of a WTHOR file
+NUMBERS = struct.Struct("<HHH")  # in a game's record: the numbers, from 0, of the tournament, of Black and of White
+PLAYER, TOURNAMENT = 20, 26  # bytes of a name, with the NUL after it, in a file of players or tournaments
+
+
+class BadBook(ValueError):
+    """A file is not a book of the scoring `winner`, or a line of it can't be one that ffosolve wrote."""
+
+
+class Scored(NamedTuple):
+    """A game of a WTHOR file that has a theoretical score: the file's name, the game's place in it from 1, the position
+    that the score is for, and the score that the file publishes, in Black's discs."""
+
+    file: str
+    game: int
+    position: Position
+    published: int
+
+
+def exact_scores(book: Iterable[bytes], wanted: Iterable[Position]) -> Dict[Position, int]:
+    """Returns {position: exact score for its mover} for each wanted position that a book has. `book` are the lines of
+    the book's text. Raises BadBook."""
+    boards = dict(entries(book))
+    found = ((position, image) for position in wanted for image in images(position.to_obf("X")[:64].encode()))
+    return {position: boards[image] for position, image in found if image in boards}
+
+
+def entries(book: Iterable[bytes]) -> Iterator[Tuple[bytes, int]]:
+    """Yields (board, score for the mover, X) for each entry of a book, which has one of a position's eight images."""
+    lines = (line.rstrip(b"\r\n") for line in book)
+    if next(lines, b"") != FIRST_LINE:
+        raise BadBook(f"it does not begin with `{FIRST_LINE.decode()}`, as what ffosolve-many --book-out writes")
+    for number, line in enumerate(lines, 2):
+        match = ENTRY.fullmatch(line)
+        if match is None:
+            raise BadBook(f"its line {number} is not an entry of a book")
+        score = int(match[2] or match[3])
+        if abs(score) > 64 or score % 2:
+            raise BadBook(f"its line {number} has the score {score:+03}, with which no game ends")
+        yield match[1], score
+
+
+def images(board: bytes) -> Iterator[bytes]:
+    """Yields the eight turned and mirrored images of a board, which has 64 squares in the order A1, B1, .. H8."""
+    for squares in (board, b"".join(board[column::8] for column in range(8))):
+        rows = [squares[at:at + 8] for at in range(0, 64, 8)]
+        for upright in (rows, rows[::-1]):
+            yield b"".join(upright)
+            yield b"".join(row[::-1] for row in upright)
+
+
+def title(file: str, game: int) -> str:
+    """The year, players and tournament of a game of a WTHOR file, as ` (2001, Ann - Bob, Open)`. Leaves out what the
+    files do not say: players are in the one file .jou of its folder, and tournaments in the one file .trn."""
+    parts: List[str] = []
+    with contextlib.suppress(OSError, struct.error):
+        with open(file, "rb") as games:
+            parts += [str(year) for year in YEAR.unpack(games.read(YEAR.size)) if year]
+            games.seek(HEADER.size + RECORD * (game - 1))
+            tournament, *players = NUMBERS.unpack(games.read(NUMBERS.size))
+        for suffix, size, numbers in ((".jou", PLAYER, players), (".trn", TOURNAMENT, [tournament])):
+            names = names_beside(os.path.dirname(file) or ".", suffix, size)
+            parts += [" - ".join(names[number] for number in numbers)] if max(numbers) < len(names) else []
+    return f" ({', '.join(parts)})" if parts else ""
+
+
+@functools.lru_cache(maxsize=None)
+def names_beside(folder: str, suffix: str, size: int) -> List[str]:
+    """The names in a folder's one file with a suffix, each in `size` bytes; [] if there is none or more than one."""
+    found = [entry.path for entry in os.scandir(folder) if entry.name.lower().endswith(suffix) and entry.is_file()]
+    if len(found) != 1:
+        return []
+    with open(found[0], "rb") as file:
+        records = file.read()[HEADER.size:]
+    names = (records[at:at + size].partition(b"\0")[0].decode("latin-1") for at in range(0, len(records), size))
+    return ["".join(filter(str.isprintable, name)).strip() for name in names]
