@@ -2,6 +2,7 @@
 A theoretical score is what a WTHOR file claims for perfect play from a position of a game."""
 import os
 import re
+import shutil
 import signal
 import stat
 import sys
@@ -499,12 +500,51 @@ def test_check_refuses_before_it_solves():
     assert os.listdir("it.wtb.check") == []
 
 
-def test_check_without_ffosolve_many_says_so(folder):
+@pytest.fixture
+def alone(folder):
+    """A function that runs a copy of `ffosolve-games check`, with words, which has no ffosolve-many beside it; the path
+    has only that in the folder `tools`, and setpriv."""
     run("cp", "-r", "--parents", "bin/ffosolve-games", "python/src", "VERSION", folder, cwd=ROOT, check=True)
-    ran = run(sys.executable, "bin/ffosolve-games", *CHECK, env={**os.environ, "PATH": "/usr/bin:/bin"}, text=True)
+    os.mkdir("tools")
+    os.symlink(shutil.which("setpriv"), "tools/setpriv")
+    return lambda *words, **places: run(sys.executable, "bin/ffosolve-games", "check", *words, text=True,
+                                        env={**os.environ, "PATH": f"{folder}/tools", **places})
+
+
+def test_check_without_ffosolve_many_says_so(folder, alone):
+    ran = alone("it.wtb")
     assert ran.stderr.splitlines()[-1] == ("ffosolve-games: ffosolve-many is missing: it has to be next to "
                                            f"ffosolve-games, in {folder}/bin, or on the path")
     assert (ran.returncode, ran.stdout) == (4, "")
+
+
+LISTED = "--book-out={0}/list.book -- {0}/list.obf"
+OPTIONS = ("--max-empties=4", "--lines=x", "--jobs=7", "--scheduler=h1:8786", "--cut", "--quiet", "--workers=2",
+           "--table=0", "--book-in=a b")
+
+
+@pytest.mark.parametrize("words, given", (
+    (["it.wtb"], f"--max-empties={EMPTIES} --lines=10 {LISTED.format('it.wtb.check')}"),
+    (["--folder", "a", "22.wtb", "it.wtb"], f"--max-empties=22 --lines=10 {LISTED.format('a')}"),
+    (["it.wtb", "--lines=20", "--quiet"], f"--max-empties={EMPTIES} --lines=20 --quiet "
+                                          + LISTED.format("it.wtb.check")),
+    (["it.wtb", *OPTIONS], f"{' '.join(OPTIONS)} {LISTED.format('it.wtb.check')}"),
+))
+def test_ffosolve_many_gets_the_options(alone, words, given):
+    write("22.wtb", wthor([record(PLAYED[0])], empties=22))
+    write("tools/ffosolve-many", '#!/bin/sh\necho "$*" >words\nread -r line || echo output && exit 3\n')
+    ran = alone(*words)
+    assert Path("words").read_text() == given + "\n"
+    assert ran.stdout == "output\n" * ("--cut" in words)
+
+
+@pytest.mark.parametrize("end, status", (("exit 1", 3), ("exit 2", 2), ("exit 3", 3), ("exit 4", 4), ("kill $$", 3)))
+def test_the_status_is_that_of_ffosolve_many_if_it_fails(alone, end, status):
+    write("tools/ffosolve-many", f"#!/bin/sh\n{end}\n")
+    ran = alone("it.wtb")
+    assert ran.stderr == (f"ffosolve-games: {GOES_ON}ffosolve-games: ffosolve-many has not solved all, so no score is "
+                          "compared\n")
+    assert (ran.returncode, ran.stdout) == (status, "")
 
 
 def test_the_commands_of_guide_and_help_check_and_fix_a_file(solver):

@@ -160,14 +160,21 @@ def test_files_of_games_are_read(board, kind):
     (wthor([GAME_RECORD], kind=2), "byte 14 of its header is 2, and has to be 0 or 1"),
     (wthor([GAME_RECORD], empties=61), "its theoretical scores are for 61 empty squares, but a game has only 60"),
     (b"f5d6c3d3c4f4c5b3c2\n", "it begins like a text"),
-    (b"PK\3\4" + bytes(40), "it is an archive (.zip or .gz), so unpack it first"),
-    (gzip.compress(wthor([GAME_RECORD]), mtime=0), "it is an archive (.zip or .gz), so unpack it first"),
 ))
 def test_a_file_of_another_kind_is_refused(content, why):
     for name in ("NONE.WTB", "none.wtb"):
         reads(name, content, status=3, err=f"{name} is not a WTHOR file of games: {why}")
     write("it.wtb", wthor([GAME_RECORD]))
     games("none.wtb", "it.wtb", status=3, out=LINE, err=f"none.wtb is not a WTHOR file of games: {why}")
+
+
+@pytest.mark.parametrize("name", ("it.wtb", "it", "it.zip"))
+def test_an_archive_is_told_as_what_it_is(name):
+    """Of the first kind of .zip, the first line has no NUL byte."""
+    for content in (b"PK\3\4\n\0\r\0", b"PK\3\4\24\0\r\0", gzip.compress(wthor([GAME_RECORD]))):
+        for words in (["--empties=20"], [], ["check"], ["compare", "none"]):
+            err = f"cannot read {name}: it is an archive (.zip or .gz), so unpack it first"
+            reads(name, content, *words, status=3, err=err)
 
 
 PLAIN = {empties: line_of(position, "it.wtb, game 1") for empties, position in AT.items()}

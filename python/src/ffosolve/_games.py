@@ -10,7 +10,7 @@ from ._library import CPosition, loaded
 from ._positions import START, Position
 from ._rules import NO_SQUARE, illegal_move, moves, size_of
 from ._squares import NAMES, square_name
-from ._text import ARCHIVES, NotText, text_lines
+from ._text import NotText, refuse_archive, text_lines
 from ._transcripts import PASSES, words_of
 
 PASS = 64  # instead of a square's number
@@ -115,6 +115,7 @@ def read_games(
 def games_in(file: Any, name: str) -> Tuple[Iterator[Game], Optional[int]]:
     """Returns (games of a file, number of empty squares in its header). The number is 0 if a WTHOR file gives none, and
     None for a text. Raises NotText; if the file is taken for a text, only while the games are iterated over."""
+    refuse_archive(file.peek(4), name)
     if not name.lower().endswith(".wtb") and file.peek(1)[:1].strip(TEXT) == b"":
         lines = enumerate(text_lines(file, name), 1)
         games = (Game.of_text(line.decode("utf-8", "replace"), number) for number, line in lines)
@@ -132,7 +133,6 @@ def read_header(file: BinaryIO, name: str) -> Tuple[int, int]:
     for is_wrong, why in (
         (not head, "it is empty"),
         (len(head) < HEADER.size, f"it ends within its header of {HEADER.size} bytes"),
-        (head.startswith(ARCHIVES), "it is an archive (.zip or .gz), so unpack it first"),
         (b"\0" not in head, "it begins like a text"),
         (board not in (0, 8), f"its board has {board} by {board} squares"),
         (other, f"its header counts {other} records of another kind, like a file of players or tournaments"),

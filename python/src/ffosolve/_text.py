@@ -18,8 +18,7 @@ def text_lines(file: BinaryIO, name: str, may_have_nul: bool = False) -> Iterato
     number, line = 1, file.readline(MOST_BYTES + 1)
     if line.startswith(MARKS):
         raise NotText(f"cannot read {name}: it begins with a byte-order mark")
-    if line.startswith(ARCHIVES):
-        raise NotText(f"cannot read {name}: it is an archive (.zip or .gz), so unpack it first")
+    refuse_archive(line, name)
     if not line.endswith(b"\n") and b"\r" in line.rstrip() and b"\0" not in line:
         raise NotText(f"cannot read {name}: its lines end with CR alone")
     while line:
@@ -29,6 +28,12 @@ def text_lines(file: BinaryIO, name: str, may_have_nul: bool = False) -> Iterato
             raise NotText(f"cannot read {name}: its line {number} has a NUL byte, so it is not a text")
         yield line
         number, line = number + 1, file.readline(MOST_BYTES + 1)
+
+
+def refuse_archive(head: bytes, name: str) -> None:
+    """Raises NotText, with `name` in the message, if `head`, how a file begins, is that of an archive."""
+    if head.startswith(ARCHIVES):
+        raise NotText(f"cannot read {name}: it is an archive (.zip or .gz), so unpack it first")
 
 
 def shown(name: Union[str, "os.PathLike[str]"]) -> str:
