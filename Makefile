@@ -91,15 +91,21 @@ levels: $(programs:%=out/%) library $(objects:.o=) $(libraries)
 comma = ,
 settings = crates/program_settings/src/*.rt
 constants: empties = $(call constant,DEFAULT_EMPTIES,$(settings))
-constants: ## writes the version, the size of the largest table and the default of --max-empties where they are repeated
+constants: workers = $(call constant,DEFAULT_WORKERS,$(settings))
+constants: table = $(call constant,DEFAULT_ENTRIES,$(settings))
+constants: ## writes the version, the size of the largest table and the defaults of options where they are repeated
 	sed -i -E 's/^(pub const VERSION: &str = ").*"/\1$(version)"/; s/^(pub const VERSION_NUMBER: .* = ).*;/\1$(shell echo $(number) | sed 's/...$$/_&/');/' $(settings)
-	sed -i -E 's/^(pub const DEFAULT_EMPTIES_TEXT: &str = ").*"/\1$(empties)"/' $(settings)
+	sed -i -E -e 's/^(pub const DEFAULT_EMPTIES_TEXT: &str = ").*"/\1$(empties)"/' \
+	    -e 's/^(pub const DEFAULT_WORKERS_TEXT: &str = ").*"/\1$(workers)"/' \
+	    -e 's/^(pub const DEFAULT_ENTRIES_TEXT: &str = ").*"/\1$(subst _,,$(table))"/' $(settings)
 	sed -i -E 's/^(version = ").*"/\1$(version)"/' rust/Cargo.toml
-	sed -i -E 's/(MOST_ENTRIES(: usize)? = )[0-9_]+/\1$(entries)/; s/(max_empties: int = )[0-9]+/\1$(empties)/' \
-	    python/src/ffosolve/_library.py python/src/ffosolve/_solvers.py rust/src/solvers.rs
+	sed -i -E -e 's/(MOST_ENTRIES(: usize)? = )[0-9_]+/\1$(entries)/' \
+	    -e 's/(max_empties: int = |DEFAULT_EMPTIES: usize = |takes positions with up to )[0-9]+/\1$(empties)/' \
+	    python/src/ffosolve/__init__.py python/src/ffosolve/_library.py python/src/ffosolve/_solvers.py rust/src/solvers.rs
 	sed -i -E 's/(has at most )[0-9,]+( entries)/\1$(subst _,$(comma),$(entries))\2/; s/( empties, limit )[0-9]+/\1$(empties)/' \
 	    docs/user-guide.md examples/kinds.report examples/kinds.scores
-	sed -i -E 's/^(\| `--max-empties N` .* )[0-9]+ \|$$/\1$(empties) |/' README.md
+	sed -i -E -e 's/^(\| `--max-empties N` .* )[0-9]+ \|$$/\1$(empties) |/' -e 's/^(\| `--workers N` .* )[0-9]+ \|$$/\1$(workers) |/' \
+	    -e 's/^(\| `--table N` .* )[0-9,]+ \|$$/\1$(subst _,$(comma),$(table)) |/' README.md
 
 has_rt = command -v rt >/dev/null || { echo 'rt (rattle-kit-13b or rattle-kit-13f) is not on the path' >&2; exit 4; }
 look: export list = $(LIST)

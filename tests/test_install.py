@@ -245,14 +245,20 @@ class Install(Case):
         table, settings, *others = (
             "crates/bound_table/src/bound_table.rt", "crates/program_settings/src/limits.rt", "rust/Cargo.toml",
             "README.md", "docs/user-guide.md", "examples/kinds.report", "examples/kinds.scores", "rust/src/solvers.rs",
-            "python/src/ffosolve/_library.py", "python/src/ffosolve/_solvers.py")
+            "python/src/ffosolve/__init__.py", "python/src/ffosolve/_library.py", "python/src/ffosolve/_solvers.py")
         entries = re.search(r"MOST_ENTRIES: usize = (\w+)", stored(table).decode())[1]
-        empties = re.search(r"DEFAULT_EMPTIES: u8 = (\d+)", stored(settings).decode())[1]
+        empties, workers, size = (re.search(rf"DEFAULT_{name} = (\w+)", stored(settings).decode())[1]
+                                  for name in ("EMPTIES: u8", "WORKERS: u8", "ENTRIES: u32"))
         for source, *pairs in (
             ("VERSION", (VERSION, "1.12.3"), (f"{NUMBER:_}", "11_203")),
             (table, (entries, "1_234_567"), (entries.replace("_", ","), "1,234,567")),
             (settings, *((form.format(empties), form.format(7)) for form in (
-                "u8 = {}", '"{}"', "0 to 60 | {} |", "max_empties: int = {}", " empties, limit {}"))),
+                "u8 = {}", '"{}"', "0 to 60 | {} |", "EMPTIES: usize = {}", "max_empties: int = {}",
+                " empties, limit {}", "takes positions with up to {} "))),
+            (settings, *((form.format(workers), form.format(9)) for form in (
+                "WORKERS: u8 = {}", 'TEXT: &str = "{}"', "beyond one in all) | {} |"))),
+            (settings, (f"u32 = {size}", "u32 = 123_456"), (size.replace("_", '') + '"', '123456"'),
+             (f"bytes each | {size.replace('_', ',')} |", "bytes each | 123,456 |")),
         ):
             for name in ("Makefile", "packaging/packages.mk", "VERSION", table, settings, *others):
                 write(name, stored(name))

@@ -160,7 +160,8 @@ fn write_front<R: Threads, W: Write>(
     Ok(())
 }
 
-// The greatest number of chunks that wait to be printed while another is started.
+// The greatest number of chunks that wait to be printed while another is started. Behind a line that
+// takes hours they need 50 MB if each has eight lines.
 const MOST_STARTED: usize = 4095;
 
 // Prints the front chunks that are scored, and waits until at most `most` are left and another
