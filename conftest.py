@@ -13,6 +13,7 @@ from pathlib import Path
 import pytest
 
 pytest.register_assert_rewrite("tests.support", "tests.games")
+from tests.support import as_at_a_login  # noqa: E402 - pytest rewrites the assertions of what is imported later
 
 ROOT = Path(__file__).parent
 PR_SET_CHILD_SUBREAPER = 36  # of prctl(2)
@@ -66,7 +67,8 @@ def start():
     `how` are keyword arguments of subprocess.Popen, which change this or add to it."""
     with contextlib.ExitStack() as stack:
         def begin(*words, **how):
-            how = {"stdin": subprocess.DEVNULL, "stdout": subprocess.PIPE, "stderr": subprocess.PIPE, **how}
+            piped = dict.fromkeys(("stdout", "stderr"), subprocess.PIPE)
+            how = {"stdin": subprocess.DEVNULL, **piped, "preexec_fn": as_at_a_login, **how}
             ran = subprocess.Popen(list(map(str, words)), **how)
             stack.callback(lambda: (ran.poll() is None and ran.kill(), ran.communicate()))
             return ran
@@ -92,6 +94,11 @@ def pytest_runtest_makereport():
 @pytest.hookimpl(hookwrapper=True)
 def pytest_make_collect_report():
     fail((yield).get_result())
+
+
+def pytest_collection_modifyitems(items):
+    """Puts tests with a mark `timeout`, which may take longest, first."""
+    items.sort(key=lambda item: -max((mark.args[0] for mark in item.iter_markers("timeout")), default=0))
 
 
 def pytest_sessionstart(session):

@@ -40,10 +40,9 @@ class Some(unittest.TestCase):
 def test_each_fault_of_a_test_is_reported(folder, ci, skipped, counts):
     need("git")
     run("git", "init", "-q", check=True)
-    run("cp", "conftest.py", "setup.cfg", ".gitignore", folder, cwd=ROOT, check=True)
+    run("cp", "--parents", "conftest.py", "setup.cfg", ".gitignore", "tests/support.py", folder, cwd=ROOT, check=True)
     write("tests/test_faults.py", FAULTS)
     write("tests/test_missing.py", "import pytest\npytest.importorskip('no_such')\n")
-    write("tests/support.py", "")
     words = (sys.executable, "-m", "pytest", "-n", "2", "-o", "timeout=7", "-o", "testpaths=tests")
     ran = run("sh", "-c", 'trap "" INT; exec "$@"', "sh", *words, env={**NO_CI, **ci}, text=True)
     found = set(re.findall(r"^(?:FAILED|ERROR) (?:tests/)?(\S+)", ran.stdout, re.M))
