@@ -80,20 +80,15 @@ def status():
     return subprocess.run("git status --porcelain 2>&1", shell=True, cwd=ROOT, capture_output=True, text=True).stdout
 
 
-def fail(report):
+@pytest.hookimpl(hookwrapper=True)
+def pytest_runtest_makereport():
     """Makes a skipped test or module a failure if the variable CI is true."""
+    report = (yield).get_result()
     if report.skipped and os.environ.get("CI") == "true":
         report.outcome, report.longrepr = "failed", f"{report.longrepr[2]}, but with CI=true no test is skipped"
 
 
-@pytest.hookimpl(hookwrapper=True)
-def pytest_runtest_makereport():
-    fail((yield).get_result())
-
-
-@pytest.hookimpl(hookwrapper=True)
-def pytest_make_collect_report():
-    fail((yield).get_result())
+pytest_make_collect_report = pytest_runtest_makereport
 
 
 def pytest_collection_modifyitems(items):
