@@ -3,7 +3,9 @@ import ctypes
 import resource
 import timeit
 
-from .prefix import PREFIX, setUpModule
+import pytest
+
+from .prefix import PREFIX, TESTS, C, setUpModule
 from .support import InFolder, built, limited, run, stored
 from ffosolve import MOST_ENTRIES, Position
 from ffosolve._library import CAnswer, CMoveScores, load
@@ -12,6 +14,7 @@ from ffosolve._rules import c_positions
 KINDS = stored("examples", "kinds.obf").decode()
 HARD = b"-XXXXX----XOOX--XXXXOOOO-OXOOOO-OOXOOX--OOX-OOOOOXXXXXX-X----XXX O\n"  # 17 empty squares
 ADVISED = b"-XOOOO-X-XOOOOX--OOXOOXX-OOXXOXO-OXOXXO-OOOXOOX-OOXOOO--OX--O--- X\n"  # a third of the time with a book
+MOVES = b"-OOOOO-X--OOOOXOOXXOXXOOXXXOXOOOOXOXO---OOXOO---O-OOO---O-XXX--- X\n"  # 17 empty squares
 AGAIN = 8  # how often a position is repeated
 LIMIT = 64 << 20  # bytes of memory: enough for the default table, not for the greatest
 OUT_OF_MEMORY = {"ffosolve": (1, "", "ffosolve: out of memory\n"), "ffoscores": (3, "", "ffoscores: out of memory\n")}
@@ -63,3 +66,28 @@ class Runs(InFolder):
                 apart = seconds(lambda: [solve(call, record, 1) for _ in range(AGAIN)])
                 together = seconds(lambda: solve(call, record, AGAIN))
                 self.assertLess(together, apart / 4)
+
+
+def masks(line):
+    return "{0.own} {0.opp}".format(Position.from_obf(line))
+
+
+def spent_by(*calls):
+    """Returns the seconds of each call, which is written as in tests/library_calls.c."""
+    program = PREFIX.compile(C, "calls", [TESTS / "library_calls.c"])
+    return [seconds(lambda: PREFIX.make(program, text=call)) for call in calls]
+
+
+@pytest.mark.parametrize("call", [
+    f"solve {masks(HARD)} 0 {{}}",
+    f"confirm {masks(HARD)} 0 {{}} -16 0 0",  # it is worth -18
+    f"move_scores {masks(MOVES)} 0 {{}}",
+])
+def test_a_call_for_one_position_uses_its_table(call):
+    usual, without = spent_by(call.format(65_536), call.format(0))
+    assert usual < without / 1.3
+
+
+def test_a_call_with_a_right_claim_takes_less_time():
+    solved, confirmed = spent_by(f"solve {masks(ADVISED)} 0 65536", f"confirm {masks(ADVISED)} 0 65536 -14 0 0")
+    assert confirmed < solved / 1.5
