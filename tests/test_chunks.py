@@ -18,7 +18,7 @@ def lines(empties, count=8):
     pytest.param(lines(7), 0, id="a line of 7 has none"),
     pytest.param(lines(10, 3) + lines(12, 2) + lines(10, 3), 4, id="a line of 12 has one behind and before others"),
     pytest.param(b"".join(b" \t" * 32 + line for line in lines(12).splitlines(True)), 8, id="blanks don't count"),
-    pytest.param(b"".join(b" %% %b\n" % (b"-" * 60) for _ in range(8)), 0, id="nor do comments"),
+    pytest.param(b"".join(b" %% %b\n" % (b"-" * 16) for _ in range(8)), 0, id="nor do comments"),
     pytest.param(HOURS * 8, 0, id="nor lines that are refused"),
 ])
 def test_seven_workers_score_a_list(folder, text, threads):
