@@ -74,22 +74,18 @@ def line_of(position, comment):
 
 
 def book_of(positions):
-    """Returns a book with the exact scores of positions, but `--` in place of the best moves. Each position is turned
-    or mirrored as its place in the list says."""
-    lines = []
-    for at, (own, opp, _) in enumerate(positions):
-        lines.append(f"{image(player.line(own, opp, True)[:64], at % 8)} X; --:{player.values(own, opp)[0]:+03};\n")
+    """Returns a book with the exact scores of positions, but `--` in place of the best moves. The positions are turned
+    and mirrored in each of the eight ways, in turn."""
+    lines = (f"{image(player.line(own, opp, True)[:64], at)} X; --:{player.values(own, opp)[0]:+03};\n"
+             for at, (own, opp, _) in enumerate(positions))
     return "% ffobook 2 winner\n" + "".join(lines)
 
 
 def image(board, number):
-    """Returns an image of a board of 64 squares: exchanges rows and columns if bit 2 of `number` is set, turns each row
-    back to front if bit 1 is set, and exchanges the rows, the first with the last and so on, if bit 0 is set."""
-    at = [(row, column) for row in range(8) for column in range(8)]
-    for bit, moved in ((4, lambda row, column: (column, row)), (2, lambda row, column: (row, 7 - column)),
-                       (1, lambda row, column: (7 - row, column))):
-        at = [moved(*place) for place in at] if number & bit else at
-    return "".join(board[8 * row + column] for row, column in at)
+    rows = [board[at:at + 8] for at in range(0, 64, 8)]
+    rows = ["".join(row) for row in zip(*rows)] if number & 4 else rows
+    rows = [row[::-1] for row in rows] if number & 2 else rows
+    return "".join(rows[::-1] if number & 1 else rows)
 
 
 def games(*words, status=None, out="", err="", **how):

@@ -36,21 +36,22 @@ CHANGED = f"new.wtb: theoretical scores changed 2 of {COUNT}, not compared 0"
 
 @pytest.fixture(autouse=True)
 def files(folder):
+    built("ffosolve")  # so that no message about that stands among the errors
     write("it.wtb", WHOLE)
     write("book", BOOK)
 
 
-def difference(at, name="it.wtb", title=" (2001)", exact=None):
-    exact = EXACT[at] if exact is None else exact
-    return (f"{name}, game {at + 1}{title}: published {PUBLISHED[at]}, exact {exact}, "
-            f"difference {PUBLISHED[at] - exact:+}\n")
+def difference(game, exact, less, name="it.wtb", title=" (2001)"):
+    return f"{name}, game {game}{title}: published {exact + less}, exact {exact}, difference {less:+}\n"
+
+
+def both(**how):
+    """The lines for the two wrong scores of RECORDS."""
+    return difference(3, EXACT[2], -2, **how) + difference(6, EXACT[5], 7, **how)
 
 
 def counts(compared=COUNT, differ=2, unsolved=0):
     return f"compared {compared} differ {differ} unsolved {unsolved}\n"
-
-
-DIFFERENCES = difference(2) + difference(5)
 
 
 def contents():
@@ -80,32 +81,33 @@ def test_scores_are_discs_of_black_and_the_winner_gets_the_empty_squares(empties
     exact = [discs_of_black(at) for _, at in played]
     write("it.wtb", wthor([record(game, score + 1) for (game, _), score in zip(played, exact)], empties=empties))
     write("book", book_of([at for _, at in played]))
-    out = "".join(f"it.wtb, game {number} (2001): published {score + 1}, exact {score}, difference +1\n"
-                  for number, score in enumerate(exact, 1))
+    out = "".join(difference(number, score, 1) for number, score in enumerate(exact, 1))
     err = "".join(f"it.wtb, game {number}: its theoretical score is 65, more than 64 discs\n"
                   for number, score in enumerate(exact, 1) if score == 64)
     games(*COMPARE, status=1, out=out + counts(len(played), len(played)), err=err)
 
 
-def test_wrong_scores_are_told_and_counted():
-    games(*COMPARE, err=GOES_ON, out=DIFFERENCES + counts())
-    games("compare", "-", "it.wtb", input=BOOK.encode(), err=GOES_ON, out=DIFFERENCES + counts())
-    write("book", BOOK.replace("\n", "\r\n"))
-    games(*COMPARE, err=GOES_ON, out=DIFFERENCES + counts())
+RIGHT = wthor(EXACT_RECORDS, empties=EMPTIES)
+HEADER, *LINES = BOOK.splitlines(True)
 
 
-def test_exact_scores_end_with_status_0():
-    write("it.wtb", wthor(EXACT_RECORDS, empties=EMPTIES))
-    games(*COMPARE, out=counts(differ=0))
-
-
-def test_a_position_that_the_book_lacks_is_not_compared():
-    write("it.wtb", wthor(EXACT_RECORDS, empties=EMPTIES))
-    lines = BOOK.splitlines(True)
-    write("book", "".join(lines[:4] + lines[5:]))
-    games(*COMPARE, status=1, out=counts(COUNT - 1, 0, 1))
-    write("book", lines[0])
-    games(*COMPARE, status=1, out=counts(0, 0, COUNT))
+@pytest.mark.parametrize("content, book, err, status, out", (
+    (WHOLE, BOOK, GOES_ON, 1, both() + counts()),
+    (WHOLE, BOOK.replace("\n", "\r\n"), GOES_ON, 1, both() + counts()),
+    (RIGHT, BOOK, "", 0, counts(differ=0)),
+    (RIGHT, "".join([HEADER, *LINES[:4], *LINES[5:]]), "", 1, counts(COUNT - 1, 0, 1)),
+    (RIGHT, HEADER, "", 1, counts(0, 0, COUNT)),
+    (wthor([EXACT_RECORDS[0]] * 10_000 + [record(PLAYED[0], EXACT[0] + 1)], empties=EMPTIES), BOOK, "", 1,
+     difference(10_001, EXACT[0], 1) + counts(10_001, 1)),
+), ids="abcdef")
+def test_wrong_scores_are_told_and_all_are_counted(content, book, err, status, out):
+    """From two of the books, the positions of some games are missing. The last file has 10,001 games."""
+    write("it.wtb", content)
+    write("book", book)
+    games(*COMPARE, err=err, status=status, out=out)
+    if book == HEADER:
+        fix(3, "no theoretical score is compared, so --fix has none to write")
+    games("compare", "-", "it.wtb", input=book.encode(), err=err, status=status, out=out)
 
 
 def test_each_score_is_that_of_its_position():
@@ -121,31 +123,24 @@ def test_each_score_is_that_of_its_position():
         assert exact_scores([header, lines[number]], [position]) == {position: player.values(own, opp)[0]}
 
 
-def test_every_game_of_a_file_is_compared():
-    """The last of 10,001 games has a wrong score."""
-    write("it.wtb", wthor([EXACT_RECORDS[0]] * 10_000 + [record(PLAYED[0], EXACT[0] ^ 1)], empties=EMPTIES))
-    exact, less = EXACT[0], (EXACT[0] ^ 1) - EXACT[0]
-    line = f"it.wtb, game 10001 (2001): published {exact ^ 1}, exact {exact}, difference {less:+}\n"
-    games(*COMPARE, status=1, out=line + counts(10_001, 1))
+NO_SCORE = [(f"--:{score};", f"its line 2 has the score {score}, with which no game ends")
+            for score in ("+99", "-99", "+66", "-66", "+01", "-63")]
+NO_ENTRY = [(entry, "its line 2 is not an entry of a book")
+            for entry in ("A1:+02; B1:+04;", "A1:+2;", "A1:+100;", "A9:+02;", "PS:+02; A1:+02;", "")]
+NO_HEADER = [(book, "it does not begin with `% ffobook 2 winner`, as what ffosolve-many --book-out writes")
+             for book in ("", "".join(LINES), "\n" + BOOK, "[1]\n1 +02 A1 unlisted\nsolved 1 refused 0\n",
+                          *(BOOK.replace("winner", other) for other in ("discs", "sign", "winner ")))]
 
 
-@pytest.mark.parametrize("entry, why", (
-    ("--:+99;", "its line 2 has the score +99, with which no game ends"),
-    ("--:-99;", "its line 2 has the score -99, with which no game ends"),
-    ("--:+66;", "its line 2 has the score +66, with which no game ends"),
-    ("--:-66;", "its line 2 has the score -66, with which no game ends"),
-    ("--:+01;", "its line 2 has the score +01, with which no game ends"),
-    ("PS:-63;", "its line 2 has the score -63, with which no game ends"),
-    ("A1:+99; B1:+99;", "its line 2 has the score +99, with which no game ends"),
-    ("A1:+02; B1:+04;", "its line 2 is not an entry of a book"),
-    ("A1:+2;", "its line 2 is not an entry of a book"),
-    ("A1:+100;", "its line 2 is not an entry of a book"),
-    ("A9:+02;", "its line 2 is not an entry of a book"),
-    ("", "its line 2 is not an entry of a book"),
+@pytest.mark.parametrize("book, why", (
+    *((f"{HEADER}{LINES[0][:67]} {entry}\n{''.join(LINES[1:])}", why) for entry, why in NO_SCORE + NO_ENTRY),
+    *NO_HEADER,
+    (BOOK + "% more\n", f"its line {COUNT + 2} is not an entry of a book"),
+    (BOOK.replace("X;", "O;"), "its line 2 is not an entry of a book"),
+    (BOOK[:-3], f"its line {COUNT + 1} is not an entry of a book"),
 ))
-def test_a_score_that_no_game_has_is_refused_with_its_line(entry, why):
-    lines = BOOK.splitlines(True)
-    write("book", f"{lines[0]}{lines[1][:67]} {entry}\n{''.join(lines[2:])}")
+def test_what_is_no_book_of_scores_that_games_have_is_refused_with_its_line(book, why):
+    write("book", book)
     for words in ((), ("--fix", "new.wtb", "--real")):
         games(*COMPARE, *words, status=3, err=f"{GOES_ON}book is not a book of exact scores: {why}", out="")
     assert sorted(contents()) == ["book", "it.wtb"]
@@ -155,8 +150,8 @@ def test_a_score_that_no_game_has_is_refused_with_its_line(entry, why):
 def test_each_score_that_a_game_can_have_is_compared_and_written(empties, black):
     """Each of 65 games gets one of the scores from -64 to 64, whatever its position."""
     found = [game for game in random_games(90, seed=4) if positions_of(game).get(empties, (0, 0, 0))[2] == black][:65]
-    header, *lines = book_of([positions_of(game)[empties] for game in found]).splitlines(True)
-    write("book", header + "".join(f"{line[:67]} --:{score:+03};\n" for line, score in zip(lines, range(-64, 66, 2))))
+    lines = book_of([positions_of(game)[empties] for game in found]).splitlines()[1:]
+    write("book", HEADER + "".join(f"{line[:67]} --:{score:+03};\n" for line, score in zip(lines, range(-64, 66, 2))))
     exact = range(65) if black else range(64, -1, -1)
     write("it.wtb", wthor(list(map(record, found, [255] * 65)), empties=empties))
     ran = run(sys.executable, PROGRAM, *COMPARE, "--fix", "new.wtb", text=True)
@@ -164,32 +159,9 @@ def test_each_score_that_a_game_can_have_is_compared_and_written(empties, black)
     assert Path("new.wtb").read_bytes() == wthor(list(map(record, found, exact)), empties=empties)
 
 
-HEADER = "it does not begin with `% ffobook 2 winner`, as what ffosolve-many --book-out writes"
-
-
-@pytest.mark.parametrize("book, why", (
-    ("", HEADER),
-    (BOOK.split("\n", 1)[1], HEADER),
-    (BOOK.replace("winner", "discs"), HEADER),
-    (BOOK.replace("winner", "sign"), HEADER),
-    (BOOK.replace("winner", "winner "), HEADER),
-    ("[1]\n1 +02 A1 unlisted\nsolved 1 refused 0\n", HEADER),
-    ("\n" + BOOK, HEADER),
-    (BOOK + "% more\n", f"its line {COUNT + 2} is not an entry of a book"),
-    (BOOK.replace("X;", "O;"), "its line 2 is not an entry of a book"),
-    (BOOK[:-3], f"its line {COUNT + 1} is not an entry of a book"),
-))
-def test_what_is_not_a_book_is_refused(book, why):
-    write("book", book)
-    games(*COMPARE, status=3, err=f"{GOES_ON}book is not a book of exact scores: {why}")
-
-
-def test_files_that_are_not_there_are_refused():
+def test_files_that_are_missing_or_have_no_theoretical_scores_are_refused():
     games("compare", "none", "it.wtb", status=3, err=GOES_ON + "cannot read none: No such file or directory")
     games("compare", "book", "none.wtb", status=3, err="cannot read none.wtb: No such file or directory")
-
-
-def test_a_file_without_theoretical_scores_is_refused():
     write("text", "f5d6c3")
     for words in ((), ("--empties=5",)):
         games(*COMPARE, "text", *words, status=3, err=GOES_ON + "text is a text, which has no theoretical scores")
@@ -206,7 +178,8 @@ def test_the_number_of_empty_squares_is_that_of_the_header_if_it_has_one():
     write("c.wtb", wthor([record(PLAYED[0], discs_of_black(positions_of(PLAYED[0])[4]))], empties=4))
     write("book", BOOK + book_of([positions_of(PLAYED[0])[4]]).split("\n", 1)[1])
     games("compare", "book", "a.wtb", "--empties", "5", "c.wtb", "b.wtb", status=1,
-          out=difference(2, "a.wtb") + difference(5, "a.wtb") + counts(2 * COUNT + 1))
+          out=both(name="a.wtb") + counts(2 * COUNT + 1))
+    fix(1, CHANGED, "--empties=5", files=["a.wtb"], written={"new.wtb": RIGHT})
     games("compare", "book", "a.wtb", "c.wtb", status=2,
           err="a.wtb does not say how many squares are empty at its theoretical scores; "
               "try --empties 22 or 24, the usual numbers")
@@ -219,53 +192,41 @@ def names(size, *texts):
 
 def test_players_tournament_and_year_are_told():
     """In each record, the tournament has the number 7, Black 300, and White 301, all counted from 0."""
-    write("in/it.wtb", wthor(RECORDS, empties=EMPTIES))
-    players, tournaments = [*["?"] * 300, "Ann Smith", "Andr\u00e9 \x01\u00a0B."], [*["?"] * 7, "Rome"]
-    for made, title in (
-        ({}, "2001"),
-        ({"WTHOR.JOU": names(20, *players)}, "2001, Ann Smith - Andr\u00e9 B."),
-        ({"WTHOR.TRN": names(26, *tournaments)}, "2001, Ann Smith - Andr\u00e9 B., Rome"),
-        ({"WTHOR.JOU": names(20, *players[:-1])}, "2001, Rome"),
-        ({"WTHOR.TRN": b""}, "2001"),
-        ({"WTHOR.TRN": names(26, *tournaments)[:-30]}, "2001"),
-        ({"WTHOR.JOU": names(20, *players), "other.jou": b""}, "2001"),
-    ):
-        for name, content in made.items():
-            write(f"in/{name}", content)
-        out = difference(2, "in/it.wtb", f" ({title})") + difference(5, "in/it.wtb", f" ({title})")
-        games("compare", "book", "in/it.wtb", status=1, out=out + counts())
-
-
-def test_a_year_that_the_header_lacks_is_left_out():
     whole = wthor(RECORDS, empties=EMPTIES)
-    write("it.wtb", whole[:10] + b"\0\0" + whole[12:])
-    games(*COMPARE, status=1, out=difference(2, title="") + difference(5, title="") + counts())
+    players, tournaments = [*["?"] * 300, "Ann Smith", "Andr\u00e9 \x01\u00a0B."], [*["?"] * 7, "Rome"]
+    for name, content, title in (
+        ("it.wtb", whole, " (2001)"),
+        ("WTHOR.JOU", names(20, *players), " (2001, Ann Smith - Andr\u00e9 B.)"),
+        ("WTHOR.TRN", names(26, *tournaments), " (2001, Ann Smith - Andr\u00e9 B., Rome)"),
+        ("it.wtb", whole[:10] + b"\0\0" + whole[12:], " (Ann Smith - Andr\u00e9 B., Rome)"),
+        ("WTHOR.JOU", names(20, *players[:-1]), " (Rome)"),
+        ("WTHOR.TRN", names(26, *tournaments)[:-30], ""),
+        ("WTHOR.TRN", b"", ""),
+        ("WTHOR.JOU", names(20, *players), " (Ann Smith - Andr\u00e9 B.)"),
+        ("other.jou", b"", ""),
+    ):
+        write(f"in/{name}", content)
+        games("compare", "book", "in/it.wtb", status=1, out=both(name="in/it.wtb", title=title) + counts())
 
 
 def test_the_scores_that_are_wrong_are_changed_and_no_other_byte():
-    fix(1, CHANGED, written={"new.wtb": WANTED}, out=DIFFERENCES + counts())
+    fix(1, CHANGED, written={"new.wtb": WANTED}, out=both() + counts())
     assert stat.S_IMODE(os.stat("new.wtb").st_mode) == 0o644
     games("compare", "book", "new.wtb", err=GOES_ON.replace("it.wtb", "new.wtb"), out=counts(differ=0))
-    write("it.wtb", wthor(EXACT_RECORDS, empties=EMPTIES))
+    write("it.wtb", RIGHT)
     again = f"again.wtb: theoretical scores changed 0 of {COUNT}, not compared 0"
-    fix(0, again, place="again.wtb", written={"again.wtb": wthor(EXACT_RECORDS, empties=EMPTIES)})
+    fix(0, again, place="again.wtb", written={"again.wtb": RIGHT})
 
 
 def test_games_that_are_not_compared_stay_as_they_are():
     """The book lacks the position of one game. Another game has a byte that is not a square."""
     records = [RECORDS[0][:8] + b"\x63" + RECORDS[0][9:], *RECORDS[1:]]
     write("it.wtb", wthor(records, empties=EMPTIES))
-    lines = BOOK.splitlines(True)
-    write("book", "".join(lines[:3] + lines[4:]))
+    write("book", "".join([HEADER, *LINES[:2], *LINES[3:]]))
     records[5] = EXACT_RECORDS[5]
     fix(1, f"it.wtb, game 1, move 1: 99 is not a square\n"
            f"new.wtb: theoretical scores changed 1 of {COUNT}, not compared 2",
-        written={"new.wtb": wthor(records, empties=EMPTIES)}, out=difference(5) + counts(COUNT - 2, 1, 1))
-
-
-def test_a_header_without_a_number_of_empty_squares_gets_that_of_the_option():
-    write("it.wtb", wthor(RECORDS, empties=0))
-    fix(1, CHANGED, "--empties=5", written={"new.wtb": WANTED.removesuffix(b"more")})
+        written={"new.wtb": wthor(records, empties=EMPTIES)}, out=difference(6, EXACT[5], 7) + counts(COUNT - 2, 1, 1))
 
 
 def test_real_scores_are_changed_only_if_asked():
@@ -277,8 +238,7 @@ def test_real_scores_are_changed_only_if_asked():
     records[2] = records[2][:6] + b"\1" + records[2][7:67] + b"\x63"
     records[4] = record(PLAYED[4], 9, real=0)
     write("it.wtb", wthor(records, empties=EMPTIES) + more)
-    lines = BOOK.splitlines(True)
-    write("book", "".join(lines[:5] + lines[6:]))
+    write("book", "".join([HEADER, *LINES[:4], *LINES[5:]]))
     said = "".join(f"it.wtb, {it}\n" for it in (
         "game 1: its real score is 70, more than 64 discs",
         "game 2: its moves stop before the end of the game, so its real score 1 is not checked",
@@ -299,7 +259,7 @@ def test_all_files_are_written_into_a_folder():
     written = {"new/it.wtb": WANTED, "new/one.wtb": wthor(EXACT_RECORDS[:3], empties=EMPTIES)}
     fix(1, f"new/it.wtb: theoretical scores changed 2 of {COUNT}, not compared 0\n"
            "new/one.wtb: theoretical scores changed 1 of 3, not compared 0", "--empties=5", place="new", files=files,
-        written=written, out=DIFFERENCES + difference(2, "other/one.wtb") + counts(COUNT + 3, 3))
+        written=written, out=both() + difference(3, EXACT[2], -2, "other/one.wtb") + counts(COUNT + 3, 3))
     os.remove("new/it.wtb")
     fix(3, "new/one.wtb already exists and would be overwritten", "--empties=5", place="new", files=files)
 
@@ -313,25 +273,26 @@ def test_several_files_are_written_all_or_none():
         preexec_fn=limited(RLIMIT_FSIZE=len(WHOLE)))
 
 
-def test_one_place_for_two_files_is_refused():
-    write("other.wtb", WHOLE)
-    fix(3, "--fix takes a folder, since 2 WTHOR files are named", files=("it.wtb", "other.wtb"))
-    write("other/it.wtb", WHOLE)
-    err = "two of the WTHOR files have one name, so --fix can't write them into one folder"
-    fix(3, err, place="other", files=("it.wtb", "other/it.wtb"))
+EXISTS = "{} already exists and would be overwritten"
 
 
-@pytest.mark.parametrize("place", (
-    "it.wtb", "./it.wtb", "link.wtb", "twin.wtb", "broken.wtb", "other.wtb", "book", "folder",
+@pytest.mark.parametrize("place, names, err", (
+    *((place, ["it.wtb"], EXISTS.format(place))
+      for place in ("it.wtb", "./it.wtb", "link.wtb", "twin.wtb", "broken.wtb", "other.wtb", "book")),
+    ("folder", ["it.wtb"], EXISTS.format("folder/it.wtb")),
+    ("new.wtb", ["it.wtb", "other.wtb"], "--fix takes a folder, since 2 WTHOR files are named"),
+    ("folder", ["it.wtb", "folder/it.wtb"],
+     "two of the WTHOR files have one name, so --fix can't write them into one folder"),
+    ("none/new.wtb", ["it.wtb"], "cannot write none/new.wtb: its folder is missing, or may not be written"),
+    ("", ["it.wtb"], "cannot write '': No such file or directory"),
 ))
-def test_no_file_is_overwritten(place):
+def test_no_file_is_overwritten_and_each_place_is_one_for_a_new_file(place, names, err):
     os.symlink("it.wtb", "link.wtb")
     os.link("it.wtb", "twin.wtb")
     os.symlink("nowhere", "broken.wtb")
-    write("folder/it.wtb", "another")
-    write("other.wtb", "other")
-    path = "folder/it.wtb" if place == "folder" else place
-    fix(3, f"{path} already exists and would be overwritten", place=place)
+    write("folder/it.wtb", WHOLE)
+    write("other.wtb", WHOLE)
+    fix(3, err, place=place, files=names)
 
 
 def test_a_file_system_without_hard_links_gets_the_file(monkeypatch):
@@ -354,23 +315,14 @@ def test_a_full_disk_leaves_no_file(size):
     fix(3, "cannot write new.wtb: File too large", preexec_fn=limited(RLIMIT_FSIZE=size))
 
 
-def test_a_place_in_a_missing_folder_is_refused():
-    fix(3, "cannot write none/new.wtb: its folder is missing, or may not be written", place="none/new.wtb")
-    fix(3, "cannot write '': No such file or directory", place="")
-
-
-def test_nothing_is_written_if_no_score_is_compared():
-    write("book", BOOK.splitlines(True)[0])
-    fix(3, "no theoretical score is compared, so --fix has none to write")
-
-
 def test_one_of_several_runs_writes_the_file(start):
     before = contents()
     runs = [start(sys.executable, PROGRAM, *COMPARE, "--fix", "new.wtb") for _ in range(6)]
     ends = sorted((it.communicate(timeout=SECONDS)[1].decode(), it.returncode) for it in runs)
     said = f"ffosolve-games: {GOES_ON}ffosolve-games: "
-    lost = f"{said}new.wtb already exists and would be overwritten\n", 3
-    assert ends == sorted([(f"{said}{CHANGED}\n", 1), *[lost] * 5])
+    written, lost = f"{said}{CHANGED}\n", [EXISTS.format("new.wtb"), "cannot write new.wtb: File exists"]
+    assert ends.count((written, 1)) == 1 and len(ends) == 6
+    assert set(ends) - {(written, 1)} <= {(f"{said}{why}\n", 3) for why in lost}
     assert contents() == {**before, "new.wtb": WANTED}
 
 
@@ -392,50 +344,31 @@ def test_an_interrupted_run_leaves_no_file_under_the_name(start, number):
 
 CHECK = ("check", "it.wtb", "--quiet")
 FOLDER = "it.wtb.check/list.obf.parts"
-
-
-@pytest.fixture
-def solver():
-    """Makes sure that ffosolve is built, so that no message about that stands among the errors."""
-    built("ffosolve")
+FAILED = "ffosolve-games: ffosolve-many has not solved all, so no score is compared"
 
 
 def parts():
     return len(list(Path(FOLDER, "results").glob("[0-9]" * 7)))
 
 
-@pytest.mark.usefixtures("solver")
 def test_check_solves_compares_and_fixes():
     """The theoretical scores of two files are for 5 and 6 empty squares; two games of the first are one."""
-    write("it.wtb", wthor([*RECORDS, RECORDS[2]], empties=EMPTIES))
     at = positions_of(PLAYED[1])[6]
-    write("other.wtb", wthor([record(PLAYED[1], discs_of_black(at) ^ 1)], empties=6))
-    os.mkdir("new")
-    words = ("it.wtb", "--fix=new", "--jobs", "2", "--lines=4", "other.wtb")
-    ran = run(sys.executable, PROGRAM, "check", *words, text=True)
-    lines = ran.stdout.splitlines(True)
     exact = discs_of_black(at)
-    assert lines == [
-        difference(2), difference(5), difference(2).replace("game 3", f"game {COUNT + 1}"),
-        f"other.wtb, game 1 (2001): published {exact ^ 1}, exact {exact}, difference {(exact ^ 1) - exact:+}\n",
-        counts(COUNT + 2, 4)]
-    assert ran.returncode == 1
-    said = f"ffosolve-many: it.wtb.check/list.obf: {COUNT + 1} lines in {(COUNT + 4) // 4} parts, 0 of them solved"
-    assert ran.stderr.startswith(said)
-    assert Path("new/it.wtb").read_bytes() == wthor([*EXACT_RECORDS, EXACT_RECORDS[2]], empties=EMPTIES)
+    write("it.wtb", wthor(RECORDS + RECORDS[2:3], empties=EMPTIES))
+    write("other.wtb", wthor([record(PLAYED[1], exact + 1)], empties=6))
+    os.mkdir("new")
+    games(*CHECK, "--fix=new", "--jobs", "2", "--lines=4", "other.wtb", status=1,
+          out=both() + difference(COUNT + 1, EXACT[2], -2) + difference(1, exact, 1, "other.wtb") + counts(COUNT + 2, 4),
+          err=f"new/it.wtb: theoretical scores changed 3 of {COUNT + 1}, not compared 0\n"
+              "new/other.wtb: theoretical scores changed 1 of 1, not compared 0")
+    assert Path("new/it.wtb").read_bytes() == wthor(EXACT_RECORDS + EXACT_RECORDS[2:3], empties=EMPTIES)
     assert Path("new/other.wtb").read_bytes() == wthor([record(PLAYED[1], exact)], empties=6)
+    assert parts() == (COUNT + 4) // 4  # each position once
+    write("it.wtb", RIGHT)  # other scores of positions that are solved
+    games("compare", "it.wtb.check/list.book", "it.wtb", out=counts(differ=0))
 
 
-@pytest.mark.usefixtures("solver")
-def test_check_finds_what_compare_finds_in_its_book():
-    games(*CHECK, err=GOES_ON, out=DIFFERENCES + counts())
-    games("compare", "it.wtb.check/list.book", "it.wtb", err=GOES_ON, out=DIFFERENCES + counts())
-    assert book_of(POSITIONS).count("\n") == Path("it.wtb.check/list.book").read_text().count("\n")
-    write("it.wtb", wthor(EXACT_RECORDS, empties=EMPTIES))  # other scores of the same positions, which are solved
-    games(*CHECK, out=counts(differ=0), env={**os.environ, "PATH": f"{os.environ['PATH']}"})
-
-
-@pytest.mark.usefixtures("solver")
 @pytest.mark.parametrize("number, of_all", ((signal.SIGINT, True), (signal.SIGTERM, False), (signal.SIGKILL, False)))
 def test_an_interrupted_check_goes_on(start, number, of_all):
     words = (sys.executable, PROGRAM, *CHECK, "--lines=1", "--jobs=1")
@@ -445,11 +378,10 @@ def test_an_interrupted_check_goes_on(start, number, of_all):
     child.communicate(timeout=SECONDS)
     assert child.returncode == -number
     assert 0 < parts() < COUNT
-    games(*words[2:], err=GOES_ON, out=DIFFERENCES + counts())
+    games(*words[2:], err=GOES_ON, out=both() + counts())
     assert parts() == COUNT
 
 
-@pytest.mark.usefixtures("solver")
 def test_a_second_check_in_one_folder_is_refused(start):
     first = start(sys.executable, PROGRAM, *CHECK, "--lines=1", "--jobs=1", start_new_session=True)
     wait_until(parts)
@@ -458,42 +390,34 @@ def test_a_second_check_in_one_folder_is_refused(start):
     assert (ran.returncode, ran.stdout) == (3, "")
     assert ran.stderr.splitlines()[1] == f"ffosolve-many: another run works in {FOLDER}"
     os.killpg(first.pid, signal.SIGCONT)
-    assert first.communicate(timeout=SECONDS)[0].decode() == DIFFERENCES + counts()
+    assert first.communicate(timeout=SECONDS)[0].decode() == both() + counts()
 
 
-@pytest.mark.usefixtures("solver")
 def test_options_are_those_of_ffosolve_many():
     games(*CHECK, "--max-empties=4", status=1, err=GOES_ON, out=counts(0, 0, COUNT))
-    advice = "Try 'ffosolve-many --help'"
-    for words, status, why in (
-        (("--jobs=x",), 2, f"--jobs: takes a number from 1 to 999, not 'x'. {advice}"),
-        (("--lines=",), 2, f"--lines: '' is empty or not UTF-8. {advice}"),
-        (("--book-in=none",), 3, "cannot read none: No such file or directory"),
-        (("--max-empties=5",), 2, None),
-    ):
-        ran = run(sys.executable, PROGRAM, *CHECK, *words, text=True)
+    for word, status in (("--jobs=x", 2), ("--lines=", 2), ("--book-in=none", 3), ("--max-empties=5", 2)):
+        ran = run(sys.executable, PROGRAM, *CHECK, word, text=True)
         assert (ran.returncode, ran.stdout) == (status, "")
-        said = ran.stderr.splitlines()
-        assert said[-1] == "ffosolve-games: ffosolve-many has not solved all, so no score is compared"
-        assert why is None or said[1] == f"ffosolve-many: {why}"
+        _, said, last = ran.stderr.splitlines()
+        assert said.startswith("ffosolve-many: ") and re.search("--jobs|--lines|none|--max-empties 4", said)
+        assert last == FAILED
 
 
-@pytest.mark.usefixtures("solver")
 def test_check_can_be_cut_for_another_scheduler():
     ran = run(sys.executable, PROGRAM, *CHECK, "--lines=4", "--cut", text=True)
     assert (ran.returncode, parts()) == (1, 0) and "python3 it.wtb.check/list.obf.parts/solve.py" in ran.stdout
     for part in range((COUNT + 3) // 4):
         run(sys.executable, f"{FOLDER}/solve.py", f"{part:07d}", check=True)
-    games(*CHECK, "--lines=4", err=GOES_ON, out=DIFFERENCES + counts())
+    games(*CHECK, "--lines=4", err=GOES_ON, out=both() + counts())
 
 
 def test_check_refuses_before_it_solves():
-    for words, err in (
-        (("--fix=it.wtb",), f"{GOES_ON}it.wtb already exists and would be overwritten"),
-        (("--fix=none/it.wtb",), f"{GOES_ON}cannot write none/it.wtb: its folder is missing, or may not be written"),
-        (("none.wtb",), f"{GOES_ON}cannot read none.wtb: No such file or directory"),
+    for word, err in (
+        ("--fix=it.wtb", EXISTS.format("it.wtb")),
+        ("--fix=none/it.wtb", "cannot write none/it.wtb: its folder is missing, or may not be written"),
+        ("none.wtb", "cannot read none.wtb: No such file or directory"),
     ):
-        games(*CHECK, *words, status=3, err=err)
+        games(*CHECK, word, status=3, err=GOES_ON + err)
     assert sorted(os.listdir()) == ["book", "it.wtb"]
     games(*CHECK, status=3, err=f"{GOES_ON}cannot write it.wtb.check/list.obf: File too large",
           preexec_fn=limited(RLIMIT_FSIZE=100))
@@ -502,52 +426,45 @@ def test_check_refuses_before_it_solves():
 
 @pytest.fixture
 def alone(folder):
-    """A function that runs a copy of `ffosolve-games check`, with words, which has no ffosolve-many beside it; the path
-    has only that in the folder `tools`, and setpriv."""
+    """A function that runs a copy of ffosolve-games. Its path has only setpriv and the other files in `tools`."""
     run("cp", "-r", "--parents", "bin/ffosolve-games", "python/src", "VERSION", folder, cwd=ROOT, check=True)
     os.mkdir("tools")
     os.symlink(shutil.which("setpriv"), "tools/setpriv")
-    return lambda *words, **places: run(sys.executable, "bin/ffosolve-games", "check", *words, text=True,
-                                        env={**os.environ, "PATH": f"{folder}/tools", **places})
+    environment = {**os.environ, "PATH": f"{folder}/tools"}
+    return lambda *words: run(sys.executable, "bin/ffosolve-games", *words, text=True, env=environment)
 
 
-def test_check_without_ffosolve_many_says_so(folder, alone):
-    ran = alone("it.wtb")
-    assert ran.stderr.splitlines()[-1] == ("ffosolve-games: ffosolve-many is missing: it has to be next to "
-                                           f"ffosolve-games, in {folder}/bin, or on the path")
-    assert (ran.returncode, ran.stdout) == (4, "")
-
-
-LISTED = "--book-out={0}/list.book -- {0}/list.obf"
 OPTIONS = ("--max-empties=4", "--lines=x", "--jobs=7", "--scheduler=h1:8786", "--cut", "--quiet", "--workers=2",
            "--table=0", "--book-in=a b")
 
 
-@pytest.mark.parametrize("words, given", (
-    (["it.wtb"], f"--max-empties={EMPTIES} --lines=10 {LISTED.format('it.wtb.check')}"),
-    (["--folder", "a", "22.wtb", "it.wtb"], f"--max-empties=22 --lines=10 {LISTED.format('a')}"),
-    (["it.wtb", "--lines=20", "--quiet"], f"--max-empties={EMPTIES} --lines=20 --quiet "
-                                          + LISTED.format("it.wtb.check")),
-    (["it.wtb", *OPTIONS], f"{' '.join(OPTIONS)} {LISTED.format('it.wtb.check')}"),
+@pytest.mark.parametrize("words, given, folder_named", (
+    ((), "--max-empties=5 --lines=10", "it.wtb.check"),
+    (("--folder", "a", "22.wtb"), "--max-empties=22 --lines=10", "a"),
+    (("--lines=20", "--quiet"), "--max-empties=5 --lines=20 --quiet", "it.wtb.check"),
+    (OPTIONS, " ".join(OPTIONS), "it.wtb.check"),
 ))
-def test_ffosolve_many_gets_the_options(alone, words, given):
+def test_ffosolve_many_gets_the_options(alone, words, given, folder_named):
     write("22.wtb", wthor([record(PLAYED[0])], empties=22))
     write("tools/ffosolve-many", '#!/bin/sh\necho "$*" >words\nread -r line || echo output && exit 3\n')
-    ran = alone(*words)
-    assert Path("words").read_text() == given + "\n"
+    ran = alone("check", "it.wtb", *words)
+    assert Path("words").read_text() == f"{given} --book-out={folder_named}/list.book -- {folder_named}/list.obf\n"
     assert ran.stdout == "output\n" * ("--cut" in words)
 
 
-@pytest.mark.parametrize("end, status", (("exit 1", 3), ("exit 2", 2), ("exit 3", 3), ("exit 4", 4), ("kill $$", 3)))
-def test_the_status_is_that_of_ffosolve_many_if_it_fails(alone, end, status):
-    write("tools/ffosolve-many", f"#!/bin/sh\n{end}\n")
-    ran = alone("it.wtb")
-    assert ran.stderr == (f"ffosolve-games: {GOES_ON}ffosolve-games: ffosolve-many has not solved all, so no score is "
-                          "compared\n")
+@pytest.mark.parametrize("end, status", ((None, 4), ("exit 1", 3), ("exit 2", 2), ("exit 3", 3), ("exit 4", 4),
+                                         ("kill $$", 3)))
+def test_the_status_is_that_of_ffosolve_many_if_it_is_missing_or_fails(folder, alone, end, status):
+    missing = ("ffosolve-games: ffosolve-many is missing: it has to be next to ffosolve-games, "
+               f"in {folder}/bin, or on the path")
+    if end:
+        write("tools/ffosolve-many", f"#!/bin/sh\n{end}\n")
+    ran = alone(*CHECK)
     assert (ran.returncode, ran.stdout) == (status, "")
+    assert ran.stderr == f"ffosolve-games: {GOES_ON}{FAILED if end else missing}\n"
 
 
-def test_the_commands_of_guide_and_help_check_and_fix_a_file(solver):
+def test_the_commands_of_guide_and_help_check_and_fix_a_file():
     guide = "".join(re.findall(r"^```sh\n(.*?)^```", stored("docs", "check-wthor.md").decode(), re.M | re.S))
     of_help = re.search(r"^examples:\n.*?\n\n(.*?)\n\nstatus:", run(PROGRAM, "--help").stdout.decode(), re.M | re.S)[1]
     for place, commands, count in (("guide", guide, 2), ("help", of_help, 4)):
@@ -558,6 +475,6 @@ def test_the_commands_of_guide_and_help_check_and_fix_a_file(solver):
         os.symlink(ROOT / "bin", f"{place}/bin")
         path = {"PATH": f"{ROOT}/bin:{os.environ['PATH']}"}
         ran = run("sh", "-c", "\n".join(commands), timeout=300, cwd=place, env={**os.environ, **path}, text=True)
-        out = difference(2, name) + difference(5, name) + counts()
+        out = both(name=name) + counts()
         assert (ran.returncode, ran.stdout) == (1, 2 * out), ran.stderr
-        assert Path(place, new).read_bytes() == wthor(EXACT_RECORDS, empties=EMPTIES)
+        assert Path(place, new).read_bytes() == RIGHT

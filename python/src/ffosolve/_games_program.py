@@ -315,12 +315,8 @@ def fix(copies: Dict[str, str], exact: Dict[Position, int], options: argparse.Na
                  for path, name in copies.items()}
         try:
             write_whole(fixed)
-        except FileExistsError as error:
-            raise Refusal(f"{shown(error.filename)} already exists and would be overwritten") from None
-        except NotText as why:
-            raise Refusal(str(why)) from None
-        except OSError as error:
-            raise Refusal(f"cannot write {shown(error.filename)}: {error.strerror}") from None
+        except OSError as why:
+            raise Refusal(f"cannot write {shown(why.filename)}: {why.strerror}") from None
     for path, copy in fixed.items():
         messages.report(f"{shown(path)}: {copy.summary()}", DONE)
 
