@@ -359,7 +359,8 @@ def test_check_solves_compares_and_fixes():
     write("other.wtb", wthor([record(PLAYED[1], exact + 1)], empties=6))
     os.mkdir("new")
     games(*CHECK, "--fix=new", "--jobs", "2", "--lines=4", "other.wtb", status=1,
-          out=both() + difference(COUNT + 1, EXACT[2], -2) + difference(1, exact, 1, "other.wtb") + counts(COUNT + 2, 4),
+          out="".join((both(), difference(COUNT + 1, EXACT[2], -2), difference(1, exact, 1, "other.wtb"),
+                       counts(COUNT + 2, 4))),
           err=f"new/it.wtb: theoretical scores changed 3 of {COUNT + 1}, not compared 0\n"
               "new/other.wtb: theoretical scores changed 1 of 1, not compared 0")
     assert Path("new/it.wtb").read_bytes() == wthor(EXACT_RECORDS + EXACT_RECORDS[2:3], empties=EMPTIES)
