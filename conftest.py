@@ -5,6 +5,7 @@ import ctypes
 import os
 import signal
 import subprocess
+import sys
 import tempfile
 import time
 import unittest
@@ -41,6 +42,8 @@ def ends_its_programs():
     """Fails a module that leaves a program running for five seconds, and kills the program."""
     yield
     unittest.case.doModuleCleanups()
+    if "ffosolve._processes" in sys.modules:
+        sys.modules["ffosolve._processes"].end_idle()
     end = time.monotonic() + 5
     while children() and time.monotonic() < end:
         time.sleep(0.01)

@@ -17,7 +17,7 @@ CALLS = [
     *(f"solver.{name}_{call}, threads={threads})" for name in ("solve", "move_scores") for threads in (1, 2)
       for call in ("all([start] * 2", "iter([start] * 2", "arrays(own, opp")),
 ]
-# Makes the calls that the command line names. A signal interrupts each call, but the call's thread goes on solving.
+# Makes the calls that the command line names. A signal interrupts each call.
 PROGRAM = """if True:
     import os, signal, sys, threading, time, numpy
     from ffosolve import Answer, Kind, Position, Solver, read_lines
@@ -45,7 +45,7 @@ PROGRAM = """if True:
 """
 
 
-def test_each_call_is_interrupted_at_once_and_the_program_ends_though_threads_go_on_solving():
+def test_each_call_is_interrupted_at_once_and_the_program_goes_on():
     pytest.importorskip("numpy")
     stopped = [f"{CALLS[0]} TimeoutError ", *(f"{call} KeyboardInterrupt " for call in CALLS), "+62 H1\n"]
     words = (sys.executable, "-c", PROGRAM, BOARD, EASY, LONG, *CALLS)

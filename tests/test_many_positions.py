@@ -13,6 +13,7 @@ from ffosolve import Answer, Position, Solver
 
 SHARED, WIDE = Position(3, 2), Position(1, 6)
 REFUSED = ((SHARED, ffosolve.SharedSquare), (WIDE, ffosolve.TooManyEmpties))
+in_this_process = mock.patch("ffosolve._solvers.is_brief", lambda *_: True)  # so that a mock can stand for the library
 
 
 def meeting(library, count):
@@ -63,6 +64,7 @@ class Lists(unittest.TestCase):
             answers.close()
             self.assertLess(len(taken), 100_000)
 
+    @in_this_process
     def test_as_many_threads_as_asked_make_calls_at_once_with_the_scoring_and_table_of_the_solver(self):
         for threads in (3, 6):
             solver, positions = Solver(scoring=2, entries=7), random_positions(threads, [16])  # each is one part
@@ -73,6 +75,7 @@ class Lists(unittest.TestCase):
                 self.assertEqual(list(call(positions, threads=threads)), wanted)
             self.assertEqual([call.args[2:4] for call in library.method_calls], [(2, 7)] * 4 * threads)
 
+    @in_this_process
     def test_a_closed_iterator_waits_for_nothing_and_begins_nothing(self):
         begun, waited, closed, solver = itertools.count(), [], threading.Event(), Solver()
 
@@ -92,6 +95,7 @@ class Lists(unittest.TestCase):
         self.assertTrue(all(waited))
         self.assertLessEqual(next(begun), 4)
 
+    @in_this_process
     def test_few_positions_are_read_while_the_first_is_being_solved(self):
         begun, taken, solver = itertools.count(), itertools.count(), Solver()
 
@@ -152,6 +156,7 @@ class Arrays(unittest.TestCase):
         for scoring, threads, count in (*((scoring, 1, 90) for scoring in ffosolve.Scoring), (0, 3, 400), (0, 2, 0)):
             self.same_as_lists(Solver(scoring=scoring), self.positions[:count], threads)
 
+    @in_this_process
     def test_the_table_is_for_the_most_empty_squares_of_a_call(self):
         solver, empties = Solver(), ((3, 16, 9), (16, 3), (3, 16))
         solver._library = library = mock.Mock()
@@ -160,6 +165,7 @@ class Arrays(unittest.TestCase):
             call(*self.numpy.array(random_positions(len(some), some), "uint64").T)
         self.assertEqual([call.args[3] for call in library.method_calls], [ffosolve.table_entries(16)] * 6)
 
+    @in_this_process
     def test_threads_call_at_once(self):
         for given, entries in ((7, 7), (None, ffosolve.table_entries(16))):
             solver = Solver(scoring=2, entries=given)

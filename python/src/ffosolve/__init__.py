@@ -40,11 +40,13 @@ from ._answers import Answer, Kind, Scoring
 from ._boards import Board
 from ._games import Game, GameRefused, read_games
 from ._library import MOST_EMPTIES, MOST_ENTRIES, LibraryNotFound
-from ._positions import START, Line, Position, parse_lines, read_lines
+from ._masks import masks_of, positions_from
+from ._positions import START, Discs, Line as Line, Position, parse_lines, read_lines
 from ._refusals import *
 from ._score_comparison import ScoreComparison, WrongScore, compare_scores
 from ._solvers import NO_SCORE, Solver, table_entries
 from ._squares import square_name, square_number, square_names
+from ._symmetries import Symmetry
 
 _FOLDER = os.path.dirname(os.path.abspath(__file__))
 _PLACES = [os.path.join(_FOLDER, place, "VERSION") for place in ("", "../../..")]  # installed, and in a checkout
@@ -52,8 +54,9 @@ with open(next(filter(os.path.exists, _PLACES)), encoding="utf-8") as _file:
     __version__ = _file.read().strip()
 
 __all__ = [
-    "MOST_EMPTIES", "MOST_ENTRIES", "NO_SCORE", "START", "Answer", "Board", "Game", "GameRefused", "Kind",
-    "LibraryNotFound", "Line", "Position", "ScoreComparison", "Scoring", "Solver", "WrongScore", "compare_scores",
-    "parse_lines", "read_games", "read_lines", "square_name", "square_names", "square_number", "table_entries",
+    "MOST_EMPTIES", "MOST_ENTRIES", "NO_SCORE", "START", "Answer", "Board", "Discs", "Game", "GameRefused", "Kind",
+    "LibraryNotFound", "Position", "ScoreComparison", "Scoring", "Solver", "Symmetry", "WrongScore", "compare_scores",
+    "masks_of", "parse_lines", "positions_from", "read_games", "read_lines", "square_name", "square_names",
+    "square_number", "table_entries",
 ]
 __all__ += _refusals.__all__

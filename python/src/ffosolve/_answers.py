@@ -6,7 +6,17 @@ from ._refusals import UnknownScoring
 from ._squares import square_names
 
 
-class Scoring(enum.IntEnum):
+class Named(enum.IntEnum):
+    """A number that prints as its name in small letters."""
+
+    def __str__(self) -> str:
+        return self.name.lower()
+
+    def __format__(self, form: str) -> str:
+        return format(str(self), form)
+
+
+class Scoring(Named):
     """How the end of a game is scored for the side to move. `Scoring("winner")` is Scoring.WINNER."""
 
     WINNER = 0  # own discs minus the other side's; the winner gets the empty squares
@@ -26,7 +36,7 @@ def scoring_of(value: Union[Scoring, int, str]) -> Scoring:
         raise UnknownScoring(reason=f"a scoring is 'winner', 'discs' or 'sign', not {value!r}") from None
 
 
-class Kind(enum.IntEnum):
+class Kind(Named):
     """How the side to move reaches its score: by a move, by a pass, or because the game is over."""
 
     MOVES = 0

@@ -1,12 +1,13 @@
 """Solves positions in NumPy arrays. Only two methods of Solver import this module, so the others need no NumPy."""
-from typing import Any, List, NamedTuple, Tuple
+from typing import Any, List, NamedTuple, Optional, Tuple
 
 import numpy
 
-from ._bulk import LIGHTEST, MOST_WEIGHT, in_order
+from ._bulk import MOST_WEIGHT, checked_threads, in_order
 from ._library import CPosition
+from ._processes import LIGHTEST, Run
 from ._rules import refusal_for
-from ._solvers import Solver
+from ._solvers import NO_CLAIM, Solver
 
 SIZES = numpy.array([bin(byte).count("1") for byte in range(256)], numpy.uint8)  # the number of bits in each byte
 
@@ -34,23 +35,33 @@ def slices_of(solver: Solver, masks: Any, threads: int) -> List[Tuple[slice, int
     return [(part, int(empties[part].max())) for part in parts]
 
 
-def found_by(solver: Solver, call: Any, record: Any, own: Any, opp: Any, threads: int) -> List[Any]:
-    """Solves positions by `call`, a function of the library that writes a `record` (a C structure) for each position.
-    Returns an array for each member of `record`. Raises TypeError unless `own` and `opp`, the mover's and the other
-    side's masks, are arrays of uint64, ValueError unless these have one dimension and equal lengths, and Refused."""
+def checked(own: Any, opp: Any) -> Tuple[Any, Any]:
+    """Returns the masks of the mover's and of the other side's discs as arrays. Raises TypeError unless they are arrays
+    of uint64, and ValueError unless these have one dimension and equal lengths."""
     own, opp = numpy.asarray(own), numpy.asarray(opp)
-    if own.dtype != numpy.uint64 or opp.dtype != numpy.uint64:
-        raise TypeError("the masks are arrays of uint64")
+    for masks in (own, opp):
+        if masks.dtype != numpy.uint64:
+            wanted = "the masks are arrays of uint64, as masks_of(positions) returns them"
+            raise TypeError(f"{wanted}, not of {masks.dtype}")
     if own.ndim != 1 or own.shape != opp.shape:
         raise ValueError("the masks are two arrays of one dimension and of equal length")
-    masks = numpy.stack((own, opp), axis=1)  # each row is laid out as a CPosition
+    return own, opp
+
+
+def found_by(solver: Solver, name: str, record: Any, own: Any, opp: Any, threads: int, timeout: Optional[float]
+             ) -> List[Any]:
+    """Solves positions by the call `name` of the library, which writes a `record` (a C structure) for each position.
+    Returns an array for each member of `record`. Raises the same as `checked`, and Refused and TimeoutError."""
+    run = Run(solver._library, timeout)
+    masks = numpy.stack(checked(own, opp), axis=1)  # each row is laid out as a CPosition
     found: Any = numpy.empty(len(masks), record)
 
-    def call_for(part: Tuple[slice, int]) -> Tuple[()]:
+    def call_for(run: Run, part: Tuple[slice, int]) -> Tuple[()]:
         rows, empties = part
-        asked = (CPosition * len(masks[rows])).from_buffer(masks[rows])
-        solver._fill((record * len(asked)).from_buffer(found[rows]), call, asked, empties)
+        count = len(masks[rows])
+        asked, results = (CPosition * count).from_buffer(masks[rows]), (record * count).from_buffer(found[rows])
+        solver._fill(run, name, count, asked, NO_CLAIM, results, empties)
         return ()  # the results are in `found`
 
-    list(in_order(call_for, slices_of(solver, masks, threads), threads))
-    return [numpy.ascontiguousarray(found[name]) for name, _ in record._fields_]
+    list(in_order(run, call_for, slices_of(solver, masks, checked_threads(threads)), threads))
+    return [numpy.ascontiguousarray(found[field]) for field, _ in record._fields_]

@@ -1,7 +1,8 @@
 """Shows boards as pictures and as text."""
 import numbers
+import os
 import reprlib
-from typing import Dict, Iterator, Mapping, Optional
+from typing import Dict, Iterator, Mapping, Optional, Union
 
 from ._squares import NAMES, square_name, square_number
 
@@ -10,7 +11,7 @@ OTHER = {"X": "O", "O": "X"}
 SQUARE, MARGIN, FOOT = 44, 22, 34  # pixels
 BOARD = 8 * SQUARE
 COLOURS = {"X": "#111111", "O": "#fafafa"}
-GREEN, LINES, INK, MARK = "#2f8f5b", "#14472c", "#333333", "#ffd54a"
+GREEN, LINES, INK, MARK, LAST = "#2f8f5b", "#14472c", "#333333", "#ffd54a", "#d0402b"
 
 
 def checked_side(side: str) -> str:
@@ -24,11 +25,12 @@ class Board:
 
     `own`, `opp` and `side` are those of a Position: the masks of the discs of the side to move and of the other side,
     and the colour of the side to move, "X" or "O". Below the board, this colour and `state` follow, as "X is to move".
-    `scores` is {name of an empty square: score}: each score is shown in its square, and the highest are marked. Raises
-    ValueError for another side and for a name of no empty square, TypeError for a score that is not a number."""
+    `scores` is {name of an empty square: score}: each score is shown in its square, and the highest are marked. The
+    picture marks the disc on the square `last_move`, if that is given. Raises ValueError for another side and for a
+    name of no empty square or no disc, TypeError for a score that is not a number."""
 
     def __init__(self, own: int, opp: int, side: str, scores: Optional[Mapping[str, float]] = None,
-                 state: str = "is to move") -> None:
+                 state: str = "is to move", last_move: Optional[str] = None) -> None:
         self.state = state
         self.side, other = checked_side(side), OTHER[side]
         self.letters = [side if own >> at & 1 else other if opp >> at & 1 else "-" for at in range(64)]
@@ -39,6 +41,9 @@ class Board:
             if self.letters[at] != "-":
                 raise ValueError(f"{square_name(at)} has a score, but is not empty")
         self.best = max(self.scores.values(), default=None)
+        self.last = None if last_move is None else square_number(last_move)
+        if self.last is not None and self.letters[self.last] == "-":
+            raise ValueError(f"{square_name(self.last)} was the last move, but is empty")
 
     def to_obf(self) -> str:
         """The board as an OBF line: 64 squares, and ` X;` or ` O;`."""
@@ -51,6 +56,13 @@ class Board:
         return "\n".join([*map("{} {}".format, " 12345678", lines), f"{self.side} {self.state}"])
 
     __repr__ = __str__
+
+    def save(self, path: "Union[str, os.PathLike[str]]") -> None:
+        """Writes the picture to a file, whose name ends with `.svg`. Raises ValueError for another end, and OSError."""
+        if not os.fspath(path).lower().endswith(".svg"):
+            raise ValueError(f"a board is saved as a picture in SVG, so its file's name ends with .svg: {path}")
+        with open(path, "w", encoding="utf-8") as file:
+            file.write(f"{self._repr_svg_()}\n")
 
     def _text(self, at: int) -> str:
         """The text of square `at`: its score, with a star if no score is higher; without a score, `X`, `O` or `-`."""
@@ -79,6 +91,8 @@ class Board:
         x, y = left + SQUARE // 2, top + SQUARE // 2
         if self.letters[at] != "-":
             yield disc(self.letters[at], x, y, SQUARE * 2 // 5)
+            if at == self.last:
+                yield f'<circle cx="{x}" cy="{y}" r="5" fill="{LAST}"/>'
         elif at in self.scores:
             is_best = self.scores[at] == self.best
             if is_best:

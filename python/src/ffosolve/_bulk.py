@@ -3,23 +3,21 @@ import queue
 import threading
 import time
 from collections import deque
-from concurrent.futures import Future
+from concurrent.futures import Future, wait
 from typing import Any, Callable, Deque, Iterable, Iterator, List, NamedTuple, Sequence, TypeVar, Union
 
+from ._processes import LIGHTEST, Run
 from ._refusals import Refused, checked_number
-from ._rules import not_a_position, refusal_for, size_of
+from ._rules import checked_positions, not_a_position, refusal_for, size_of
 
 A = TypeVar("A")
 B = TypeVar("B")
 
 # Positions of this weight together are solved in some hundredths of a second. A position with up to 8 empty squares
 # weighs 1, and each further empty square doubles the weight, so one with 16 is heavy enough for a part of its own.
-MOST_WEIGHT, LIGHTEST = 256, 8
+MOST_WEIGHT = 256
 MOST_SECONDS = 0.01  # a part ends with the first position that comes later than this after the start of the part
 AHEAD = 32  # parts that are read ahead for each thread, so that a slow part does not hold up the other threads
-# A call is brief if it solves one position with 14 empty squares, which takes at most 0.15 s, or 4 times as many
-# positions for each empty square less, down to 8.
-BRIEF = 4096
 
 
 class Part(NamedTuple):
@@ -35,7 +33,7 @@ def parts_of(positions: Iterable[Sequence[int]], max_empties: int, whole: bool =
     maybe empty, and last a Refused. Raises TypeError for what is no position, ValueError for most wrong masks."""
     clock = time.monotonic
     before, most, weight, part, end = 0, 0, 0, [], clock() + MOST_SECONDS  # type: ignore[var-annotated]
-    for position in positions:
+    for position in checked_positions(positions):
         try:
             own, opp = position
             empties = 64 - size_of(own | opp)
@@ -46,11 +44,15 @@ def parts_of(positions: Iterable[Sequence[int]], max_empties: int, whole: bool =
             yield Part(part, most)
             yield refusal
             return
+        more = 1 if empties <= LIGHTEST else 1 << (empties - LIGHTEST)
+        if part and weight + more > MOST_WEIGHT and not whole:
+            yield Part(part, most)
+            before, most, weight, part = before + len(part), 0, 0, []
         if empties > most:
             most = empties
-        weight += 1 if empties <= LIGHTEST else 1 << (empties - LIGHTEST)
+        weight += more
         part.append(position)
-        if not whole and (weight >= MOST_WEIGHT or clock() > end):
+        if (weight >= MOST_WEIGHT or clock() > end) and not whole:
             yield Part(part, most)
             before, most, weight, part, end = before + len(part), 0, 0, [], clock() + MOST_SECONDS
     if part:
@@ -61,12 +63,13 @@ def checked_threads(threads: int) -> int:
     return checked_number("threads", threads, 1)
 
 
-def in_order(call: Callable[[A], Iterable[B]], parts: Iterable[A], threads: int) -> Iterator[B]:
-    """Calls `call` with each of `parts`, on up to `threads` new threads or, if `threads` is 1, on the caller's. Yields
-    the items that the calls return, in the order of `parts`."""
+def in_order(run: Run, call: Callable[[Run, A], Iterable[B]], parts: Iterable[A], threads: int) -> Iterator[B]:
+    """Calls `call` with `run` and each of `parts`, on up to `threads` new threads or, if `threads` is 1, on the
+    caller's. Yields the items that the calls return, in the order of `parts`. Stops `run` when it is left."""
     if threads == 1:
         for part in parts:
-            yield from call(part)
+            run.wait_seconds()
+            yield from call(run, part)
         return
     tasks: "queue.SimpleQueue[Any]" = queue.SimpleQueue()
     waiting: Deque[Any] = deque()
@@ -77,29 +80,22 @@ def in_order(call: Callable[[A], Iterable[B]], parts: Iterable[A], threads: int)
                 start_worker(iter(tasks.get, None))
                 started += 1
             waiting.append(Future())
-            tasks.put((waiting[-1], call, part))
+            tasks.put((waiting[-1], call, run, part))
             while waiting and (waiting[0].done() or len(waiting) >= AHEAD * threads):
-                yield from waiting.popleft().result()
+                yield from result_of(waiting.popleft(), run)
         while waiting:
-            yield from waiting.popleft().result()
+            yield from result_of(waiting.popleft(), run)
     finally:
         for future in waiting:
             future.cancel()
         for _ in range(started):
             tasks.put(None)
+        run.stop()
 
 
-def interruptible(call: Callable[..., A], count: int, empties: int, *arguments: Any) -> A:
-    """Makes a call of the library for `count` positions with at most `empties` empty squares, and returns its result.
-    On the main thread, a call that may take long (see BRIEF) runs on a new one if possible, so Ctrl-C ends the wait."""
-    is_brief = count << 2 * max(0, empties - LIGHTEST) <= BRIEF
-    if is_brief or threading.current_thread() is not threading.main_thread():
-        return call(*arguments)
-    future: "Future[A]" = Future()
-    try:
-        start_worker([(future, call, *arguments)])
-    except RuntimeError:  # no thread can be started
-        return call(*arguments)
+def result_of(future: "Future[A]", run: Run) -> A:
+    while not future.done():
+        wait([future], run.wait_seconds())
     return future.result()
 
 

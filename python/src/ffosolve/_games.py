@@ -9,7 +9,7 @@ from ._boards import OTHER
 from ._library import CPosition, loaded
 from ._positions import START, Position
 from ._rules import NO_SQUARE, illegal_move, moves, size_of
-from ._squares import NAMES, square_name
+from ._squares import NAMES
 from ._text import NotText, refuse_archive, text_lines
 from ._transcripts import PASSES, words_of
 
@@ -19,6 +19,7 @@ HEADER = struct.Struct("<4x I H 2x B B B x")  # games, other records, size of th
 EMPTIES_BYTE = 14  # in the header: the number of empty squares
 RECORD, REAL, SCORE, FIRST_MOVE = 68, 6, 7, 8  # the length of a game's record in bytes, and offsets in it
 MOST_DISCS = 64
+SQUARE_NUMBERS = range(64)
 # The number of the square that each byte stands for in a WTHOR file: ten times the row plus the column, both from 1.
 SQUARES = bytes(WORDS.get(f"{chr(96 + byte % 10)}{byte // 10}", NO_SQUARE) for byte in range(256))
 TEXT = bytes([*b"\t\n\v\f\r", *range(32, 256)])  # a text begins with one of these; a WTHOR file begins with the century
@@ -68,8 +69,25 @@ class Game(NamedTuple):
     def squares(self) -> List[str]:
         """The names of the moves' squares, such as "F5", without passes. For a move that is not a square, the list has
         the word of the transcript in small letters, or the value of the byte in the WTHOR file, such as "99"."""
-        names = zip(self.moves, self.words)
-        return [str(word) if move == NO_SQUARE else square_name(move) for move, word in names if move != PASS]
+        return [NAMES[move] if move in SQUARE_NUMBERS else str(self._word(at))
+                for at, move in enumerate(self.moves) if move != PASS]
+
+    def turns(self) -> List[Tuple[Position, str]]:
+        """The moves of the game without passes, each as the position in which it is made and the name of its square. If
+        the other side has to pass before a move, the position is the one after the pass. Raises the same as
+        `Solver.positions`. This prints the moves that lose discs:
+
+            for position, square in game.turns():
+                if position.empties <= solver.max_empties:
+                    scores = solver.move_scores(position)
+                    if scores[square] < max(scores.values()):
+                        print(position.side, square, scores[square], "instead of", max(scores.values()))
+        """
+        return [(at if at.legal_moves else at.passed(), square) for at, square in zip(positions_of(self), self.squares)]
+
+    def _word(self, at: int) -> object:
+        """What the file or transcript has for the move at an index; without its words, what `moves` has."""
+        return self.words[at] if at < len(self.words) else self.moves[at]
 
 
 def read_games(
@@ -167,7 +185,10 @@ def game_of(number: int, record: bytes) -> Game:
 
 def positions_of(game: Game) -> List[Position]:
     """The positions of a game: the start, and the one after each move except passes. Raises GameRefused."""
-    return [position_of(*it) for it in played(game)]
+    found = [position_of(*it) for it in played(game)]
+    for position, square in zip(found[1:], game.squares):
+        position._last_move = square
+    return found
 
 
 def position_of(masks: CPosition, side: str) -> Position:
@@ -181,8 +202,8 @@ def played(game: Game) -> List[Tuple[CPosition, str]]:
     library, at, side = loaded(), CPosition(*START), START.side
     found = [(at, side)]
     for index, square in enumerate(game.moves):
-        if square == NO_SQUARE:
-            raise GameRefused(f"{game.words[index]!r} is not a square", game.number, len(found))
+        if square != PASS and square not in SQUARE_NUMBERS:
+            raise GameRefused(f"{game._word(index)!r} is not a square", game.number, len(found))
         after = CPosition()
         if library.ffosolve_play(at, square, after):
             position = position_of(at, side)
@@ -192,7 +213,7 @@ def played(game: Game) -> List[Tuple[CPosition, str]]:
                 if square == PASS:
                     continue
             if library.ffosolve_play(at, square, after):
-                refusal = illegal_move(library, position, "a pass" if square == PASS else square_name(square))
+                refusal = illegal_move(library, position, "a pass" if square == PASS else NAMES[square])
                 raise GameRefused(refusal.reason, game.number, len(found))
         at, side = after, OTHER[side]
         found.append((at, side))

@@ -1,14 +1,20 @@
-"""Finds the shared library, and declares its calls to ctypes, except for two that this package does not need."""
+"""Finds the shared library, and declares its calls to ctypes, except for two that this package does not need.
+
+As a program, makes the calls that another process asks for (see `serve`), so it imports nothing of this package."""
 import ctypes
 import functools
 import os
+import select
+import struct
 import sys
-from typing import List, Union
+import threading
+from typing import Any, List, Union
 
 NAME = "libffosolve.so.1"
 MAJOR = 1
 MOST_EMPTIES = 60
 MOST_ENTRIES = 4_194_304
+REQUEST, STATUS = struct.Struct("16sIQQ"), struct.Struct("i")  # name, scoring, entries, count of positions
 _loaded: List[ctypes.CDLL] = []
 
 
@@ -34,7 +40,7 @@ def places() -> List[str]:
     finds it; then this file in the folder `lib` of the virtual environment, if any, of Python and of /usr/local."""
     named = os.environ.get("FFOSOLVE_LIBRARY")
     if named:
-        return [named]
+        return [os.path.abspath(named) if os.sep in named else named]
     own = [os.path.join(os.path.dirname(__file__), level, NAME) for level in ("x86-64-v3", "x86-64-v2")]
     prefixes = dict.fromkeys([sys.prefix, sys.base_prefix, "/usr/local"])
     return [*filter(os.path.exists, own), NAME, *(os.path.join(prefix, "lib", NAME) for prefix in prefixes)]
@@ -68,6 +74,8 @@ def declared(place: str) -> ctypes.CDLL:
         "move_scores_all": [to(CPosition), size, number, size, to(CMoveScores), size, to(size)],
         "moves": [CPosition, to(ctypes.c_uint64)],
         "play": [CPosition, ctypes.c_uint8, to(CPosition)],
+        "canonical": [CPosition, to(CPosition), to(number)],
+        "image": [ctypes.c_uint64, number, to(ctypes.c_uint64)],
         "limit": [number],
         "version": [],
     }
@@ -81,3 +89,48 @@ def declared(place: str) -> ctypes.CDLL:
         raise LibraryNotFound(f"{place} has version {library.ffosolve_version()}, not {MAJOR}.x.y")
     _loaded.append(library)
     return library
+
+
+def search(library: ctypes.CDLL, name: str, scoring: int, entries: int, asked: Any, claim: Any, found: Any) -> int:
+    """Makes the call `name`, writes what it finds to `found`, and returns its status. For "solve" and "confirm",
+    `asked` is a position, otherwise an array of them, and `found` is another. Only "confirm" takes the `claim`."""
+    status: int
+    if name == "solve":
+        status = library.ffosolve_solve(asked, scoring, entries, found)
+    elif name == "confirm":
+        status = library.ffosolve_confirm(asked, scoring, entries, claim, found)
+    else:
+        call = library.ffosolve_solve_all if name == "solve_all" else library.ffosolve_move_scores_all
+        status = call(asked, len(asked), scoring, entries, found, len(asked), ctypes.c_size_t())
+    return status
+
+
+def serve(place: str) -> None:
+    """Makes calls of the library at `place` until the end of standard input, a socket, and then ends even in a call. A
+    request is REQUEST, the positions and a claim. The reply is STATUS and, if that is 0, what the call found."""
+    requests, replies, library = open(0, "rb", closefd=False), open(1, "wb", closefd=False), declared(place)
+
+    def end_with_the_socket() -> None:
+        hangup = select.poll()
+        hangup.register(0, 0)
+        hangup.poll()
+        os._exit(0)
+
+    threading.stack_size(1 << 18)
+    threading.Thread(target=end_with_the_socket, daemon=True).start()
+    while True:
+        head = requests.read(REQUEST.size)
+        if len(head) < REQUEST.size:
+            return
+        text, scoring, entries, count = REQUEST.unpack(head)
+        name, data = text.rstrip(b"\0").decode(), bytearray(requests.read(16 * count + 16))
+        asked, claim = (CPosition * count).from_buffer(data), CAnswer.from_buffer(data, 16 * count)
+        found = ((CMoveScores if name == "move_scores_all" else CAnswer) * count)()
+        both = (asked, found) if name.endswith("_all") else (asked[0], found[0])
+        status = search(library, name, scoring, entries, both[0], claim, both[1])
+        replies.write(STATUS.pack(status) + (b"" if status else bytes(found)))
+        replies.flush()
+
+
+if __name__ == "__main__":
+    serve(sys.argv[1])

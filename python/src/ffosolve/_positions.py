@@ -1,15 +1,18 @@
 """Positions, and the lines of text that hold them, in the format OBF, which `Position.from_obf` explains."""
+import ctypes
 import os
 import re
 import reprlib
-from typing import Any, BinaryIO, Callable, Iterable, Iterator, List, Mapping, NamedTuple, Optional, Tuple, Union
+from typing import (
+    Any, BinaryIO, Callable, Dict, Iterable, Iterator, List, Mapping, NamedTuple, Optional, Tuple, Type, TypeVar, Union)
 
 from ._answers import Answer, Kind, Scoring, scoring_of
 from ._boards import OTHER, Board, checked_side
 from ._library import CAnswer, loaded
 from ._refusals import BadSide, BadSquare, LineRefused, NoMemory, NoMove, NoPosition, ShortBoard
-from ._rules import accept, c_position, illegal_move, moves, play
-from ._squares import NAMES, square_names
+from ._rules import accept, c_position, illegal_move, moves, play, size_of
+from ._squares import NAMES, number_of, square_names, square_of
+from ._symmetries import Symmetry, canonical_form, image
 from ._transcripts import PASSES, words_of
 
 LINE = re.compile(rb"([ \t]*)([Xx*BbOoWw.-]{0,64})([ \t]*)([Xx*BbOoWw]?)([^%]*)")
@@ -17,8 +20,17 @@ MOVES = {name.encode(): name for name in (*NAMES, "PS", "--")}
 LISTED = re.compile(rb"(?:\A|;)[ \t]*([A-Ha-h][1-8]|[Pp][Ss]|--):([+-]?(?:[0-5]?[0-9]|6[0-4]))[ \t]*(?=;|\Z)")
 Lines = Iterable[Union[str, bytes]]
 Source = Union[str, "os.PathLike[str]", Lines]
+Listed = Tuple[Tuple[str, int], ...]
+P = TypeVar("P", bound="Position")
 BLACK, WHITE = (bytes.maketrans(b"Xx*BbOoWw-.", bits) for bits in (b"11111000000", b"00000111100"))
 STATES = {Kind.PASS: "has to pass: {:+}", Kind.OVER: "scores {:+}: the game is over"}
+
+
+class Discs(NamedTuple):
+    """How many discs each side has."""
+
+    black: int
+    white: int
 
 
 class Position(NamedTuple("Masks", [("own", int), ("opp", int)])):
@@ -27,49 +39,97 @@ class Position(NamedTuple("Masks", [("own", int), ("opp", int)])):
     Square A1 is bit 0 of a mask and H8 bit 63. `side` is "X" (Black) or "O" (White); another raises ValueError. Only
     texts and pictures depend on `side`: positions with equal masks are equal, and so are their answers.
 
-    A position does not change: `play`, `play_all` and `passed` return a new one. The shared library knows the rules, so
-    `legal_moves`, `must_pass`, `is_over`, `play`, `play_all` and `score` raise LibraryNotFound without it. Only these
-    and a Solver check masks. They raise ValueError for one outside 0 to 2**64 - 1, SharedSquare if a square is in both.
+    A position does not change: `play`, `play_all` and `passed` return a new one, of the same class. The shared library
+    knows the rules, so `legal_moves`, `is_legal`, `must_pass`, `is_over`, `play`, `play_all`, `score`, `canonical`,
+    `image` and `symmetries` raise LibraryNotFound without it. Only these and a Solver check masks. They raise
+    ValueError for one outside 0 to 2**64 - 1, SharedSquare if a square is in both.
     """
 
-    side: str = "X"
+    _side = "X"
+    _last_move: Optional[str] = None
+    _listed: Listed = ()
+    _number: Optional[int] = None
 
-    def __new__(cls, own: int, opp: int, side: str = "X") -> "Position":
+    def __new__(cls: Type[P], own: int, opp: int, side: str = "X") -> P:
         position = tuple.__new__(cls, (own, opp))
         if side != "X":
-            position.side = checked_side(side)
+            position._side = checked_side(side)
         return position
 
     @classmethod
-    def start(cls) -> "Position":
+    def start(cls: Type[P]) -> P:
         """The position in which a game begins."""
-        return START
+        return cls(*START)
 
     @classmethod
-    def from_obf(cls, text: Union[str, bytes]) -> "Line":
-        """The position of a line of OBF text, with the moves that the line lists. The line has 64 squares in the order
-        A1, B1, .. H8, the side to move, and maybe moves with their scores such as `H1:+62;`.
+    def from_obf(cls: Type[P], text: Union[str, bytes]) -> P:
+        """The position of a line of OBF text. The line has 64 squares in the order A1, B1, .. H8, the side to move, and
+        maybe moves with their scores such as `H1:+62;`, which become `listed`.
 
         Any of `X x * B b` stands for Black, any of `O o W w` for White, and `-` or `.` for an empty square. Blanks and
         tabs before the squares and the side are skipped. After the side, any text but moves with scores is skipped.
         Raises NoPosition, ShortBoard, BadSquare and BadSide (ValueErrors), NoMemory and TypeError. Needs no library.
         """
-        return read_line(text, None)
+        return read_line(text, None, cls)
 
-    def to_obf(self, side: Optional[str] = None) -> str:
-        """The position as an OBF line: 64 squares, and ` X;` or ` O;`. If `side` is given and not the position's, all
-        colours are exchanged. Raises ValueError for a side other than "X" and "O"."""
-        return self.show(side=side).to_obf()
+    def to_obf(self, side: Optional[str] = None, moves: Union[Mapping[str, int], Iterable[Tuple[str, int]]] = ()
+               ) -> str:
+        """The position as an OBF line: 64 squares, ` X;` or ` O;`, and ` H1:+62;` for each of `moves`. These are the
+        position's `listed`, for example, or what `Solver.move_scores` returns. If `side` is given and not the
+        position's, all colours are exchanged. Raises ValueError for a side other than "X" and "O", and for no move."""
+        pairs = moves.items() if isinstance(moves, Mapping) else moves
+        return self.show(side=side).to_obf() + "".join(f" {checked_move(name)}:{score:+03};" for name, score in pairs)
+
+    @property
+    def side(self) -> str:
+        """The colour of the side to move: "X" (Black) or "O" (White)."""
+        return self._side
+
+    @property
+    def last_move(self) -> Optional[str]:
+        """The move that led from another position to this one, such as "F5" or "PS"; None if that is not known."""
+        return self._last_move
+
+    @property
+    def listed(self) -> Listed:
+        """Each move that the position's line of OBF text lists with a whole score from -64 to 64, and this score, in
+        order, such as `(("H1", 62), ("A1", 52))`. "PS" is a pass, and "--" the end of the game. The moves may be
+        illegal and the scores wrong."""
+        return self._listed
+
+    @property
+    def number(self) -> Optional[int]:
+        """The line's number, from 1, if `read_lines` or `parse_lines` read the position's line; otherwise None."""
+        return self._number
 
     @property
     def empties(self) -> int:
         """How many squares are empty."""
-        return 64 - bin(self.own | self.opp).count("1")
+        return 64 - size_of(self.own | self.opp)
+
+    @property
+    def discs(self) -> Discs:
+        """How many discs Black and White have."""
+        own, opp = size_of(self.own), size_of(self.opp)
+        return Discs(own, opp) if self.side == "X" else Discs(opp, own)
+
+    def piece_at(self, square: Union[int, str]) -> Optional[str]:
+        """"X" if a black disc is on a square, "O" if a white one is, None if it is empty. `square` is a name such as
+        "F5" or a number. Raises ValueError for a name or number that no square has, TypeError for other types."""
+        bit = 1 << square_of(square)
+        return self.side if self.own & bit else OTHER[self.side] if self.opp & bit else None
 
     @property
     def legal_moves(self) -> List[str]:
         """The names of the squares that the side to move may play, in the order A1, B1, .. H8."""
         return square_names(moves(loaded(), self))
+
+    def is_legal(self, square: Union[int, str]) -> bool:
+        """Whether `play` takes a move. Raises ValueError for a name that no square has, TypeError for other types."""
+        if is_pass(square):
+            return self.must_pass
+        number = number_of(square)
+        return 0 <= number < 64 and bool(moves(loaded(), self) >> number & 1)
 
     @property
     def must_pass(self) -> bool:
@@ -81,31 +141,34 @@ class Position(NamedTuple("Masks", [("own", int), ("opp", int)])):
         """Whether neither side has a legal move."""
         return not self.legal_moves and not self.passed().legal_moves
 
-    def play(self, square: Union[int, str]) -> "Position":
-        """The position after a move; the other side is to move. `square` is a name such as "F5" or a number, 0 to 63.
-        Raises NoMove for an illegal move and another number, ValueError for another name, TypeError for other types."""
-        return Position(*play(loaded(), self, square), OTHER[self.side])
+    def play(self: P, square: Union[int, str]) -> P:
+        """The position after a move; the other side is to move. `square` is a name such as "F5" or a number, 0 to 63,
+        or a pass: "PS", "pass", "pa" or "--". Raises NoMove for an illegal move and another number, ValueError for
+        another name, TypeError for other types."""
+        return played(loaded(), self, square)
 
-    def play_all(self, squares: Union[str, Iterable[Union[int, str]]]) -> "Position":
+    def play_all(self: P, squares: Union[str, Iterable[Union[int, str]]]) -> P:
         """The position after several moves. `squares` is a transcript such as "f5d6c3", in any form that `Game.of_text`
-        reads, or a list of squares. Passes may be left out. Raises TypeError for another object, and NoMove for an
-        illegal move or a word that is not a square. Its message has the move's number, from 1 and without passes."""
+        reads, or a list of what `play` takes. Passes may be left out. Raises TypeError for another object, and NoMove
+        for an illegal move or a word that is not a square. Its message has the move's number, from 1 and without
+        passes."""
         if not hasattr(squares, "__iter__"):
             raise TypeError(f"moves are a transcript or a list of squares, not {reprlib.repr(squares)}")
         position = self
         for square in words_of(squares) if isinstance(squares, str) else squares:
-            is_pass = isinstance(square, str) and square.lower() in PASSES
-            if not position.legal_moves and (is_pass or position.must_pass):
+            if is_pass(square) and position.is_over:
+                continue
+            if not is_pass(square) and position.must_pass:
                 position = position.passed()
-                if is_pass:
-                    continue
             try:
-                if is_pass:
-                    raise illegal_move(loaded(), position, "a pass")
                 position = position.play(square)
             except ValueError as why:
                 raise NoMove(reason=f"move {self.empties - position.empties + 1}: {why}") from None
         return position
+
+    def passed(self: P) -> P:
+        """The position after a pass, even if a pass is not legal. The other side is to move."""
+        return following(self, self.opp, self.own, OTHER[self.side], "PS")
 
     def score(self, scoring: Union[Scoring, int, str] = Scoring.WINNER) -> int:
         """The mover's score, if the game is over; else raises ValueError. Raises TooManyEmpties and UnknownScoring."""
@@ -115,11 +178,33 @@ class Position(NamedTuple("Masks", [("own", int), ("opp", int)])):
         accept(loaded().ffosolve_solve(c_position(self), scoring_of(scoring), 0, answer))
         return int(answer.score)
 
+    def canonical(self: P) -> P:
+        """The same position for all eight images of a position under the symmetries of the board: the image with the
+        least `own` and, among these, the least `opp`."""
+        own, opp, _ = canonical_form(self)
+        return type(self)(own, opp, self.side)
+
+    @property
+    def canonical_symmetry(self) -> Symmetry:
+        """The first Symmetry that leads to `canonical()`. `canonical_symmetry.square("F5")` is the square that F5
+        becomes there, and `canonical_symmetry.inverse` leads back."""
+        return canonical_form(self)[2]
+
+    def image(self: P, symmetry: int) -> P:
+        """The image of the position under a Symmetry, or under the one with a number, 0 to 7. Raises UnknownSymmetry
+        for another number."""
+        return type(self)(image(self.own, symmetry), image(self.opp, symmetry), self.side)
+
+    def symmetries(self: P) -> List[P]:
+        """The eight images of the position, in the order of Symmetry. Some are equal if the position is symmetric."""
+        return [self.image(symmetry) for symmetry in Symmetry]
+
     def show(self, scores: Union[Mapping[str, float], Answer, None] = None, side: Optional[str] = None) -> Board:
         """The board, which a notebook shows as a picture and print() as text. If `scores` is {square's name: score}, as
         from `Solver.move_scores`, each score is written into its square, and the best are marked. If it is an Answer,
-        the score is written into each best move's square or, for a pass or a finished game, below the board. If `side`
-        is given and not the position's, all colours are exchanged. Raises the same as Board."""
+        the score is written into each best move's square or, for a pass or a finished game, below the board. The
+        picture marks the disc of `last_move`. If `side` is given and not the position's, all colours are exchanged.
+        Raises the same as Board."""
         state = "is to move"
         if isinstance(scores, Answer):
             state = STATES.get(scores.kind, state).format(scores.score)
@@ -127,7 +212,8 @@ class Position(NamedTuple("Masks", [("own", int), ("opp", int)])):
         elif scores is not None and not isinstance(scores, Mapping):
             wanted = "scores are an Answer, or a mapping from squares' names such as move_scores returns"
             raise TypeError(f"{wanted}, not {reprlib.repr(scores)}")
-        return Board(self.own, self.opp, self.side if side is None else side, scores, state)
+        last = self.last_move if self.last_move in NAMES else None
+        return Board(self.own, self.opp, self.side if side is None else side, scores, state, last)
 
     def __str__(self) -> str:
         return str(self.show())
@@ -136,37 +222,53 @@ class Position(NamedTuple("Masks", [("own", int), ("opp", int)])):
         text = super().__repr__()
         return text if self.side == "X" else f"{text[:-1]}, side={self.side!r})"
 
-    def _replace(self, **masks: int) -> "Position":
-        return Position(*super()._replace(**masks), self.side)
+    def _asdict(self) -> Dict[str, Any]:
+        return {**super()._asdict(), "side": self.side}
+
+    def _replace(self: P, **changes: Any) -> P:
+        position = type(self)(**{**self._asdict(), **changes})
+        vars(position).update({name: value for name, value in vars(self).items() if name != "_side"})
+        return position
 
     __replace__ = _replace
 
     def _repr_svg_(self) -> str:
         return self.show()._repr_svg_()
 
-    def passed(self) -> "Position":
-        """The position after a pass, even if a pass is not legal. The other side is to move."""
-        return Position(self.opp, self.own, OTHER[self.side])
 
-
+Line = Position  # its name in earlier versions, if a line of text held the position
 START = Position(0x0000000810000000, 0x0000001008000000)  # Black, on E4 and D5, is to move
 
 
-class Line(Position):
-    """The position of a line of OBF text, and what else the line says.
-
-    `listed` has each move that the line lists with a whole score from -64 to 64, and this score, in order, such as
-    `(("H1", 62), ("A1", 52))`. "PS" is a pass, and "--" the end of the game. The moves may be illegal and the scores
-    wrong. `number` is the line's number, from 1, if `read_lines` or `parse_lines` read the line, and otherwise None.
-    """
-
-    listed: Tuple[Tuple[str, int], ...] = ()
-    number: Optional[int] = None
+def is_pass(move: object) -> bool:
+    return isinstance(move, str) and move.lower() in PASSES
 
 
-def read_line(text: Union[str, bytes], number: Optional[int]) -> Line:
-    """Reads a line of OBF text, and raises the same as `Position.from_obf`. `number`, which may be None, becomes the
-    `number` of the Line or the `line` of the LineRefused."""
+def checked_move(name: str) -> str:
+    if name.encode() not in MOVES:
+        raise ValueError(f"a move is listed by the name of a square, as PS or as --, not as {name!r}")
+    return name
+
+
+def following(before: P, own: int, opp: int, side: str, move: str) -> P:
+    position = type(before)(own, opp, side)
+    position._last_move = move
+    return position
+
+
+def played(library: ctypes.CDLL, position: P, square: Union[int, str]) -> P:
+    """What `Position.play` returns, by the rules of `library`."""
+    if is_pass(square):
+        if not position.must_pass:
+            raise illegal_move(library, position, "a pass")
+        return position.passed()
+    own, opp = play(library, position, square)
+    return following(position, own, opp, OTHER[position.side], NAMES[number_of(square)])
+
+
+def read_line(text: Union[str, bytes], number: Optional[int], kind: Type[P]) -> P:
+    """Reads a line of OBF text as a position of the class `kind`, and raises the same as `Position.from_obf`. `number`,
+    which may be None, becomes the `number` of the position or the `line` of the LineRefused."""
     try:
         found: Any = LINE.match(without_end(text))
         _, letters, _, side, rest = found.groups()
@@ -174,10 +276,10 @@ def read_line(text: Union[str, bytes], number: Optional[int]) -> Line:
             raise fault_of(found, number)
         squares = letters[::-1]
         black, white = int(squares.translate(BLACK), 2), int(squares.translate(WHITE), 2)
-        line = Line(black, white) if side in b"Xx*Bb" else Line(white, black, "O")
-        line.number = number
+        line = kind(black, white) if side in b"Xx*Bb" else kind(white, black, "O")
+        line._number = number
         if rest:
-            line.listed = tuple([(MOVES[move.upper()], int(score)) for move, score in LISTED.findall(rest)])
+            line._listed = tuple([(MOVES[move.upper()], int(score)) for move, score in LISTED.findall(rest)])
         return line
     except MemoryError:
         raise NoMemory() from None
@@ -207,7 +309,7 @@ def without_end(text: Union[str, bytes]) -> bytes:
     return line[:-1] if line[-1:] == b"\r" else line
 
 
-def read_lines(source: Source, refused: Optional[Callable[[LineRefused], object]] = None) -> Iterator[Line]:
+def read_lines(source: Source, refused: Optional[Callable[[LineRefused], object]] = None) -> Iterator[Position]:
     """Yields the positions of lines of OBF text, in their order. `source` is a path, or an iterable of lines such as an
     open file. Blank lines and comments are skipped. Any other line without a position raises ShortBoard, BadSquare or
     BadSide, whose `line` is the line's number. If `refused` is given, it is called with the error, and reading goes on:
@@ -220,15 +322,16 @@ def read_lines(source: Source, refused: Optional[Callable[[LineRefused], object]
     return positions_in(lines_of(source), refused)
 
 
-def parse_lines(text: Union[str, bytes], refused: Optional[Callable[[LineRefused], object]] = None) -> Iterator[Line]:
+def parse_lines(text: Union[str, bytes], refused: Optional[Callable[[LineRefused], object]] = None
+                ) -> Iterator[Position]:
     """Yields the positions of the lines of a text, as `read_lines` does for a file."""
     return positions_in(bytes_of(text).split(b"\n"), refused)
 
 
-def positions_in(lines: Lines, refused: Optional[Callable[[LineRefused], object]]) -> Iterator[Line]:
+def positions_in(lines: Lines, refused: Optional[Callable[[LineRefused], object]]) -> Iterator[Position]:
     for number, text in enumerate(lines, 1):
         try:
-            yield read_line(text, number)
+            yield read_line(text, number, Position)
         except NoPosition:
             continue
         except LineRefused as error:

@@ -3,7 +3,7 @@ import array
 import ctypes
 import itertools
 import reprlib
-from typing import Any, Callable, Optional, Sequence, Tuple, Union
+from typing import Any, Callable, Iterable, Optional, Sequence, Tuple, Union
 
 from ._boards import SIDES, Board
 from ._library import CPosition
@@ -11,6 +11,7 @@ from ._refusals import NoMove, Refused, SharedSquare, Status, TooManyEmpties, re
 from ._squares import NAMES, number_of
 
 NO_SQUARE = 255
+WRONG_MASK = "a mask is a number from 0 to 2**64 - 1"
 # How many squares a mask has; `bit_count` came with Python 3.10.
 size_of: Callable[[int], int] = getattr(int, "bit_count", lambda mask: bin(mask).count("1"))
 
@@ -18,6 +19,13 @@ size_of: Callable[[int], int] = getattr(int, "bit_count", lambda mask: bin(mask)
 def not_a_position(it: object) -> TypeError:
     form = "a position is two masks, as Position(own, opp) and Position.from_obf(line) return them"
     return TypeError(f"{form}, not {reprlib.repr(it)}")
+
+
+def checked_positions(positions: Iterable[Sequence[int]]) -> Iterable[Sequence[int]]:
+    """Returns `positions`. Raises TypeError for a single position, whose masks are no positions."""
+    if hasattr(positions, "own"):
+        raise TypeError("positions are a list or another iterable of positions, as [position], not a single one")
+    return positions
 
 
 def empties_of(position: Sequence[int]) -> int:
@@ -41,8 +49,10 @@ def refusal_for(position: Sequence[int], max_empties: int, index: Optional[int] 
 
 def c_position(position: Sequence[int]) -> CPosition:
     empties_of(position)  # raises TypeError for any other object
-    found: CPosition = c_positions([position])[0]
-    return found
+    own, opp = position
+    if (own | opp) >> 64:
+        raise ValueError(WRONG_MASK)
+    return CPosition(own, opp)
 
 
 def c_positions(positions: Sequence[Sequence[int]]) -> Any:
@@ -50,7 +60,7 @@ def c_positions(positions: Sequence[Sequence[int]]) -> Any:
     try:
         masks = array.array("Q", itertools.chain.from_iterable(positions))
     except OverflowError:
-        raise ValueError("a mask is a number from 0 to 2**64 - 1") from None
+        raise ValueError(WRONG_MASK) from None
     return (CPosition * len(positions)).from_buffer(masks)
 
 

@@ -3,7 +3,7 @@ import itertools
 import re
 from typing import Any, Iterator, List, NamedTuple, Tuple, Union
 
-from ._positions import LINE, MOVES, Line, Source, lines_of, read_line, without_end
+from ._positions import LINE, MOVES, Position, Source, lines_of, read_line, without_end
 from ._refusals import LineRefused, NoPosition
 
 SCORE = re.compile(rb"([A-Ha-h][1-8]|[Pp][Ss]|--):([+-]?(?:\d{1,15}(?:\.\d*)?|\.\d+))")
@@ -76,28 +76,28 @@ def compare_scores(listed: Source, scored: Source) -> ScoreComparison:
 
 def pairs_of(listed: Source, scored: Source) -> Iterator[Tuple[int, Any, Any]]:
     """Yields (number, text, answer) for each line of the list that is neither blank nor a comment. `number` is the
-    line's number, from 1. `answer` is the Line that `ffoscores` printed for the text, or None if `ffoscores` refused
-    the text. Raises ValueError as `compare_scores` does."""
+    line's number, from 1. `answer` is the Position that `ffoscores` printed for the text, or None if it refused the
+    text. Raises ValueError as `compare_scores` does."""
     both = itertools.zip_longest(lines_of(listed), lines_of(scored), fillvalue=b"")
     for number, (text, answer) in enumerate(both, 1):
         line, exact = found_in(text, number), found_in(answer, number)
         if isinstance(line, NoPosition) and isinstance(exact, NoPosition):
             continue
         is_refused = isinstance(exact, NoPosition) and without_end(answer).startswith(b"% refused: ")
-        answers = isinstance(line, Line) and isinstance(exact, Line) and exact == line and has_all_moves(exact)
+        answers = isinstance(line, Position) and isinstance(exact, Position) and exact == line and has_all_moves(exact)
         if not is_refused and not answers:
             raise ValueError(f"line {number} of the scores is not what ffoscores prints for line {number} of the list")
         yield number, text, None if is_refused else exact
 
 
-def has_all_moves(line: Line) -> bool:
+def has_all_moves(line: Position) -> bool:
     """Whether a line has a score for each legal move, and for no other. A pass and the end of a game count as moves."""
     moves = line.legal_moves or ["PS" if line.must_pass else "--"]
     return sorted(move for move, _ in line.listed) == sorted(moves)
 
 
-def found_in(text: Union[str, bytes], number: int) -> Union[Line, LineRefused]:
+def found_in(text: Union[str, bytes], number: int) -> Union[Position, LineRefused]:
     try:
-        return read_line(text, number)
+        return read_line(text, number, Position)
     except LineRefused as error:
         return error

@@ -1,25 +1,24 @@
 """The Solver, which calls the shared library. A mask is a set of squares as a number: A1 is bit 0, .. H8 is bit 63."""
-import ctypes
 import os
 import reprlib
 import struct
-from typing import TYPE_CHECKING, Any, Dict, Iterable, Iterator, List, Optional, Sequence, Union
+from typing import TYPE_CHECKING, Any, Dict, Iterable, Iterator, List, Optional, Sequence, Tuple, Union
 
-from ._answers import Answer, Kind, Scoring, scoring_of
-from ._boards import OTHER
-from ._bulk import Part, PartOrRefusal, checked_threads, in_order, interruptible, parts_of
+from ._answers import ENDS, Answer, Kind, Scoring, scoring_of
+from ._bulk import Part, PartOrRefusal, checked_threads, in_order, parts_of
 from ._games import Game, positions_of
-from ._library import MOST_EMPTIES, MOST_ENTRIES, CAnswer, CMoveScores, load
-from ._positions import Position
+from ._library import MOST_EMPTIES, MOST_ENTRIES, CAnswer, CMoveScores, load, search
+from ._positions import P, Position, played
+from ._processes import Run, is_brief
 from ._refusals import Refused, TooManyEntries, checked_number
-from ._rules import accept, c_positions, empties_of, moves, play, refusal_for
+from ._rules import accept, c_position, c_positions, empties_of, moves, refusal_for
 from ._squares import NAMES
 
 if TYPE_CHECKING:
     from ._arrays import Answers
 
 NO_SCORE = 127  # in an array of scores, for a square that is not a legal move
-KINDS = tuple(Kind)
+KINDS, NO_CLAIM = tuple(Kind), CAnswer()
 ANSWER, MOVE_SCORES = struct.Struct("iiQ"), struct.Struct("64bQ")  # the layouts of CAnswer and CMoveScores
 
 
@@ -33,7 +32,13 @@ def table_entries(empties: int) -> int:
 
 
 class Solver:
-    """Solves positions under a scoring. Keeps no results between calls. Several threads may use one Solver at once.
+    """Solves positions under a scoring. Keeps no results between calls. Several threads may use one Solver at once. It
+    can be pickled.
+
+    A call that takes more than `timeout` seconds, if that is given, ends with TimeoutError. A call that is left so, by
+    Ctrl-C or another exception in a signal's handler, or under asyncio because what awaits `asyncio.to_thread(call)` is
+    cancelled, stops. For this, calls for more than a few easy positions or one with up to 14 empty squares are made in
+    processes of the package, which are kept for later calls. Only a call without them goes on for up to 0.2 seconds.
 
     `library` is the path of the shared library. By default, it is the path in the environment variable FFOSOLVE_LIBRARY
     or, if that is empty or not set, the first library that fits: in this package, in the system's library folders, in
@@ -46,14 +51,29 @@ class Solver:
     def __init__(self, library: Union[str, "os.PathLike[str]", None] = None, *,
                  scoring: Union[Scoring, int, str] = Scoring.WINNER, entries: Optional[int] = None,
                  max_empties: int = 20) -> None:
+        if library is not None and not isinstance(library, (str, os.PathLike)):
+            raise TypeError(f"a library is named by its path, not {library!r}; maybe Solver(max_empties={library!r})?")
         if entries is not None and checked_number("entries", entries, 0) > MOST_ENTRIES:
             raise TooManyEntries()
         if checked_number("max_empties", max_empties, 0) > MOST_EMPTIES:
             raise ValueError(f"max_empties is at most {MOST_EMPTIES}, not {max_empties}")
+        self._path = None if library is None else os.path.abspath(library)
         self._scoring = scoring_of(scoring)
         self._entries = entries
         self._max_empties = max_empties
         self._library = load(library)
+
+    def __repr__(self) -> str:
+        library = "" if self._path is None else f"{self._path!r}, "
+        entries = "" if self._entries is None else f"entries={self._entries}, "
+        return f"{type(self).__name__}({library}scoring='{self._scoring}', {entries}max_empties={self._max_empties})"
+
+    def __getstate__(self) -> Dict[str, Any]:
+        return {name: value for name, value in vars(self).items() if name != "_library"}
+
+    def __setstate__(self, state: Dict[str, Any]) -> None:
+        vars(self).update(state)
+        self._library = load(self._path)
 
     @property
     def scoring(self) -> Scoring:
@@ -70,70 +90,99 @@ class Solver:
         number = self._library.ffosolve_version()
         return f"{number // 10000}.{number // 100 % 100}.{number % 100}"
 
-    def solve(self, position: Position) -> Answer:
+    def solve(self, position: Position, *, timeout: Optional[float] = None) -> Answer:
         """The answer for a position. Raises SharedSquare, TooManyEmpties and NoMemory; ValueError for a mask below 0
-        or above 2**64 - 1; and TypeError for an object that is not a position."""
-        return self._answer(self._library.ffosolve_solve, position)
+        or above 2**64 - 1; TypeError for an object that is not a position; TimeoutError; and ChildProcessError if
+        somebody ends the call's process."""
+        return self._answer(self._run(timeout), position)
 
-    def confirm(self, position: Position, claim: Answer) -> Answer:
+    def confirm(self, position: Position, claim: Answer, *, timeout: Optional[float] = None) -> Answer:
         """The answer for a position, found by testing the claimed score first; the answer is exact even if the claim is
         wrong. If most claimed scores are right, this is faster than `solve` from 6 empty squares on. Raises the same as
         `solve`, and TypeError for a claim that is not an Answer."""
         if not isinstance(claim, Answer):
             raise TypeError(f"a claim is an Answer(score, kind, best), not {reprlib.repr(claim)}")
-        return self._answer(self._library.ffosolve_confirm, position, CAnswer(*claim))
+        return self._answer(self._run(timeout), position, claim)
 
-    def move_scores(self, position: Position) -> Dict[str, int]:
+    def best_line(self, position: Position, *, timeout: Optional[float] = None) -> List[Tuple[str, int]]:
+        """Perfect play from a position to the end of the game: each move and its score for the side that makes it, such
+        as [("H1", 62), ("PS", -62), ("A1", 62)]. Of several best moves, it has the first. Raises the same as `solve`.
+        """
+        run, line = self._run(timeout), []
+        answer = self._answer(run, position)
+        while answer.kind != Kind.OVER:
+            move = answer.squares[0] if answer.best else ENDS[answer.kind]
+            line.append((move, answer.score))
+            position = self.play(position, move)
+            answer = self._answer(run, position, answer._replace(score=-answer.score))
+        return line
+
+    def move_scores(self, position: Position, *, timeout: Optional[float] = None) -> Dict[str, int]:
         """Returns {square's name: score for the side to move} for all legal moves, in the order A1, B1, .. H8. The dict
         is empty if there is no legal move. One table serves all moves. Raises the same as `solve`."""
-        return self._score_part(Part([position], self._checked_empties(position)))[0]
+        part = Part([position], self._checked_empties(position))
+        return self._score_part(self._run(timeout), part)[0]
 
-    def solve_all(self, positions: Iterable[Position], *, threads: int = 1) -> List[Answer]:
+    def scored_line(self, position: Position, *, timeout: Optional[float] = None) -> str:
+        """The line that `ffoscores` prints for a position: an OBF line that lists all legal moves with their scores,
+        the best ones first; or a pass, or the end of the game, with its score. Raises the same as `solve`."""
+        run, position = self._run(timeout), as_position(position)
+        scores = self._score_part(run, Part([position], self._checked_empties(position)))[0]
+        if scores:
+            return position.to_obf(moves=sorted(scores.items(), key=lambda it: -it[1]))
+        answer = self._answer(run, position)
+        return position.to_obf(moves=[(ENDS[answer.kind], answer.score)])
+
+    def solve_all(self, positions: Iterable[Position], *, threads: int = 1, timeout: Optional[float] = None
+                  ) -> List[Answer]:
         """The answers for positions, in their order. One thread uses one table for all positions; for several threads,
         the list is cut into parts, each with its own table. Raises the same as `solve`. SharedSquare and TooManyEmpties
         come before any position is solved, and have the `index` of the first refused position."""
-        parts = self._all_parts(positions, whole=checked_threads(threads) == 1)
-        return list(in_order(self._solve_part, parts, threads))
+        return list(self._all(self._solve_part, positions, threads, timeout))
 
-    def solve_iter(self, positions: Iterable[Position], *, threads: int = 1) -> Iterator[Answer]:
+    def solve_iter(self, positions: Iterable[Position], *, threads: int = 1, timeout: Optional[float] = None
+                   ) -> Iterator[Answer]:
         """Yields the answers for positions, in their order, and reads only some positions ahead. Raises the same as
         `solve`. SharedSquare and TooManyEmpties have the `index` of the refused position, and come after the answers
-        for the positions before it."""
-        return in_order(self._solve_part, parts_of(positions, self._max_empties), checked_threads(threads))
+        for the positions before it; so does TimeoutError, `timeout` seconds after the call."""
+        run = Run(self._library, timeout)
+        return in_order(run, self._solve_part, parts_of(positions, self._max_empties), checked_threads(threads))
 
-    def move_scores_all(self, positions: Iterable[Position], *, threads: int = 1) -> List[Dict[str, int]]:
-        """What `move_scores` returns for each position, in the same order. Raises the same as `solve_all`."""
-        return list(in_order(self._score_part, self._all_parts(positions), checked_threads(threads)))
+    def move_scores_all(self, positions: Iterable[Position], *, threads: int = 1, timeout: Optional[float] = None
+                        ) -> List[Dict[str, int]]:
+        """What `move_scores` returns for each position, in the same order; tables and errors are as for `solve_all`."""
+        return list(self._all(self._score_part, positions, threads, timeout))
 
-    def move_scores_iter(self, positions: Iterable[Position], *, threads: int = 1) -> Iterator[Dict[str, int]]:
+    def move_scores_iter(self, positions: Iterable[Position], *, threads: int = 1, timeout: Optional[float] = None
+                         ) -> Iterator[Dict[str, int]]:
         """Yields what `move_scores` returns for each position, in the way that `solve_iter` yields answers."""
-        return in_order(self._score_part, parts_of(positions, self._max_empties), checked_threads(threads))
+        run = Run(self._library, timeout)
+        return in_order(run, self._score_part, parts_of(positions, self._max_empties), checked_threads(threads))
 
-    def solve_arrays(self, own: Any, opp: Any, *, threads: int = 1) -> "Answers":
-        """The answers for positions in arrays of uint64: `own`, the masks of the discs of the side to move, and `opp`,
-        those of the other side. The result has three arrays of the same length: `score` and `kind` of int32, and `best`
-        of uint64. Needs NumPy. Raises the same as `solve_all`, and TypeError and ValueError for other arrays."""
+    def solve_arrays(self, own: Any, opp: Any, *, threads: int = 1, timeout: Optional[float] = None) -> "Answers":
+        """The answers for positions in arrays of uint64, as `masks_of` returns them: `own`, the masks of the discs of
+        the side to move, and `opp`, those of the other side. The result has three arrays of the same length: `score`
+        and `kind` of int32, and `best` of uint64. Needs NumPy. Raises the same as `solve_all`, and TypeError and
+        ValueError for other arrays."""
         from ._arrays import Answers, found_by
 
-        call = self._library.ffosolve_solve_all
-        return Answers(*found_by(self, call, CAnswer, own, opp, checked_threads(threads)))
+        return Answers(*found_by(self, "solve_all", CAnswer, own, opp, threads, timeout))
 
-    def move_scores_arrays(self, own: Any, opp: Any, *, threads: int = 1) -> Any:
+    def move_scores_arrays(self, own: Any, opp: Any, *, threads: int = 1, timeout: Optional[float] = None) -> Any:
         """The scores of all moves in positions. `own` and `opp` are as for `solve_arrays`. The result is an array of
         int8 with a row of 64 scores for each position, in the order A1, B1, .. H8, with NO_SCORE for an illegal move.
         Needs NumPy. Raises the same as `solve_arrays`."""
         from ._arrays import found_by
 
-        call = self._library.ffosolve_move_scores_all
-        return found_by(self, call, CMoveScores, own, opp, checked_threads(threads))[0]
+        return found_by(self, "move_scores_all", CMoveScores, own, opp, threads, timeout)[0]
 
     def moves(self, position: Position) -> int:
         """The mask of legal moves; `Position.legal_moves` names them. Raises SharedSquare, ValueError and TypeError."""
         return moves(self._library, position)
 
-    def play(self, position: Position, square: Union[int, str]) -> Position:
+    def play(self, position: P, square: Union[int, str]) -> P:
         """Returns and raises what `Position.play` does, but asks this Solver's library, not the one loaded first."""
-        return Position(*play(self._library, position, square), OTHER[getattr(position, "side", "X")])
+        return played(self._library, as_position(position), square)
 
     def positions(self, game: Union[Game, str]) -> List[Position]:
         """The positions of a Game or of a transcript: the start, then the position after each move, but none after a
@@ -143,6 +192,9 @@ class Solver:
         if not isinstance(game, Game):
             raise TypeError(f"a game is a Game or the text of a transcript, not {reprlib.repr(game)}")
         return positions_of(game)
+
+    def _run(self, timeout: Optional[float]) -> Optional[Run]:
+        return None if timeout is None else Run(self._library, timeout)
 
     def _entries_for(self, empties: int) -> int:
         return table_entries(empties) if self._entries is None else self._entries
@@ -154,39 +206,50 @@ class Solver:
             raise refusal_for(position, self._max_empties)
         return empties
 
-    def _answer(self, call: Any, position: Position, *claim: CAnswer) -> Answer:
-        empties, answer = self._checked_empties(position), CAnswer()
-        asked = c_positions([position])[0], self._scoring, self._entries_for(empties), *claim, answer
-        accept(interruptible(call, 1, empties, *asked))
-        return Answer(answer.score, KINDS[answer.kind], answer.best)
+    def _answer(self, run: Optional[Run], position: Position, claim: Optional[Answer] = None) -> Answer:
+        empties, found = self._checked_empties(position), CAnswer()
+        name, claimed = ("solve", NO_CLAIM) if claim is None else ("confirm", CAnswer(*claim))
+        self._fill(run, name, 1, c_position(position), claimed, found, empties)
+        return Answer(found.score, KINDS[found.kind], found.best)
 
-    def _all_parts(self, positions: Iterable[Position], whole: bool = False) -> List[PartOrRefusal]:
-        """Returns the Parts that `parts_of` yields; if it yields a Refused, raises that instead."""
-        parts = list(parts_of(positions, self._max_empties, whole))
+    def _all(self, call: Any, positions: Iterable[Position], threads: int, timeout: Optional[float]) -> Iterator[Any]:
+        """Yields what `call` finds for positions. Raises a Refused before the first call if a position is refused."""
+        run = Run(self._library, timeout)
+        parts = list(parts_of(positions, self._max_empties, whole=checked_threads(threads) == 1))
         if parts and isinstance(parts[-1], Refused):
             raise parts[-1]
-        return parts
+        return in_order(run, call, parts, threads)
 
-    def _solve_part(self, part: PartOrRefusal) -> List[Answer]:
-        rows = ANSWER.iter_unpack(self._found_for(part, self._library.ffosolve_solve_all, CAnswer))
+    def _solve_part(self, run: Optional[Run], part: PartOrRefusal) -> List[Answer]:
+        rows = ANSWER.iter_unpack(self._found_for(run, part, "solve_all", CAnswer))
         return [Answer(score, KINDS[kind], best) for score, kind, best in rows]
 
-    def _score_part(self, part: PartOrRefusal) -> List[Dict[str, int]]:
-        rows = MOVE_SCORES.iter_unpack(self._found_for(part, self._library.ffosolve_move_scores_all, CMoveScores))
+    def _score_part(self, run: Optional[Run], part: PartOrRefusal) -> List[Dict[str, int]]:
+        rows = MOVE_SCORES.iter_unpack(self._found_for(run, part, "move_scores_all", CMoveScores))
         return [{name: score for name, score in zip(NAMES, row) if score != NO_SCORE} for row in rows]
 
-    def _found_for(self, part: PartOrRefusal, call: Any, record: Any) -> Any:
-        """Calls `call`, a function of the library, and returns the array that it writes: a `record` (a C structure) for
+    def _found_for(self, run: Optional[Run], part: PartOrRefusal, name: str, record: Any) -> Any:
+        """Makes the call `name` of the library, and returns the array that it writes: a `record` (a C structure) for
         each position of `part`. Raises `part` if it is a Refused, and another if the library refuses the call."""
         if isinstance(part, Refused):
             raise part
         found = (record * len(part.positions))()
-        self._fill(found, call, c_positions(part.positions), part.empties)
+        self._fill(run, name, len(found), c_positions(part.positions), NO_CLAIM, found, part.empties)
         return found
 
-    def _fill(self, found: Any, call: Any, asked: Any, empties: int) -> None:
-        """Calls `call`, a function of the library that writes a record to `found` for each position of `asked`. None of
-        these has more than `empties` empty squares. Raises a Refused if the library refuses the call."""
-        count = len(asked)
-        more = asked, count, self._scoring, self._entries_for(empties), found, count, ctypes.c_size_t()
-        accept(interruptible(call, count, empties, *more))
+    def _fill(self, run: Optional[Run], name: str, count: int, asked: Any, claim: CAnswer, found: Any, empties: int
+              ) -> None:
+        """Makes a call as `search` does for `count` positions with at most `empties` empty squares, with the Solver's
+        scoring and table. Unless the call is brief, `run` makes it. Raises a Refused if the library refuses it."""
+        words = name, self._scoring, self._entries_for(empties), asked, claim, found
+        if is_brief(count, empties):
+            accept(search(self._library, *words))
+        else:
+            accept((run or Run(self._library)).call(*words))
+
+
+def as_position(position: P) -> P:
+    if isinstance(position, Position):
+        return position
+    empties_of(position)  # raises TypeError for an object that is not a position
+    return Position(*position)

@@ -29,7 +29,16 @@ def number_of(square: Union[int, str]) -> int:
     return square_number(square) if isinstance(square, str) else operator.index(square)
 
 
+def square_of(square: Union[int, str]) -> int:
+    """Returns what `number_of` does, but raises ValueError for a number that no square has."""
+    number = number_of(square)
+    square_name(number)
+    return number
+
+
 def square_names(mask: int) -> List[str]:
-    """The names of the squares in a mask, in the order of their numbers."""
+    """The names of the squares in a mask, in the order of their numbers. Raises ValueError for a wrong mask."""
     mask = operator.index(mask)
+    if not 0 <= mask < 1 << 64:
+        raise ValueError(f"a mask is a number from 0 to 2**64 - 1, not {mask}")
     return [NAMES[number] for number in range(64) if mask >> number & 1]

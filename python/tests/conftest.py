@@ -1,0 +1,17 @@
+"""The library of the checkout, if it is built and no other is named; and the end of the processes that calls start."""
+import os
+from pathlib import Path
+
+import pytest
+
+import ffosolve._processes
+
+LIBRARY = Path(__file__).parents[2] / "out/library/libffosolve.so"
+if LIBRARY.exists():
+    os.environ.setdefault("FFOSOLVE_LIBRARY", str(LIBRARY))
+
+
+@pytest.fixture(autouse=True)
+def end_processes():
+    yield
+    ffosolve._processes.end_idle()

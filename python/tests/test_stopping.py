@@ -1,0 +1,385 @@
+"""A call that is left stops, and calls that may last are made in processes, which are kept and end with the program."""
+import asyncio
+import contextlib
+import os
+import shutil
+import signal
+import subprocess
+import sys
+import threading
+import time
+
+import pytest
+
+import ffosolve
+from ffosolve import START, Answer, Kind, Position, Solver, _processes
+
+HOPELESS = START  # would take years
+HARD = Position.from_obf("XXX--OXOOXOOOOOO-XXXXXOO-XXXXOOO---XOXOO--OOOOOO---OOXOO----OOOO X;")  # 16 empty squares
+EASY = Position.from_obf("-OXXXXX-XXXXXXXOXXXXXXXXXXXXXXXXXXXOXXXXXXXXXXXXXXXXXXXXXXXXXXXX X;")
+ANSWER = Answer(62, Kind.MOVES, 0x80)
+PACKAGE = os.path.dirname(os.path.dirname(ffosolve.__file__))
+
+
+def arrays_of(positions):
+    return ffosolve.masks_of(positions)
+
+
+ONE = {
+    "solve": Solver.solve,
+    "confirm": lambda solver, position, **how: solver.confirm(position, ANSWER, **how),
+    "move_scores": Solver.move_scores,
+    "best_line": Solver.best_line,
+    "scored_line": Solver.scored_line,
+}
+MANY = {
+    f"{name}, threads={threads}": lambda solver, position, call=call, threads=threads, **how:
+        call(solver, [EASY, position, position], threads=threads, **how)
+    for threads in (1, 3) for name, call in {
+        "solve_all": Solver.solve_all,
+        "solve_iter": lambda *given, **how: list(Solver.solve_iter(*given, **how)),
+        "move_scores_all": Solver.move_scores_all,
+        "move_scores_iter": lambda *given, **how: list(Solver.move_scores_iter(*given, **how)),
+        "solve_arrays": lambda solver, positions, **how: solver.solve_arrays(*arrays_of(positions), **how),
+        "move_scores_arrays": lambda solver, positions, **how: solver.move_scores_arrays(*arrays_of(positions), **how),
+        }.items()
+}
+CALLS = [pytest.param(call, id=name) for name, call in {**ONE, **MANY}.items()]
+
+
+@pytest.fixture(autouse=True)
+def needs(request):
+    if "arrays" in request.node.name:
+        pytest.importorskip("numpy")
+
+
+@pytest.fixture
+def solver():
+    return Solver(max_empties=60)
+
+
+def stat(process):
+    """Returns what the system says of a process (proc(5)), from its state on: Z if it has ended, but nobody waited."""
+    with contextlib.suppress(FileNotFoundError, ProcessLookupError), open(f"/proc/{process}/stat") as text:
+        return text.read().rpartition(")")[2].split()
+    return ["gone"] + ["0"] * 20
+
+
+def children(dead=False):
+    """Returns the process IDs of this process's children that run or, if `dead`, of those that have ended."""
+    found = []
+    for task in os.listdir("/proc/self/task"):
+        with contextlib.suppress(FileNotFoundError), open(f"/proc/self/task/{task}/children") as listed:
+            found += map(int, listed.read().split())
+    return [process for process in found if (stat(process)[0] == "Z") == dead]
+
+
+def processor_seconds():
+    """Returns the processor time of this process and of its children."""
+    return sum(int(it) for process in ("self", *children()) for it in stat(process)[11:13]) / os.sysconf("SC_CLK_TCK")
+
+
+def assert_no_processor_works():
+    """Asserts that, at the latest a second from now, neither this process nor its children take processor time."""
+    time.sleep(0.7)
+    before = processor_seconds()
+    time.sleep(0.3)
+    assert processor_seconds() - before < 0.1
+    assert not [process for process in children() if process not in kept()]
+
+
+def kept():
+    return [process.process.pid for idle in _processes.IDLE.values() for process in idle]
+
+
+class Left(Exception):
+    pass
+
+
+def leave(*_):
+    raise Left
+
+
+@contextlib.contextmanager
+def left_after(seconds):
+    """A signal, whose handler raises Left, comes after some seconds."""
+    before = signal.signal(signal.SIGALRM, leave)
+    signal.setitimer(signal.ITIMER_REAL, seconds)
+    try:
+        with pytest.raises(Left):
+            yield
+    finally:
+        signal.setitimer(signal.ITIMER_REAL, 0)
+        signal.signal(signal.SIGALRM, before)
+
+
+@pytest.mark.parametrize("call", CALLS)
+def test_a_call_ends_after_its_timeout_and_stops(solver, call):
+    begun = time.monotonic()
+    with pytest.raises(TimeoutError, match="^not finished within 0.3 seconds$"):
+        call(solver, HOPELESS, timeout=0.3)
+    assert 0.3 <= time.monotonic() - begun < 1
+    assert_no_processor_works()
+
+
+@pytest.mark.parametrize("call", CALLS)
+def test_a_call_that_a_signal_leaves_stops(solver, call):
+    begun = time.monotonic()
+    with left_after(0.3):
+        call(solver, HOPELESS)
+    assert time.monotonic() - begun < 1
+    assert_no_processor_works()
+
+
+@pytest.mark.parametrize("call", CALLS)
+def test_a_call_that_asyncio_cancels_stops(solver, call):
+    async def main():
+        with pytest.raises(asyncio.TimeoutError):
+            await asyncio.wait_for(asyncio.to_thread(call, solver, HOPELESS), 0.3)
+
+    begun = time.monotonic()
+    asyncio.run(main())
+    assert time.monotonic() - begun < 1
+    assert_no_processor_works()
+
+
+def with_empties(empties):
+    discs = 2**(64 - empties) - 1
+    return Position(discs & 0x5555555555555555, discs & 0xAAAAAAAAAAAAAAAA)
+
+
+@pytest.mark.parametrize("count, empties, is_brief", [
+    (1, 14, True), (1, 15, False), (2, 14, False), (16, 12, True), (17, 12, False), (4096, 8, True), (4097, 2, False)])
+def test_only_a_brief_call_is_made_without_another_process(count, empties, is_brief, solver):
+    solver.solve_all([with_empties(empties)] * count)
+    assert len(kept()) == (0 if is_brief else 1)
+
+
+def test_a_long_list_of_easy_positions_stops():
+    """Without a table, each of these positions takes some milliseconds."""
+    with left_after(1):
+        Solver(entries=0).solve_all([with_empties(12)] * 100_000)
+    assert_no_processor_works()
+
+
+@pytest.mark.parametrize("threads", [1, 3])
+@pytest.mark.parametrize("leave", [lambda answers: answers.close(), lambda answers: None], ids=["closed", "dropped"])
+def test_an_iterator_that_is_left_stops(threads, leave, solver):
+    answers = solver.solve_iter([EASY, *[HARD] * 20, HOPELESS], threads=threads)
+    assert next(answers) == ANSWER
+    leave(answers)
+    del answers
+    assert_no_processor_works()
+
+
+@pytest.mark.parametrize("threads", [1, 3])
+def test_an_iterator_yields_what_is_finished_before_the_timeout(threads, solver):
+    found, positions = [], [EASY, HARD, EASY, HARD, HOPELESS, EASY]
+    with pytest.raises(TimeoutError):
+        for answer in solver.solve_iter(positions, threads=threads, timeout=5):
+            found.append(answer)
+    assert found == solver.solve_all(positions[:4])
+    assert_no_processor_works()
+
+
+def test_a_timeout_that_is_not_reached_changes_nothing(solver):
+    for call in (*ONE.values(), *MANY.values()):
+        for position in (EASY, HARD):
+            assert str(call(solver, position, timeout=100)) == str(call(solver, position))
+
+
+@pytest.mark.parametrize("timeout, error, why", [
+    (-1, ValueError, "timeout is at least 0, not -1"), (float("nan"), ValueError, "timeout is at least 0, not nan"),
+    ("1", TypeError, "timeout is a number of seconds, not '1'"),
+])
+def test_a_wrong_timeout_is_refused(timeout, error, why, solver):
+    for call in (*ONE.values(), *MANY.values()):
+        with pytest.raises(error, match=f"^{why}$"):
+            call(solver, EASY, timeout=timeout)
+
+
+@pytest.mark.parametrize("scoring", ffosolve.Scoring)
+def test_another_process_finds_what_this_one_finds(scoring, monkeypatch):
+    solver = Solver(scoring=scoring)
+    calls = [*ONE.values(), *MANY.values()]
+    found = [str(call(solver, HARD)) for call in calls]
+    assert kept()
+    monkeypatch.setattr("ffosolve._solvers.is_brief", lambda *_: True)
+    assert [str(call(solver, HARD)) for call in calls] == found
+
+
+def test_another_process_gets_each_argument_and_returns_each_status(tmp_path):
+    """A made-up library answers with the arguments that it gets, and refuses 77 entries."""
+    if shutil.which("cc") is None:
+        pytest.skip("cc is missing")
+    (tmp_path / "it.c").write_text("""
+#include <stddef.h>
+#include <stdint.h>
+struct position { uint64_t own, opp; };
+struct answer { int32_t score, kind; uint64_t best; };
+struct scores { int8_t scores[64]; uint64_t moves; };
+int ffosolve_solve(struct position at, uint32_t scoring, size_t entries, struct answer *found) {
+    *found = (struct answer){scoring, 0, at.own ^ at.opp ^ entries};
+    return entries == 77 ? 7 : 0;
+}
+int ffosolve_confirm(struct position at, uint32_t scoring, size_t entries, struct answer claim, struct answer *found) {
+    *found = (struct answer){scoring + claim.score, claim.kind, at.own ^ at.opp ^ entries ^ claim.best};
+    return entries == 77 ? 7 : 0;
+}
+int ffosolve_solve_all(const struct position *at, size_t count, uint32_t scoring, size_t entries, struct answer *found,
+                       size_t room, size_t *index) {
+    for (size_t n = 0; n < count && n < room; n++) ffosolve_solve(at[n], scoring, entries, found + n);
+    return entries == 77 ? 7 : 0;
+}
+int ffosolve_move_scores_all(const struct position *at, size_t count, uint32_t scoring, size_t entries,
+                             struct scores *found, size_t room, size_t *index) {
+    for (size_t n = 0; n < count && n < room; n++)
+        for (int m = 0; m < 64; m++) found[n].scores[m] = m < 60 ? 127 : (at[n].own % 50 + scoring + entries) % 100;
+    return entries == 77 ? 7 : 0;
+}
+int ffosolve_moves(void) { return 0; }
+int ffosolve_play(void) { return 0; }
+int ffosolve_canonical(void) { return 0; }
+int ffosolve_image(void) { return 0; }
+int ffosolve_limit(void) { return 0; }
+int ffosolve_version(void) { return 10000; }
+""")
+    library = tmp_path / "it.so"
+    subprocess.run(["cc", "-shared", "-fPIC", "-o", library, tmp_path / "it.c"], check=True)
+    solver = Solver(library, scoring=2, entries=5, max_empties=60)
+    at, other, claim = Position(2**63 + 9, 6), Position(12, 3), Answer(30, Kind.PASS, 2**62)
+    best = 2**63 + 15 ^ 5
+    assert solver.solve(at) == Answer(2, Kind.MOVES, best)
+    assert solver.confirm(at, claim) == Answer(32, Kind.PASS, best ^ 2**62)
+    assert solver.solve_all([at, other]) == [Answer(2, Kind.MOVES, best), Answer(2, Kind.MOVES, 10)]
+    scores = [dict.fromkeys(("E8", "F8", "G8", "H8"), score) for score in ((2**63 + 9) % 50 + 7, 19)]
+    assert solver.move_scores_all([at, other]) == scores
+    assert len(kept()) == 1
+    for call in (*ONE.values(), *MANY.values()):
+        with pytest.raises(ffosolve.NoMemory):
+            call(Solver(library, entries=77, max_empties=60), at)
+
+
+def test_a_process_is_kept_and_used_again(solver):
+    for _ in range(3):
+        solver.solve(HARD)
+        solver.move_scores(HARD)
+    (process,) = kept()
+    solver.solve_all([HARD] * 3, threads=3)
+    assert process in kept() and 2 <= len(kept()) <= min(3, os.cpu_count())
+    solver.solve_all([HARD] * 9, threads=9)
+    assert len(kept()) <= os.cpu_count()
+    assert sorted(children()) == sorted(kept())
+
+
+def test_calls_of_several_threads_do_not_stop_each_other(solver):
+    found = []
+    threads = [threading.Thread(target=lambda: found.append(solver.solve_all([HARD] * 4))) for _ in range(3)]
+    for thread in threads:
+        thread.start()
+    for _ in range(5):
+        with pytest.raises(TimeoutError):
+            solver.solve_all([HOPELESS] * 2, threads=2, timeout=0.05)
+    for thread in threads:
+        thread.join()
+    assert found == [[solver.solve(HARD)] * 4] * 3
+
+
+def test_an_ended_process_is_reported_and_the_next_call_starts_another(solver):
+    for number, how in ((signal.SIGKILL, "was ended by signal 9"), (signal.SIGTERM, "was ended by signal 15")):
+        for call in (*ONE.values(), *MANY.values()):
+            threading.Timer(0.3, lambda: [os.kill(process, number) for process in children()]).start()
+            with pytest.raises(ChildProcessError, match=f"^the process that solved {how}$"):
+                call(solver, HOPELESS)
+        time.sleep(0.2)
+        assert not children()
+    solver.solve(HARD)
+    os.kill(kept()[0], signal.SIGKILL)
+    time.sleep(0.2)
+    assert solver.solve(HARD) == solver.solve(HARD)
+
+
+def test_left_calls_keep_no_descriptors_and_no_dead_processes(solver):
+    def kept_now():
+        return len(os.listdir("/proc/self/fd")), children(), children(dead=True)
+
+    before = kept_now()
+    for _ in range(20):
+        with pytest.raises(TimeoutError):
+            solver.solve_all([HOPELESS] * 2, threads=2, timeout=0.01)
+    time.sleep(0.2)
+    assert kept_now() == before
+
+
+def test_a_forked_process_has_processes_of_its_own(solver):
+    wanted = solver.solve(HARD)
+    (process,) = kept()
+    forked = os.fork()
+    if not forked:
+        status = 1
+        with contextlib.suppress(BaseException):
+            status = 0 if not kept() and solver.solve(HARD) == wanted and process not in children() else 2
+        os._exit(status)
+    assert os.waitpid(forked, 0)[1] == 0
+    assert (solver.solve(HARD), kept()) == (wanted, [process])
+
+
+def test_without_a_path_of_python_a_call_is_made_but_has_no_timeout(solver, monkeypatch):
+    wanted = solver.solve(HARD)
+    _processes.end_idle()
+    for name, value in (("executable", ""), ("executable", "/nowhere/python"), ("frozen", True)):
+        with monkeypatch.context() as changed:
+            changed.setattr(sys, name, value, raising=False)
+            assert (solver.solve(HARD), children()) == (wanted, [])
+            with pytest.raises(FileNotFoundError):
+                solver.solve(HARD, timeout=100)
+
+
+PROGRAM = """if True:
+    import os, signal, sys, threading, time
+    from ffosolve import START, Position, Solver, _processes
+    solver = Solver(max_empties=60)
+
+    def children():
+        print(*(it.process.pid for it in _processes.PROCESSES), flush=True)
+
+    def hopeless():
+        return threading.Thread(target=solver.solve, args=[START], daemon=True)
+
+"""
+ENDS = {
+    "at its end": f"    solver.solve(Position({HARD.own}, {HARD.opp})); children()",
+    "at its end with a call in a thread": "    hopeless().start(); time.sleep(0.5); children()",
+    "by exit": "    hopeless().start(); time.sleep(0.5); children(); os._exit(0)",
+    "by an exception": "    hopeless().start(); time.sleep(0.5); children(); sys.exit('failed')",
+    "by a kill": "    hopeless().start(); time.sleep(0.5); children(); os.kill(os.getpid(), signal.SIGKILL)",
+}
+
+
+def ran(code, **how):
+    environment = {**os.environ, "PYTHONPATH": PACKAGE}
+    return subprocess.run([sys.executable, "-c", PROGRAM + code], env=environment, capture_output=True, text=True,
+                          timeout=50, **how)
+
+
+@pytest.mark.parametrize("code", [pytest.param(code, id=name) for name, code in ENDS.items()])
+def test_the_processes_end_with_the_program(code):
+    (process,) = map(int, ran(code).stdout.split())
+    end = time.monotonic() + 1
+    while stat(process)[0] not in ("Z", "gone"):
+        assert time.monotonic() < end
+        time.sleep(0.01)
+
+
+def test_ctrl_c_is_for_the_program_alone():
+    """A terminal sends SIGINT to all processes of the program. Here it has a handler, so the call goes on."""
+    code = """
+    signal.signal(signal.SIGINT, lambda *_: print("interrupted"))
+    threading.Timer(0.5, os.killpg, (os.getpgrp(), signal.SIGINT)).start()
+    try:
+        solver.solve(START, timeout=1.5)
+    except TimeoutError as error:
+        print(error)
+"""
+    found = ran(code, start_new_session=True)
+    assert (found.stdout, found.stderr) == ("interrupted\nnot finished within 1.5 seconds\n", "")
