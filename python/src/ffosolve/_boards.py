@@ -20,6 +20,12 @@ def checked_side(side: str) -> str:
     return side
 
 
+def checked_score(name: str, score: float) -> float:
+    if not isinstance(score, (int, float, numbers.Real)):
+        raise TypeError(f"the score of {name} is a number, not {reprlib.repr(score)}")
+    return score
+
+
 class Board:
     """A board that a notebook shows as a picture, and that prints as text.
 
@@ -36,8 +42,7 @@ class Board:
         self.letters = [side if own >> at & 1 else other if opp >> at & 1 else "-" for at in range(64)]
         self.scores: Dict[int, float] = {square_number(name): score for name, score in (scores or {}).items()}
         for at, score in self.scores.items():
-            if not isinstance(score, numbers.Real):
-                raise TypeError(f"the score of {square_name(at)} is a number, not {reprlib.repr(score)}")
+            checked_score(square_name(at), score)
             if self.letters[at] != "-":
                 raise ValueError(f"{square_name(at)} has a score, but is not empty")
         self.best = max(self.scores.values(), default=None)

@@ -7,7 +7,7 @@ from typing import (
     Any, BinaryIO, Callable, Dict, Iterable, Iterator, List, Mapping, NamedTuple, Optional, Tuple, Type, TypeVar, Union)
 
 from ._answers import Answer, Kind, Scoring, scoring_of
-from ._boards import OTHER, Board, checked_side
+from ._boards import OTHER, Board, checked_score, checked_side
 from ._library import CAnswer, loaded
 from ._refusals import BadSide, BadSquare, LineRefused, NoMemory, NoMove, NoPosition, ShortBoard
 from ._rules import accept, c_position, illegal_move, moves, play, size_of
@@ -51,6 +51,8 @@ class Position(NamedTuple("Masks", [("own", int), ("opp", int)])):
     _number: Optional[int] = None
 
     def __new__(cls: Type[P], own: int, opp: int, side: str = "X") -> P:
+        if type(own) is not int or type(opp) is not int:  # such as the uint64 of NumPy
+            own, opp = (int(mask) if hasattr(mask, "__index__") else mask for mask in (own, opp))
         position = tuple.__new__(cls, (own, opp))
         if side != "X":
             position._side = checked_side(side)
@@ -72,13 +74,14 @@ class Position(NamedTuple("Masks", [("own", int), ("opp", int)])):
         """
         return read_line(text, None, cls)
 
-    def to_obf(self, side: Optional[str] = None, moves: Union[Mapping[str, int], Iterable[Tuple[str, int]]] = ()
+    def to_obf(self, side: Optional[str] = None, moves: Union[Mapping[str, float], Iterable[Tuple[str, float]]] = ()
                ) -> str:
         """The position as an OBF line: 64 squares, ` X;` or ` O;`, and ` H1:+62;` for each of `moves`. These are the
         position's `listed`, for example, or what `Solver.move_scores` returns. If `side` is given and not the
-        position's, all colours are exchanged. Raises ValueError for a side other than "X" and "O", and for no move."""
+        position's, all colours are exchanged. Raises ValueError for a side other than "X" and "O" and for another word
+        than a move, TypeError for a score that is not a number."""
         pairs = moves.items() if isinstance(moves, Mapping) else moves
-        return self.show(side=side).to_obf() + "".join(f" {checked_move(name)}:{score:+03};" for name, score in pairs)
+        return self.show(side=side).to_obf() + "".join(listed_move(*pair) for pair in pairs)
 
     @property
     def side(self) -> str:
@@ -244,10 +247,12 @@ def is_pass(move: object) -> bool:
     return isinstance(move, str) and move.lower() in PASSES
 
 
-def checked_move(name: str) -> str:
-    if name.encode() not in MOVES:
-        raise ValueError(f"a move is listed by the name of a square, as PS or as --, not as {name!r}")
-    return name
+def listed_move(move: str, score: float) -> str:
+    """The text of a move and its score in an OBF line, such as ` H1:+62;`. Raises what `Position.to_obf` does."""
+    name = MOVES.get(str(move).upper().encode())
+    if name is None:
+        raise ValueError(f"a move is listed by the name of a square, as PS or as --, not as {move!r}")
+    return f" {name}:{checked_score(name, score):+03};"
 
 
 def following(before: P, own: int, opp: int, side: str, move: str) -> P:

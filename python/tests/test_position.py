@@ -1,0 +1,217 @@
+"""A Position can't be changed, its copies and subclasses keep what they should, and it knows its discs and images."""
+import copy
+import itertools
+import pickle
+import xml.etree.ElementTree
+
+import pytest
+
+import ffosolve
+from ffosolve import START, Position, Solver, Symmetry
+
+LINE = "-OXXXXX-XXXXXXXOXXXXXXXXXXXXXXXXXXXOXXXXXXXXXXXXXXXXXXXXXXXXXXXX X; H1:+62; ps:-4;"
+AT_PASS = "-OOOOOOXXXXXXXXXXXXXXXXXXXXXXXXXXXXXXXXXXXXXXXXXXXXXXXXXXXXXXXXX O;"
+
+
+class Mine(Position):
+    """A subclass as a user writes one, with an attribute of its own."""
+
+    note = ""
+
+
+def all_of(position):
+    return (type(position), tuple(position), position.side, position.last_move, position.listed, position.number,
+            getattr(position, "note", None))
+
+
+@pytest.mark.parametrize("name, value", [
+    ("own", 1), ("opp", 1), ("side", "O"), ("last_move", "F5"), ("listed", ()), ("number", 3)])
+@pytest.mark.parametrize("position", [Position.start(), START, Position.from_obf(LINE), Mine(1, 2)])
+def test_no_attribute_can_be_assigned(position, name, value):
+    before = all_of(position)
+    with pytest.raises(AttributeError):
+        setattr(position, name, value)
+    with pytest.raises(AttributeError):
+        delattr(position, name)
+    assert all_of(position) == before
+    assert all_of(Position.start())[1:3] == ((0x0000000810000000, 0x0000001008000000), "X")
+
+
+@pytest.mark.parametrize("copied", [
+    copy.copy, copy.deepcopy, lambda it: it._replace(), lambda it: it.__replace__(),
+    *(lambda it, protocol=protocol: pickle.loads(pickle.dumps(it, protocol)) for protocol in range(2, 6))])
+@pytest.mark.parametrize("kind", [Position, Mine])
+def test_a_copy_has_all_that_the_position_has(kind, copied):
+    played, (read,) = kind.start().play("F5"), ffosolve.read_lines([LINE])
+    read = kind.from_obf(LINE) if kind is Mine else read
+    for position in (played, read, kind(1, 2, "O"), kind(1, 2)):
+        if kind is Mine:
+            position.note = "kept"
+        again = copied(position)
+        assert all_of(again) == all_of(position)
+        assert again is not position
+
+
+def test_replace_and_asdict_have_the_side():
+    white = Mine(1, 2, "O")
+    assert white._asdict() == {"own": 1, "opp": 2, "side": "O"}
+    assert all_of(Mine(**white._asdict())) == all_of(white)
+    for changes, wanted in (({"own": 4}, (4, 2, "O")), ({"opp": 4}, (1, 4, "O")), ({"side": "X"}, (1, 2, "X"))):
+        changed = white._replace(**changes)
+        assert (type(changed), *changed, changed.side) == (Mine, *wanted)
+    with pytest.raises(ValueError, match="^the side to move is 'X' or 'O', not 'x'$"):
+        white._replace(side="x")
+    assert all_of(white) == (Mine, (1, 2), "O", None, (), None, "")
+
+
+def test_new_positions_are_of_the_same_class():
+    start = Mine.start()
+    made = [start, start.play("F5"), start.play_all("f5d6"), start.passed(), Mine.from_obf(LINE), start.canonical(),
+            start.image(3), *start.symmetries(), Solver().play(start, "F5"), Mine.from_obf(AT_PASS).play("PS")]
+    assert {type(position) for position in made} == {Mine}
+    assert {type(position) for position in (Position.start(), Position.from_obf(LINE), START.play("F5"))} == {Position}
+    assert Mine.from_obf(LINE).listed == (("H1", 62), ("PS", -4))
+
+
+def test_the_last_move_is_known_of_a_position_that_a_move_made():
+    after = START.play("f5")
+    assert (START.last_move, after.last_move, after.passed().last_move, after.play(43).last_move) == (
+        None, "F5", "PS", "D6")
+    assert [it.last_move for it in Solver().positions("f5d6c3")] == [None, "F5", "D6", "C3"]
+    assert after._replace(side="X").last_move == "F5"
+
+
+def test_a_position_tells_its_discs():
+    """After f5, Black has D5, E4, E5 and F5, and White D4."""
+    after = START.play("F5")
+    for position in (after, after.passed(), after.passed().passed()):
+        assert position.discs == (4, 1) == (position.discs.black, position.discs.white)
+        assert [position.piece_at(it) for it in ("D5", "e4", 36, "F5", "D4", "A1", 63)] == [*"XXXXO", None, None]
+    for square in ("I1", "", -1, 64):
+        with pytest.raises(ValueError):
+            START.piece_at(square)
+    for square in (None, 1.5):
+        with pytest.raises(TypeError, match="^a square is a name such as 'F5' or a number from 0 to 63, not "):
+            START.piece_at(square)
+
+
+def test_a_legal_move_is_one_that_play_takes():
+    at_pass, over = Position.from_obf(AT_PASS), Position(2**64 - 1, 0)
+    for position, legal in ((START, ["D3", "C4", "F5", "E6"]), (at_pass, []), (over, [])):
+        assert [name for name in map(ffosolve.square_name, range(64)) if position.is_legal(name)] == legal
+        for move in (*range(-1, 66), *("PS", "pass", "PA", "--"), "f5", "A1"):
+            try:
+                position.play(move)
+                is_legal = True
+            except ffosolve.NoMove:
+                is_legal = False
+            assert position.is_legal(move) == is_legal
+    with pytest.raises(ValueError, match="^no square has the name 'I9'$"):
+        START.is_legal("I9")
+
+
+def test_a_pass_is_played_where_it_is_legal():
+    at_pass, over = Position.from_obf(AT_PASS), Position(2**64 - 1, 0)
+    for word in ("PS", "ps", "pass", "PASS", "pa", "--"):
+        assert at_pass.play(word).to_obf() == at_pass.passed().to_obf() == Solver().play(at_pass, word).to_obf()
+        with pytest.raises(ffosolve.NoMove, match="^a pass is not a legal move for Black in "):
+            START.play(word)
+        with pytest.raises(ffosolve.NoMove, match="^a pass is not a legal move: the game is over in "):
+            over.play(word)
+        assert at_pass.play_all([word, "A1", word]) == at_pass.play_all(["A1"]) == at_pass.passed().play("A1")
+
+
+def test_moves_of_a_list_are_counted_from_its_own_first_position():
+    middle = START.play_all("f5d6c3")
+    for moves in ("d3d4", ["D3", "D4"], [19, 27]):
+        with pytest.raises(ffosolve.NoMove, match="^move 2: D4 is not a legal move for Black in "):
+            middle.play_all(moves)
+
+
+def test_the_score_of_a_finished_game_needs_no_table(monkeypatch):
+    asked, library = [], ffosolve._positions.loaded()
+
+    class Watched:
+        def __getattr__(self, name):
+            return lambda *given: asked.append((name, *given)) or getattr(library, name)(*given)
+
+    monkeypatch.setattr("ffosolve._positions.loaded", Watched)
+    assert Position(2**64 - 1, 0).score() == 64
+    assert [(name, *given[1:3]) for name, *given in asked if "solve" in name[9:]] == [("ffosolve_solve", 0, 0)]
+
+
+ROWS = [  # a position, its canonical image and the symmetry: worked rows of the specification
+    (0xFFFFFFFFFFFFFF80, 0x7E, 0x01FFFFFFFFFFFFFF, 0x7E00000000000000, 3),
+    (0xFFFFFFFFFFFFFF18, 0x66, 0x18FFFFFFFFFFFFFF, 0x6600000000000000, 2),
+    (0xFFFFFFF7FFFF7F7C, 0x0000000800008002, 0x3EFEFFFFEFFFFFFF, 0x4001000010000000, 3),
+]
+
+
+@pytest.mark.parametrize("own, opp, canonical_own, canonical_opp, symmetry", ROWS)
+def test_all_images_have_the_same_canonical_image(own, opp, canonical_own, canonical_opp, symmetry):
+    position = Position(own, opp, "O")
+    assert tuple(position.canonical()) == (canonical_own, canonical_opp)
+    assert (position.canonical().side, position.canonical_symmetry) == ("O", symmetry)
+    images = position.symmetries()
+    assert images[0] == position and images[symmetry] == position.canonical() == min(images, key=tuple)
+    assert {image.canonical() for image in images} == {position.canonical()}
+    assert [position.image(number) for number in range(8)] == images
+    assert {image.side for image in images} == {"O"}
+
+
+def test_a_symmetry_moves_squares_as_its_comment_says_and_its_inverse_moves_them_back():
+    """H1 under each symmetry, and any square in column c and row r."""
+    assert [it.square("h1") for it in Symmetry] == "H1 A1 H8 A8 A8 H8 A1 H1".split()
+    for column, row in itertools.product(range(8), range(8)):
+        c, r = 7 - column, 7 - row
+        wanted = [(column, row), (c, row), (column, r), (c, r), (row, column), (r, column), (row, c), (r, c)]
+        square = ffosolve.square_name(8 * row + column)
+        found = [it.square(square) for it in Symmetry]
+        assert found == [ffosolve.square_name(8 * to_row + to_column) for to_column, to_row in wanted]
+        assert [it.inverse.square(to) for it, to in zip(Symmetry, found)] == [square] * 8
+    for symmetry in Symmetry:
+        moves = {symmetry.square(move) for move in START.play("F5").legal_moves}
+        assert moves == set(START.play("F5").image(symmetry).legal_moves)
+
+
+@pytest.mark.parametrize("number", [-1, 8, 256, 2**32])
+def test_a_number_without_a_symmetry_is_refused(number):
+    with pytest.raises(ffosolve.UnknownSymmetry, match=f"^a symmetry has a number from 0 to 7, not {number}$"):
+        START.image(number)
+
+
+def test_masks_that_share_a_square_have_no_canonical_image():
+    with pytest.raises(ffosolve.SharedSquare):
+        Position(3, 2).canonical()
+
+
+def test_the_picture_marks_the_last_move_and_is_saved(tmp_path):
+    mark, after = 'fill="#d0402b"', START.play("F5")
+    for position, marks in ((START, 0), (after, 1), (after.passed(), 0), (Position(*after), 0)):
+        position.show().save(tmp_path / "it.svg")
+        picture = (tmp_path / "it.svg").read_text()
+        assert xml.etree.ElementTree.fromstring(picture).tag == "{http://www.w3.org/2000/svg}svg"
+        assert picture == position._repr_svg_() + "\n" and picture.count(mark) == marks
+        assert marks == 0 or f'cx="{22 + 44 * 5 + 22}" cy="{22 + 44 * 4 + 22}" r="5" {mark}' in picture
+    with pytest.raises(ValueError, match="^a board is saved as a picture in SVG, so its file's name ends with .svg: "):
+        after.show().save(tmp_path / "it.png")
+    with pytest.raises(FileNotFoundError):
+        after.show().save(tmp_path / "none" / "it.svg")
+    for square in ("A1", "I9"):
+        with pytest.raises(ValueError):
+            ffosolve.Board(*START, "X", last_move=square)
+
+
+def test_a_line_lists_moves():
+    position = Position.from_obf(LINE)
+    assert position.to_obf() == LINE[:67]
+    assert position.to_obf(moves=position.listed) == LINE[:67] + " H1:+62; PS:-04;"
+    assert position.to_obf("O", moves={"a1": 5, "--": -7.5}) == Position(*position, "O").to_obf() + " A1:+05; --:-7.5;"
+    assert Position.from_obf(position.to_obf(moves=position.listed)).listed == position.listed
+    for moves, error, why in (
+        ({"I9": 3}, ValueError, "a move is listed by the name of a square, as PS or as --, not as 'I9'"),
+        ([(3, 3)], ValueError, "a move is listed by the name of a square, as PS or as --, not as 3"),
+        ({"A1": "x"}, TypeError, "the score of A1 is a number, not 'x'"),
+    ):
+        with pytest.raises(error, match=f"^{why}$"):
+            position.to_obf(moves=moves)
