@@ -1,16 +1,19 @@
 -- The value of a position by the worth of its moves.
-use Rattle.std.proofs.Common.{◌≡◌, ◌≢◌, ◌⊎◌, ℕ, ◌+◌, ◌<◌, ℤ, neg_ℤ, ◌≤ℤ◌, true, List, take, length, get_or, All, Contains, inl, inr, sym, ap, ◌∙◌, subst, arith}
+use Rattle.std.proofs.Common.{◌≡◌, ◌≢◌, ◌⊎◌, ℕ, ◌+◌, ◌<◌, ℤ, neg_ℤ, ◌≤ℤ◌, true, List, take, drop, length, get_or, set, All, Contains, inl, inr, sym, ap, ◌∙◌, subst, arith}
 use Rattle.othello_rules.specs.Masks.{in_mask}
 use Rattle.std.specs.List.Sorted.{IsPermutation}
 use Rattle.std.proofs.lemmas.Int.{ints}
-use Rattle.std.proofs.lemmas.List.Elements.{All-map, All-contains, All-more, All-weaker}
+use Rattle.std.specs.List.{refill}
+use Rattle.std.proofs.lemmas.List.{take_at}
+use Rattle.std.proofs.lemmas.List.Elements.{All-map, All-contains, All-more, All-set, All-weaker}
 use Rattle.std.proofs.lemmas.List.Sorted.{All-permutation, Contains-permutation, IsPermutation-map}
+use Rattle.std.proofs.Math.Seq.{map-set_same}
 use Rattle.othello_rules.specs.declared.scoring.Scoring.{Scoring}
-use Rattle.othello_bits.specs.Pos.{PosView, moves_of, play_of, pass_of, empties_of, value_of, HasNoMove}
+use Rattle.othello_bits.specs.Pos.{PosView, moves_of, play_of, pass_of, empties_of, value_of, IsMove, HasNoMove}
 use Rattle.othello_bits.proofs.GameLaws.{value_above, value_reached, value-pass, empties_positive, empties-play, empties-pass}
 use Rattle.endgame_search.specs.declared.move_order.Child.{Child}
 use Rattle.endgame_search.specs.declared.move_order.NextChild.{NextChild}
-use Rattle.endgame_search.specs.Children.{IsChildOf, AreChildrenOf, UnlistedAreAtMost, AreSplitAt, child_squares}
+use Rattle.endgame_search.specs.Children.{IsChildOf, AreChildrenOf, UnlistedAreAtMost, AreSplitAt, IsSameChild, child_squares}
 
 -- what the move to a child is worth, and how many squares are empty there
 pub child_worth : (g : Scoring) (p : PosView) (c : Child) → IsChildOf p c → neg_ℤ (value_of g c.position) ≤ℤ value_of g p
@@ -73,6 +76,30 @@ children_sorted p items sorted permuted children =
     record {
       each = All-permutation (IsChildOf p) items sorted permuted children.each;
       every = λ q m. listed_sorted items sorted q permuted (children.every q m);
+    }
+
+-- what a list holds whose elements were written through a slice of it
+refilled : (n : ℕ) (old items : List Child) → n ≡ length items → refill n old items ≡ items
+refilled n old items e = take_at items (drop (length items) old) n (sym e)
+
+pub judged_sorted : (p : PosView) (n : ℕ) (old items sorted : List Child) → n ≡ length items → IsPermutation (refill n old items) sorted → AreChildrenOf p items → AreChildrenOf p sorted
+judged_sorted p n old items sorted e permuted children =
+    children_sorted p items sorted (subst (λ l. IsPermutation l sorted) (refilled n old items e) permuted) children
+
+-- a child that is given another place in the order
+child_judged : (p : PosView) (c d : Child) → IsSameChild c d → IsChildOf p c → IsChildOf p d
+child_judged p c d same h =
+    record {
+      legal = subst (IsMove p) (sym same.square) h.legal;
+      position = same.position ∙ h.position ∙ ap (play_of p) (sym same.square);
+      replies = same.replies ∙ h.replies ∙ ap moves_of (sym same.position);
+    }
+
+pub children_judged : (p : PosView) (items : List Child) (i : ℕ) (x d : Child) → i < length items → IsSameChild (get_or items i x) d → AreChildrenOf p items → AreChildrenOf p (set items i d)
+children_judged p items i x d h same children =
+    record {
+      each = All-set (IsChildOf p) items i d (child_judged p (get_or items i x) d same (children.each i x h)) children.each;
+      every = λ q m. subst (λ l. Contains l q) (sym (map-set_same (λ (c : Child). c.square) items i d x same.square)) (children.every q m);
     }
 
 pub unlisted_sorted : (g : Scoring) (p : PosView) (best : ℤ) (items sorted : List Child) → IsPermutation items sorted → UnlistedAreAtMost g p best items → UnlistedAreAtMost g p best sorted

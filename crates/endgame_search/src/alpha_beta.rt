@@ -4,13 +4,13 @@
 //! upper bound. A driver searches one null window after another until the value is known, or known
 //! to lie outside a wider window (MTD(f): Plaat, Schaeffer, Pijls and de Bruin, 1996).
 
-ghost use Rattle.std.specs.Prelude.{◌≡◌, ◌≢◌, ◌≤◌, ◌≤ℤ◌, ◌<ℤ◌, ◌+ℤ◌, pos, negsuc, count_ones};
-ghost use Rattle.othello_bits.specs.Pos.{moves_of, value_of, HasNoMove};
+ghost use Rattle.std.specs.Prelude.{◌≡◌, ◌≢◌, ◌<◌, ◌≤ℤ◌, ◌<ℤ◌, ◌+ℤ◌, pos, negsuc};
+ghost use Rattle.othello_bits.specs.Pos.{moves_of, empties_of, value_of, HasNoMove};
 ghost use Rattle.othello_rules.specs.Answer.{IsScore};
 ghost use Rattle.endgame_search.specs.Windows.{IsBound, IsWindow, IsFailSoft, IsNullWindowScore};
 ghost use Rattle.endgame_search.specs.Children.{UnlistedAreAtMost};
 
-use crate::judged::search_judged;
+use crate::judged::{FEWEST_JUDGED, judge_children};
 use crate::move_order::{Child, add_children, add_until_no_replies, sort_children};
 use crate::shallow::{MOST_SHALLOW_EMPTIES, search_shallow};
 use crate::table_cutoff::{
@@ -58,7 +58,7 @@ pub(crate) fn search_window<T: Bounds>(table: &T, position: Pos, guess: i8, low:
     let mut score = guess;
     while lower < upper {
         let bound = score.max(lower).min(upper - 1);
-        score = search_judged(table, position, moves, bound);
+        score = search(table, position, moves, bound);
         if score > bound {
             lower = score;
         } else {
@@ -68,10 +68,10 @@ pub(crate) fn search_window<T: Bounds>(table: &T, position: Pos, guess: i8, low:
     if lower >= high { lower } else { upper }
 }
 
-// Searches a position with fewer empty squares than `judged` asks for, in `shallow` if few are empty.
+// Searches a position, in `shallow` if few squares are empty.
 #[cycle(search)]
 #[inline(always)]
-pub(crate) fn search<T: Bounds>(table: &T, position: Pos, moves: u64, bound: i8) -> i8
+fn search<T: Bounds>(table: &T, position: Pos, moves: u64, bound: i8) -> i8
     requires moves { moves ≡ moves_of position }
     requires bound { IsBound bound }
     ensures { IsNullWindowScore bound (value_of (T.scoring table.now) position) result }
@@ -124,8 +124,7 @@ fn search_moves<T: Bounds>(table: &T, position: Pos, moves: u64, bound: i8) -> i
     score
 }
 
-// Searches a position in which the mover has a move, by a list of its children. The list has room
-// for 16 if that is enough, since the time to make a list is in proportion to its room.
+// Searches a position in which the mover has a move, by a list of its children.
 #[cycle(search)]
 #[inline(always)]
 fn search_by_list<T: Bounds>(table: &T, position: Pos, moves: u64, bound: i8) -> i8
@@ -134,26 +133,29 @@ fn search_by_list<T: Bounds>(table: &T, position: Pos, moves: u64, bound: i8) ->
     requires bound { IsBound bound }
     ensures { IsNullWindowScore bound (value_of (T.scoring table.now) position) result }
 {
-    if moves.count_ones() <= 16 {
-        search_up_to_16(table, position, moves, bound)
+    if position.empties() < FEWEST_JUDGED {
+        search_by_mobility(table, position, moves, bound)
     } else {
-        search_up_to_64(table, position, moves, bound)
+        search_by_worth(table, position, moves, bound)
     }
 }
 
-// Searches a position with 1 to 16 moves, by a list with room for 16 children. No child has less
-// mobility than one without replies, so the first such child is searched before the remaining
-// children are made.
+// The room of a list of children by mobility: one for each empty square. The time to make a list is
+// in proportion to its room.
+const ROOM_BY_MOBILITY: usize = FEWEST_JUDGED as usize - 1;
+
+// Searches such a position in the order of the opponent's mobility. No child has less mobility than
+// one without replies, so the first such child is searched before the remaining children are made.
 #[cycle(search)]
 #[inline(never)]
-fn search_up_to_16<T: Bounds>(table: &T, position: Pos, moves: u64, bound: i8) -> i8
+fn search_by_mobility<T: Bounds>(table: &T, position: Pos, moves: u64, bound: i8) -> i8
     requires moves { moves ≡ moves_of position }
     requires some { moves ≢ 0 }
-    requires room { count_ones moves ≤ 16 }
+    requires few { empties_of position < FEWEST_JUDGED }
     requires bound { IsBound bound }
     ensures { IsNullWindowScore bound (value_of (T.scoring table.now) position) result }
 {
-    let mut children = ArrayVec::<Child, 16>::new();
+    let mut children = ArrayVec::<Child, ROOM_BY_MOBILITY>::new();
     let Some(split) = add_until_no_replies(position, moves, &mut children) else {
         sort_children(&mut children);
         return search_children(table, position, &children, BELOW_ALL_SCORES, bound);
@@ -168,34 +170,28 @@ fn search_up_to_16<T: Bounds>(table: &T, position: Pos, moves: u64, bound: i8) -
     search_children(table, position, &children, score, bound)
 }
 
-// Searches a position with at least one move, by a list with room for 64 children. The room can't
-// be a const parameter of one function, since functions that call each other can't differ in one.
+// Searches such a position in the order of what the children are worth, unless one of them gives an
+// enhanced transposition cutoff.
 #[cycle(search)]
 #[inline(never)]
-fn search_up_to_64<T: Bounds>(table: &T, position: Pos, moves: u64, bound: i8) -> i8
+fn search_by_worth<T: Bounds>(table: &T, position: Pos, moves: u64, bound: i8) -> i8
     requires moves { moves ≡ moves_of position }
     requires some { moves ≢ 0 }
     requires bound { IsBound bound }
     ensures { IsNullWindowScore bound (value_of (T.scoring table.now) position) result }
 {
     let mut children = ArrayVec::<Child, 64>::new();
-    let Some(split) = add_until_no_replies(position, moves, &mut children) else {
-        sort_children(&mut children);
-        return search_children(table, position, &children, BELOW_ALL_SCORES, bound);
-    };
-    let first = split.child;
-    let score = -search(table, first.position, first.replies, -1 - bound);
-    if score > bound {
+    add_children(position, moves, &mut children);
+    if let Some(score) = enhanced_cutoff(table, position, &children, bound) {
         return score;
     }
-    add_children(position, split.rest, &mut children);
+    judge_children(position, bound, &mut children);
     sort_children(&mut children);
-    search_children(table, position, &children, score, bound)
+    search_children(table, position, &children, BELOW_ALL_SCORES, bound)
 }
 
-// Searches the listed children, unless one of them gives an enhanced transposition cutoff.
-// `best_so_far` is the best score of the moves that are not listed, or `BELOW_ALL_SCORES` if there
-// are none.
+// Searches the listed children. `best_so_far` is the best score of the moves that are not listed, or
+// `BELOW_ALL_SCORES` if there are none.
 #[cycle(search)]
 #[inline(always)]
 fn search_children<T: Bounds>(
@@ -212,9 +208,6 @@ fn search_children<T: Bounds>(
     requires bound { IsBound bound }
     ensures { IsNullWindowScore bound (value_of (T.scoring table.now) position) result }
 {
-    if let Some(score) = enhanced_cutoff(table, position, children, bound) {
-        return score;
-    }
     let mut best = best_so_far;
     for child in children {
         let score = -search(table, child.position, child.replies, -1 - bound);

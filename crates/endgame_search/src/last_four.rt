@@ -1,7 +1,7 @@
 //! Null windows (`alpha_beta` says what they are) of positions with at most four empty squares. The
-//! moves are searched in the order of their squares: no list is made, nothing is sorted, and no
-//! mask of a child's moves is computed, except after a pass. A square is a move if a disc is turned
-//! there.
+//! moves are searched in the order of their squares, from H8 down: no list is made, nothing is
+//! sorted, and no mask of a child's moves is computed, except after a pass. A square is a move if a
+//! disc is turned there.
 
 ghost use Rattle.std.specs.Prelude.{◌≡◌, ◌<◌, ◌↔◌, ℕ, true, count_ones, IsNone, IfSome};
 ghost use Rattle.othello_rules.specs.Masks.{in_mask};
@@ -136,8 +136,16 @@ struct NextMove {
     rest: u64,
 }
 
-// The first move on a square of the mask, in the order of the squares. None if no square of the
-// mask is a move.
+// The highest square of a mask.
+#[inline(always)]
+fn highest(mask: u64) -> Square
+    requires { 0 < mask }
+    ensures { in_mask mask result ≡ true }
+{
+    Square::at((63 - mask.leading_zeros()) as u8)
+}
+
+// The move on the highest square of the mask that is one. None if no square of the mask is a move.
 #[inline(always)]
 fn next_move(position: Pos, squares: u64) -> Option<NextMove>
     ensures none { IsNone result → HasNoMoveOn position squares }
@@ -145,7 +153,7 @@ fn next_move(position: Pos, squares: u64) -> Option<NextMove>
 {
     let mut rest = squares;
     while rest != 0 {
-        let square = lowest(rest);
+        let square = highest(rest);
         rest = without(rest, square);
         if let Some(child) = position.play(square) {
             return Some(NextMove {
@@ -157,7 +165,7 @@ fn next_move(position: Pos, squares: u64) -> Option<NextMove>
     None
 }
 
-// Searches a position by its moves on the squares of a mask, in their order. All moves are on
+// Searches a position by its moves on the squares of a mask, the highest first. All moves are on
 // squares of the mask.
 #[cycle(last)]
 #[inline(never)]

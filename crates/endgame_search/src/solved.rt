@@ -11,8 +11,8 @@ ghost use Rattle.othello_bits.specs.Pos.{moves_of, value_of, answer_of, best_ans
 
 use crate::alpha_beta::search_window;
 use crate::foresight::first_guess;
-use crate::judged::add_ordered_children;
-use crate::move_order::{Child, sort_children};
+use crate::judged::judge_children;
+use crate::move_order::{Child, add_children, sort_children};
 use crate::table_cutoff::{ABOVE_ALL_SCORES, BELOW_ALL_SCORES, possible_scores, store_if_deep};
 use crate::task::Task;
 use arrayvec::ArrayVec;
@@ -203,7 +203,8 @@ fn best_moves<T: Bounds>(table: &T, position: Pos, low: i8, high: i8) -> BestMov
     ensures { AreBestFrom (T.scoring table.now) position low result }
 {
     let mut children = ArrayVec::<Child, 64>::new();
-    add_ordered_children(position, position.moves(), low, &mut children);
+    add_children(position, position.moves(), &mut children);
+    judge_children(position, low, &mut children);
     sort_children(&mut children);
     best_children(table, position, &children, low, high)
 }

@@ -121,27 +121,16 @@ fn moves_are_searched_in_order(rt: HostRuntime) {
 }
 
 #[test]
-fn the_lower_of_the_last_squares_comes_first(rt: HostRuntime) {
+fn the_higher_of_the_last_squares_comes_first(rt: HostRuntime) {
     // In the first position neither move leaves a reply, in the second each leaves one, in the third
-    // only A1. In the last B8 leaves three replies, and G8 two.
-    assert!(rt; is_first_enough(&rt, rt.alloc(), EQUAL_CORNERS, Square::at(0), Square::at(7)));
-    assert!(rt; is_first_enough(&rt, rt.alloc(), OPEN_CORNERS, Square::at(0), Square::at(7)));
-    assert!(rt;
-        is_first_enough(
-            &rt,
-            rt.alloc(),
-            UNEQUAL_CORNERS,
-            Square::at(0),
-            Square::at(7)
-        )
-    );
-    assert!(rt;
-        is_first_enough(
-            &rt,
-            rt.alloc(),
-            FOUR_WITH_UNEQUAL_REPLIES,
-            Square::at(57),
-            Square::at(62)
-        )
-    );
+    // only A1. In the last G8 leaves three replies, and B8 two.
+    for (discs, first, second) in [
+        (EQUAL_CORNERS, 7, 0),
+        (OPEN_CORNERS, 7, 0),
+        (UNEQUAL_CORNERS, 7, 0),
+        (FOUR_WITH_UNEQUAL_REPLIES, 62, 57),
+    ] {
+        let (first, second) = (Square::at(first), Square::at(second));
+        assert!(rt; is_first_enough(&rt, rt.alloc(), discs, first, second));
+    }
 }

@@ -267,7 +267,7 @@ fn the_last_square_is_probed_before_and_after_a_pass(rt: HostRuntime) {
     let position = pos_of(&rt, UNEQUAL_CORNERS, Side::Black);
     let stuck = after(&rt, position, Square::at(7));
     let counter = count_probes(&rt, rt.alloc(), 0, [stuck, stuck.pass()]);
-    // A1 is worth 52, so H1 is searched too.
+    // H1, which is worth 62, is searched first.
     let _ = value_in(&counter, position, 60, 61);
     assert!(rt; counter.seen[0].get());
     assert!(rt; counter.seen[1].get());

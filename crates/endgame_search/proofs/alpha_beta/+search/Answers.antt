@@ -1,7 +1,6 @@
 -- Goals that a search would prove are answered too: the search takes longer.
-use Rattle.std.proofs.Common.{arith, rules, refl, pos, negsuc, ◌≡◌, ◌<◌, ◌+◌, ◌*◌, ◌-ℤ◌, neg_ℤ, ◌≤ℤ◌, to_z, w8, sym, ap, ◌∙◌, subst, take, take_all}
+use Rattle.std.proofs.Common.{arith, rules, refl, pos, negsuc, ◌≡◌, ◌<◌, ◌+◌, ◌*◌, ◌-ℤ◌, neg_ℤ, ◌≤ℤ◌, to_z, w8, length, sym, ap, ◌∙◌, subst, take, take_all}
 use borrow.Author.Count.{falls}
-use borrow.Author.Numbers.{ones_of_64}
 use Rattle.std.proofs.lemmas.Int.{ints}
 use Rattle.std.proofs.lemmas.List.Elements.{All-same}
 use Rattle.othello_bits.specs.Pos.{moves_of, pass_of, empties_of, final_of, value_of, HasNoMove}
@@ -10,7 +9,8 @@ use Rattle.endgame_search.specs.declared.move_order.Child.{Child}
 use Rattle.endgame_search.specs.Children.{IsChildOf, UnlistedAreAtMost}
 use Rattle.endgame_search.specs.Windows.{IsNullWindowScore}
 use Rattle.endgame_search.proofs.Bounds.{bound_same, shown_bound, other_bound, stored_window, stored_fail_soft, same_fail_soft, turned_above, cut_above, score_open, score_covers, best_grows, best_covers, best_open, best_least, none_above, before_first, after_first}
-use Rattle.endgame_search.proofs.Moves.{child_worth, child_empties, passed_worth, passed_empties, at_index, searched_more, value_at_most, unlisted_after_first, unlisted_sorted, none_unlisted}
+use Rattle.endgame_search.proofs.EmptySquares.{few_moves}
+use Rattle.endgame_search.proofs.Moves.{child_worth, child_empties, passed_worth, passed_empties, at_index, searched_more, value_at_most, unlisted_after_first, unlisted_sorted, none_unlisted, judged_sorted}
 use Rattle.endgame_search.proofs.WindowLemmas.{shown, shown_same, exact, at_least_as, unshown}
 use Rattle.endgame_search.proofs.alpha_beta.+search.Goals as goal
 
@@ -94,29 +94,32 @@ search_moves-store_if_deep-requires-clause-fail_soft g t c =
 pub search_moves-returns : goal.search_moves-returns
 search_moves-returns g t c = same_fail_soft c.args.bound c.requires.bound _ _ c.search_by_list-score.ensures
 
-pub search_by_list-search_up_to_16-requires : goal.search_by_list-search_up_to_16-requires
-search_by_list-search_up_to_16-requires g t c κs within =
+pub search_by_list-search_by_mobility-requires : goal.search_by_list-search_by_mobility-requires
+search_by_list-search_by_mobility-requires g t c κs within =
     let d : 8 * empties_of c.args.position + 4 ≡ t = c.decreases in
     let w : 8 * empties_of c.args.position + 3 < t = omega (arith, d) in
-    (w, (within, (c.requires.moves, (c.requires.some, (c.if-moves-le16.true, shown_bound c.args.bound c.requires.bound)))))
+    let few : empties_of c.args.position < 12 = subst (λ n. n < 12) c.empties.ensures.value c.if-empties-lt-FEWEST_JUDGED.true in
+    (w, (within, (c.requires.moves, (c.requires.some, (few, shown_bound c.args.bound c.requires.bound)))))
 
-pub search_by_list-returns-then-moves-le16 : goal.search_by_list-returns-then-moves-le16
-search_by_list-returns-then-moves-le16 g t c = same_fail_soft c.args.bound c.requires.bound _ _ c.search_up_to_16.ensures
+pub search_by_list-returns-then-empties-lt-FEWEST_JUDGED : goal.search_by_list-returns-then-empties-lt-FEWEST_JUDGED
+search_by_list-returns-then-empties-lt-FEWEST_JUDGED g t c = same_fail_soft c.args.bound c.requires.bound _ _ c.search_by_mobility.ensures
 
-pub search_by_list-search_up_to_64-requires : goal.search_by_list-search_up_to_64-requires
-search_by_list-search_up_to_64-requires g t c κs within =
+pub search_by_list-search_by_worth-requires : goal.search_by_list-search_by_worth-requires
+search_by_list-search_by_worth-requires g t c κs within =
     let d : 8 * empties_of c.args.position + 4 ≡ t = c.decreases in
     let w : 8 * empties_of c.args.position + 3 < t = omega (arith, d) in
     (w, (within, (c.requires.moves, (c.requires.some, shown_bound c.args.bound c.requires.bound))))
 
-pub search_by_list-returns-else-moves-le16 : goal.search_by_list-returns-else-moves-le16
-search_by_list-returns-else-moves-le16 g t c = same_fail_soft c.args.bound c.requires.bound _ _ c.search_up_to_64.ensures
+pub search_by_list-returns-else-empties-lt-FEWEST_JUDGED : goal.search_by_list-returns-else-empties-lt-FEWEST_JUDGED
+search_by_list-returns-else-empties-lt-FEWEST_JUDGED g t c = same_fail_soft c.args.bound c.requires.bound _ _ c.search_by_worth.ensures
 
-pub search_up_to_16-add_until_no_replies-requires : goal.search_up_to_16-add_until_no_replies-requires
-search_up_to_16-add_until_no_replies-requires g t c = (search rules, (c.requires.moves, ((c.requires.room), c.new-children.ensures)))
+pub search_by_mobility-add_until_no_replies-requires : goal.search_by_mobility-add_until_no_replies-requires
+search_by_mobility-add_until_no_replies-requires g t c =
+    let room = few_moves c.args.position c.args.moves c.requires.moves c.ranges.moves.fits in
+    (search rules, (c.requires.moves, (omega (arith, room, c.requires.few), c.new-children.ensures)))
 
-pub search_up_to_16-search_children-requires : goal.search_up_to_16-search_children-requires
-search_up_to_16-search_children-requires g t c κs within =
+pub search_by_mobility-search_children-requires : goal.search_by_mobility-search_children-requires
+search_by_mobility-search_children-requires g t c κs within =
     let r = g.T.Bounds.scoring c.args.table.now in
     let d : 8 * empties_of c.args.position + 3 ≡ t = c.decreases in
     let w : 8 * empties_of c.args.position + 2 < t = omega (arith, d) in
@@ -137,27 +140,27 @@ search_up_to_16-search_children-requires g t c κs within =
       ),
     )
 
-pub search_up_to_16-returns-in_default : goal.search_up_to_16-returns-in_default
-search_up_to_16-returns-in_default g t c = same_fail_soft c.args.bound c.requires.bound _ _ c.search_children.ensures
+pub search_by_mobility-returns-in_default : goal.search_by_mobility-returns-in_default
+search_by_mobility-returns-in_default g t c = same_fail_soft c.args.bound c.requires.bound _ _ c.search_children.ensures
 
-pub search_up_to_16-search-score-requires : goal.search_up_to_16-search-score-requires
-search_up_to_16-search-score-requires g t c κs within =
+pub search_by_mobility-search-score-requires : goal.search_by_mobility-search-score-requires
+search_by_mobility-search-score-requires g t c κs within =
     let split = c.in-Some.ensures.split in
     let d : 8 * empties_of c.args.position + 3 ≡ t = c.decreases in
     let w : 8 * empties_of c.in-Some.split.child.position + 7 < t = omega (arith, d, child_empties c.args.position c.in-Some.split.child split.child) in
     (w, (within, (split.child.replies, other_bound c.args.bound c.requires.bound)))
 
-pub search_up_to_16-returns-then-score-bound : goal.search_up_to_16-returns-then-score-bound
-search_up_to_16-returns-then-score-bound g t c =
+pub search_by_mobility-returns-then-score-bound : goal.search_by_mobility-returns-then-score-bound
+search_by_mobility-returns-then-score-bound g t c =
     cut_above c.args.bound _ _ (shown (pos 0 -ℤ shown c.search-score.result)) c.requires.bound
     (turned_above c.args.bound _ _ c.requires.bound c.search-score.ensures)
     (child_worth (g.T.Bounds.scoring c.args.table.now) c.args.position c.in-Some.split.child c.in-Some.ensures.split.child) c.if-score-bound.true
 
-pub search_up_to_16-add_children-requires : goal.search_up_to_16-add_children-requires
-search_up_to_16-add_children-requires g t c = (search rules, (c.in-Some.ensures.split.rest, (c.in-Some.ensures.room, c.in-Some.ensures.split.each)))
+pub search_by_mobility-add_children-requires : goal.search_by_mobility-add_children-requires
+search_by_mobility-add_children-requires g t c = (search rules, (c.in-Some.ensures.split.rest, (c.in-Some.ensures.room, c.in-Some.ensures.split.each)))
 
-pub search_up_to_16-search_children-requires-2 : goal.search_up_to_16-search_children-requires-2
-search_up_to_16-search_children-requires-2 g t c κs within =
+pub search_by_mobility-search_children-requires-2 : goal.search_by_mobility-search_children-requires-2
+search_by_mobility-search_children-requires-2 g t c κs within =
     let r = g.T.Bounds.scoring c.args.table.now in
     let split = c.in-Some.ensures.split in
     let above = child_worth r c.args.position c.in-Some.split.child split.child in
@@ -183,23 +186,22 @@ search_up_to_16-search_children-requires-2 g t c κs within =
       ),
     )
 
-pub search_up_to_16-returns : goal.search_up_to_16-returns
-search_up_to_16-returns g t c = same_fail_soft c.args.bound c.requires.bound _ _ c.search_children-2.ensures
+pub search_by_mobility-returns : goal.search_by_mobility-returns
+search_by_mobility-returns g t c = same_fail_soft c.args.bound c.requires.bound _ _ c.search_children-2.ensures
 
-pub search_up_to_64-add_until_no_replies-requires : goal.search_up_to_64-add_until_no_replies-requires
-search_up_to_64-add_until_no_replies-requires g t c = (search rules, (c.requires.moves, (ones_of_64 c.args.moves c.ranges.moves.fits, c.new-children.ensures)))
-
-pub search_up_to_64-search_children-requires : goal.search_up_to_64-search_children-requires
-search_up_to_64-search_children-requires g t c κs within =
+pub search_by_worth-search_children-requires : goal.search_by_worth-search_children-requires
+search_by_worth-search_children-requires g t c κs within =
     let r = g.T.Bounds.scoring c.args.table.now in
-    let d : 8 * empties_of c.args.position + 3 ≡ t = c.decreases in
-    let w : 8 * empties_of c.args.position + 2 < t = omega (arith, d) in
-    let unlisted = unlisted_sorted r c.args.position (negsuc 64) _ _ c.sort_children.ensures (none_unlisted r c.args.position _ (negsuc 64) (c.in_default.ensures.all refl)) in (
+    let p = c.args.position in
+    let d : 8 * empties_of p + 3 ≡ t = c.decreases in
+    let w : 8 * empties_of p + 2 < t = omega (arith, d) in
+    let sorted = judged_sorted p _ _ c.judge_children.new.children _ (sym (c.judge_children.auto.children ∙ ap length c.deref_mut.ensures.value)) c.sort_children.ensures c.judge_children.ensures in
+    let unlisted = none_unlisted r p _ (negsuc 64) sorted in (
       w,
       (
         within,
         (
-          subst (UnlistedAreAtMost r c.args.position (negsuc 64)) (sym c.deref.ensures.0) unlisted,
+          subst (UnlistedAreAtMost r p (negsuc 64)) (sym c.deref-2.ensures.0) unlisted,
           (
             omega (arith, ints),
             (
@@ -210,64 +212,6 @@ search_up_to_64-search_children-requires g t c κs within =
         ),
       ),
     )
-
-pub search_up_to_64-returns-in_default : goal.search_up_to_64-returns-in_default
-search_up_to_64-returns-in_default g t c = same_fail_soft c.args.bound c.requires.bound _ _ c.search_children.ensures
-
-pub search_up_to_64-search-score-requires : goal.search_up_to_64-search-score-requires
-search_up_to_64-search-score-requires g t c κs within =
-    let split = c.in-Some.ensures.split in
-    let d : 8 * empties_of c.args.position + 3 ≡ t = c.decreases in
-    let w : 8 * empties_of c.in-Some.split.child.position + 7 < t = omega (arith, d, child_empties c.args.position c.in-Some.split.child split.child) in
-    (w, (within, (split.child.replies, other_bound c.args.bound c.requires.bound)))
-
-pub search_up_to_64-returns-then-score-bound : goal.search_up_to_64-returns-then-score-bound
-search_up_to_64-returns-then-score-bound g t c =
-    cut_above c.args.bound _ _ (shown (pos 0 -ℤ shown c.search-score.result)) c.requires.bound
-    (turned_above c.args.bound _ _ c.requires.bound c.search-score.ensures)
-    (child_worth (g.T.Bounds.scoring c.args.table.now) c.args.position c.in-Some.split.child c.in-Some.ensures.split.child) c.if-score-bound.true
-
-pub search_up_to_64-add_children-requires : goal.search_up_to_64-add_children-requires
-search_up_to_64-add_children-requires g t c = (search rules, (c.in-Some.ensures.split.rest, (c.in-Some.ensures.room, c.in-Some.ensures.split.each)))
-
-pub search_up_to_64-search_children-requires-2 : goal.search_up_to_64-search_children-requires-2
-search_up_to_64-search_children-requires-2 g t c κs within =
-    let r = g.T.Bounds.scoring c.args.table.now in
-    let split = c.in-Some.ensures.split in
-    let above = child_worth r c.args.position c.in-Some.split.child split.child in
-    let d : 8 * empties_of c.args.position + 3 ≡ t = c.decreases in
-    let w : 8 * empties_of c.args.position + 2 < t = omega (arith, d) in
-    let s = shown (pos 0 -ℤ shown c.search-score.result) in
-    let p = turned_above c.args.bound _ _ c.requires.bound c.search-score.ensures in
-    let covered = score_covers c.args.bound _ _ s c.requires.bound p above c.if-score-bound.false in
-    let unlisted = unlisted_sorted r c.args.position _ _ _ c.sort_children-2.ensures (unlisted_after_first r c.args.position c.in-Some.split _ _ _ split covered c.add_children.ensures.each c.add_children.ensures.every) in (
-      w,
-      (
-        within,
-        (
-          subst (UnlistedAreAtMost r c.args.position s) (sym c.deref-2.ensures.0) unlisted,
-          (
-            after_first _ p.least,
-            (
-              score_open c.args.bound _ _ s c.requires.bound p above c.if-score-bound.false,
-              (λ z. c.requires.some (c.requires.moves ∙ z), shown_bound c.args.bound c.requires.bound),
-            ),
-          ),
-        ),
-      ),
-    )
-
-pub search_up_to_64-returns : goal.search_up_to_64-returns
-search_up_to_64-returns g t c = same_fail_soft c.args.bound c.requires.bound _ _ c.search_children-2.ensures
-
-pub search_children-enhanced_cutoff-requires-clause-children : goal.search_children-enhanced_cutoff-requires-clause-children
-search_children-enhanced_cutoff-requires-clause-children g t c = c.requires.unlisted.each
-
-pub search_children-enhanced_cutoff-requires-clause-bound : goal.search_children-enhanced_cutoff-requires-clause-bound
-search_children-enhanced_cutoff-requires-clause-bound g t c = shown_bound c.args.bound c.requires.bound
-
-pub search_children-returns-in-Some : goal.search_children-returns-in-Some
-search_children-returns-in-Some g t c = same_fail_soft c.args.bound c.requires.bound _ _ c.in-Some.ensures
 
 pub search_children-bounds-children-child-index : goal.search_children-bounds-children-child-index
 search_children-bounds-children-child-index g t c = c.loop-child-test.true

@@ -15,11 +15,11 @@ decreases-search_moves g l = 8 * empties_of l.position + 5
 abbrev pub decreases-search_by_list : goal.decreases-search_by_list
 decreases-search_by_list g l = 8 * empties_of l.position + 4
 
-abbrev pub decreases-search_up_to_16 : goal.decreases-search_up_to_16
-decreases-search_up_to_16 g l = 8 * empties_of l.position + 3
+abbrev pub decreases-search_by_mobility : goal.decreases-search_by_mobility
+decreases-search_by_mobility g l = 8 * empties_of l.position + 3
 
-abbrev pub decreases-search_up_to_64 : goal.decreases-search_up_to_64
-decreases-search_up_to_64 g l = 8 * empties_of l.position + 3
+abbrev pub decreases-search_by_worth : goal.decreases-search_by_worth
+decreases-search_by_worth g l = 8 * empties_of l.position + 3
 
 abbrev pub decreases-search_children : goal.decreases-search_children
 decreases-search_children g l = 8 * empties_of l.position + 2

@@ -7,7 +7,7 @@ use Rattle.endgame_search.proofs.last_four.next_move.Goals as goal
 pub returns-in-Some-clause-some : goal.returns-in-Some-clause-some
 returns-in-Some-clause-some c =
     let kept = c.loop-rest.invariant in
-    let here = c.lowest-square.ensures.member in
+    let here = c.highest-square.ensures in
     let k = one_less _ _ _ here c.without-rest.ensures kept.small c.without-rest.type_inv (on_board _ _ kept.small here) in
     let f = kept.fewer in
     move_taken c.args.position c.args.squares _ _ _ here c.without-rest.ensures kept.among _ (c.in-Some.ensures.when.0 refl) c.in-Some.ensures.value refl (omega (arith, k, f))
@@ -15,14 +15,14 @@ returns-in-Some-clause-some c =
 pub loop-rest-smaller : goal.loop-rest-smaller
 loop-rest-smaller c =
     let small = c.loop-rest.invariant.small in
-    let here = c.lowest-square.ensures.member in
+    let here = c.highest-square.ensures in
     let k = one_less _ _ _ here c.without-rest.ensures small c.without-rest.type_inv (on_board _ _ small here) in
     omega (arith, k)
 
 pub loop-rest-preserved : goal.loop-rest-preserved
 loop-rest-preserved c =
     let kept = c.loop-rest.invariant in
-    let here = c.lowest-square.ensures.member in
+    let here = c.highest-square.ensures in
     let k = one_less _ _ _ here c.without-rest.ensures kept.small c.without-rest.type_inv (on_board _ _ kept.small here) in
     let f = kept.fewer in
     record {

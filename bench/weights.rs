@@ -1,0 +1,94 @@
+//! Prints crates/endgame_search/src/weights.rt, made again from games that it plays by itself, always the same ones.
+//!
+//!     rustc -Copt-level=3 -Ctarget-cpu=native -o weights bench/weights.rs
+//!     ./weights 800000 >crates/endgame_search/src/weights.rt
+//!
+//! It takes a position of each of so many games, in MINUTES minutes of processors. All have 10 to 13 empty squares, and none
+//! is of the FFO endgame test. Their values are exact, by the search in bench/peer.rs. The weights are the least squares
+//! fit of what the rest of the evaluation lacks to them.
+#[allow(dead_code)]
+#[path = "peer.rs"]
+mod peer;
+
+use peer::{Pos, Scoring, Table, order, search_window, simple_worth, squares, states};
+
+const STATES: usize = 6561;
+const LOTS: u64 = 16; // of games, each with a thread
+const ROUNDS: u32 = 300;
+const SHRINK: f64 = 8.0; // a weight is as if it were 0 in so many positions more
+
+/// A sequence of numbers (xorshift64*).
+struct Numbers(u64);
+
+impl Numbers {
+    fn below(&mut self, end: u32) -> u32 {
+        self.0 ^= self.0 << 13;
+        self.0 ^= self.0 >> 7;
+        self.0 ^= self.0 << 17;
+        (self.0.wrapping_mul(0x2545_f491_4f6c_dd1d) >> 33) as u32 % end
+    }
+}
+
+/// Plays a game until so many squares are empty and the side to move has a move. The first 6 to 30 moves and the last
+/// ones are random; the others leave the opponent about the least mobility. None if the game ends before.
+fn position(numbers: &mut Numbers, empties: u32) -> Option<Pos> {
+    let (first, last, noise) = (30 + numbers.below(25), empties + numbers.below(5), 16 * (1 + numbers.below(40)));
+    let mut p = Pos { own: 0x0000_0008_1000_0000, opp: 0x0000_0010_0800_0000 };
+    while p.empties() > empties || p.moves() == 0 {
+        if p.moves() == 0 {
+            p = p.pass();
+            if p.moves() == 0 {
+                return None;
+            }
+        }
+        let is_random = p.empties() > first || p.empties() <= last;
+        let children = squares(p.moves()).map(|square| (square, p.after(square, p.flips(square))));
+        let key = |&(square, child): &(u32, Pos)| match is_random {
+            true => numbers.below(1 << 16),
+            false => order(child.moves(), square) + numbers.below(noise),
+        };
+        p = children.min_by_key(key)?.1;
+    }
+    (p.empties() == empties).then_some(p)
+}
+
+/// The states of so many positions, and what their values are above the rest of the evaluation.
+fn rows(lot: u64, number: u32) -> Vec<([usize; 8], f64)> {
+    let (mut numbers, table) = (Numbers(0x9e37_79b9_7f4a_7c15_u64.wrapping_mul(2 * lot + 1)), Table::new(65_536, Scoring::Winner));
+    let mut row = || loop {
+        let empties = 10 + numbers.below(4);
+        if let Some(p) = position(&mut numbers, empties) {
+            let value = search_window(&table, p, 0, -65, 65);
+            return (states(p), f64::from(8 * value - simple_worth(p, p.moves())));
+        }
+    };
+    (0..number).map(|_| row()).collect()
+}
+
+fn main() {
+    let number: u32 = std::env::args().nth(1).and_then(|word| word.parse().ok()).expect("a number of games");
+    let lots: Vec<_> = (0..LOTS).map(|lot| std::thread::spawn(move || rows(lot, number / LOTS as u32))).collect();
+    let rows: Vec<_> = lots.into_iter().flat_map(|lot| lot.join().expect("no panic")).collect();
+    let (mut weights, mut counts) = ([0.0; STATES], [0.0; STATES]);
+    rows.iter().for_each(|(at, _)| at.iter().for_each(|&state| counts[state] += 1.0));
+    for _ in 0..ROUNDS {
+        let mut errors = weights.map(|weight: f64| -SHRINK * weight);
+        for (at, worth) in &rows {
+            let error = worth - at.iter().map(|&state| weights[state]).sum::<f64>();
+            at.iter().for_each(|&state| errors[state] += error);
+        }
+        (0..STATES).for_each(|state| weights[state] += errors[state] / (8.0 * counts[state] + SHRINK));
+    }
+    println!("//! What the squares at a corner are worth, in eighths of a disc: made by bench/weights.rs, of {number} games.\n");
+    println!("// By the state of four squares of an edge, the corner first, and of the four beside them: the sum of\n// 3^i for a disc of the mover on square i, and of twice that for one of the opponent.");
+    println!("pub(crate) static WEIGHTS: [i8; {STATES}] = [");
+    let mut line = String::from("   ");
+    for word in weights.map(|weight| format!(" {},", weight.round() as i8)) {
+        if line.len() + word.len() > 100 {
+            println!("{line}");
+            line.truncate(3);
+        }
+        line += &word;
+    }
+    println!("{line}\n];");
+}
