@@ -84,7 +84,7 @@ fn main() {
     println!("pub(crate) static WEIGHTS: [i8; {STATES}] = [");
     let mut line = String::from("   ");
     for word in weights.map(|weight| format!(" {},", weight.round() as i8)) {
-        if line.len() + word.len() > 100 {
+        if line.len() + word.len() > 99 {
             println!("{line}");
             line.truncate(3);
         }
