@@ -1,2 +1,3 @@
+pub mod BookLines
 pub mod BookPlace
 pub mod SolveError

@@ -10,7 +10,7 @@ use Rattle.program_parts.specs.Cause.{cause_line, cause_text, error_line}
 use Rattle.program_parts.specs.ProgramError.{error_cause, error_reason}
 use Rattle.program_parts.specs.declared.program_error.ProgramError.TheVariants.{Memory, BadInput, BadWords, CannotRead, CannotWrite}
 use Rattle.book_files.specs.declared.solve_error.SolveError.{SolveError}
-use Rattle.book_files.specs.declared.solve_error.SolveError.TheVariants.{Program, Mixed, BadBook, BadPlace, OverwritesFile, OverwritesBookIn}
+use Rattle.book_files.specs.declared.solve_error.SolveError.TheVariants.{Program, Mixed, BadBook, BookOnDevice, BadPlace, OverwritesFile, OverwritesBookIn}
 
 -- the error for a fault of the run
 abbrev pub run_error : RunFault → SolveError
@@ -29,6 +29,7 @@ unfoldable pub solve_error_reason : SolveError → List ℕ
 solve_error_reason (Program error) = error_reason error
 solve_error_reason Mixed = codes "answers mixed"
 solve_error_reason (BadBook fault) = book_fault_text fault
+solve_error_reason (BookOnDevice name) = codes "cannot read " ++ name.now
 solve_error_reason (BadPlace name kind) = codes "cannot write " ++ name.now
 solve_error_reason (OverwritesFile name) = name.now ++ codes " is not a book and would be overwritten"
 solve_error_reason (OverwritesBookIn name) =
@@ -38,6 +39,7 @@ solve_error_reason (OverwritesBookIn name) =
 -- why a file can't be read or written
 abbrev pub solve_error_cause : SolveError → List ℕ
 solve_error_cause (Program error) = error_cause error
+solve_error_cause (BookOnDevice name) = codes "it is neither a file nor a pipe"
 solve_error_cause (BadPlace name kind) = cause_text kind
 solve_error_cause _ = []
 
@@ -56,6 +58,7 @@ solve_status_of (Program (CannotRead name kind)) = 3
 solve_status_of (Program (CannotWrite name kind)) = 3
 solve_status_of Mixed = 1
 solve_status_of (BadBook fault) = 3
+solve_status_of (BookOnDevice name) = 3
 solve_status_of (BadPlace name kind) = 3
 solve_status_of (OverwritesFile name) = 3
 solve_status_of (OverwritesBookIn name) = 3

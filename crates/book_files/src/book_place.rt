@@ -108,6 +108,7 @@ pub fn find_place<'a, T: Files>(
     name: &'a str,
     found: io::Result<Found>,
 ) -> Result<BookPlace<'a>, SolveError<'a>>
+    ensures name { IfOk result (λ place. place.name ≡ name.entry) }
     ensures found { IfOk result (λ place. found ≡ Ok place.found) }
     ensures free { IfOk result (λ place. IsFree place.found) }
     ensures refused { IfOk found (λ f. (IsFree f → ⊥) → IfErr result (IsRefusalOf f name.entry)) }

@@ -1,92 +1,177 @@
 //! The book that the program reads, and the book that it writes.
 
-ghost use Rattle.std.specs.Prelude.{◌≡◌, ◌⊎◌, ◌↔◌, None, IfOk, IfErr, IfSome};
+ghost use Rattle.std.specs.Prelude.{◌≡◌, ◌≢◌, ◌⊎◌, ◌↔◌, ◌-◌, ◌<◌, ◌≤◌, ℕ, List, None, All, IfOk, IfErr, IfSome};
+ghost use Rattle.std.specs.Prelude.{length, take};
 ghost use Rattle.solved_book.specs.Books.{book_text};
+ghost use Rattle.solved_book.specs.Claims.{GivesAdvice, claims_of};
+ghost use Rattle.book_files.specs.BookLines.{IsFrontOf, IsLineOrFault, ReadsPart};
 ghost use Rattle.book_files.specs.BookPlace.{IsBookTextOf, IsFree};
 ghost use Rattle.book_files.specs.SolveError.{IsSilent, solve_status_of};
 
 use crate::book_place::BookPlace;
 use crate::new_file::NewFile;
 use crate::solve_error::SolveError;
-use obf_text::LineFault;
+use obf_text::{LineFault, fault_of_front};
 use program_parts::{ProgramError, read_error};
 use solved_book::{Book, BookFault, Claims};
 use std::alloc::{AllocError, Global};
-use std::io::{BufRead, BufReader, Read};
+use std::io::{BufRead, BufReader, ErrorKind, Read};
 use std::os::unix::fs::FileTypeExt;
 use std::rt::Files;
 use std::{fs, io};
 use suite_runs::SolvedFiles;
 
-// How many bytes of a line are looked at before its rest is read.
+// How many bytes of a longer line are read before it is judged by them. A header has fewer.
 const FRONT: usize = 65_536;
 
-// Whether the first bytes of line `number` of a book are faulty, whatever follows them.
-fn is_final(alloc: Global, number: usize, front: &[u8]) -> bool {
-    match Claims::read(alloc, front) {
-        Err(BookFault::Header) => number == 1,
-        Err(BookFault::Line(_, LineFault::BadCell(_))) => true,
-        _ => false,
+// The number of bytes of the first line, with its end.
+fn line_len(bytes: &[u8]) -> usize
+    ensures within { result ≤ length bytes.now }
+    ensures some { 0 < length bytes.now → 0 < result }
+    ensures before { All (λ b. b ≢ 10) (take (result - 1) bytes.now) }
+{
+    for (at, byte) in bytes.iter().enumerate() {
+        if *byte == b'\n' {
+            return at + 1;
+        }
     }
+    bytes.len()
 }
 
-// Reads line `number` of a book with its end; no byte if no line is left. A line whose first bytes
-// are faulty, whatever follows them, is read no further, since it may have no end.
-fn next_line<R: BufRead>(
+// Appends the bytes of a line that the reader shows, up to the line's end. Returns whether the line
+// is whole: its end was read, or no byte is left.
+fn read_some<R: BufRead>(reader: &mut R, line: &mut Vec<u8>) -> io::Result<bool>
+    ensures { IfOk result (ReadsPart (R.remaining reader.old) (R.remaining reader.new)
+        line.old.items line.new.items) }
+{
+    let shown = match reader.fill_buf() {
+        Ok(shown) => shown,
+        Err(error) => {
+            return match error.kind() {
+                ErrorKind::Interrupted => Ok(false),
+                _ => Err(error),
+            };
+        }
+    };
+    let end = line_len(shown);
+    line.extend_from_slice(&shown[..end])?;
+    let whole = end == 0 || shown[end - 1] == b'\n';
+    reader.consume(end);
+    Ok(whole)
+}
+
+// Reads a line with its end, or at least the first `FRONT` bytes of a longer one; no byte if no line
+// is left. Returns whether the line is whole.
+fn read_front<R: BufRead>(reader: &mut R, line: &mut Vec<u8>) -> io::Result<bool>
+    ensures { IfOk result (λ whole. IfSome (R.remaining reader.old)
+        (λ text. IsFrontOf text whole line.new.items (R.remaining reader.new))) }
+{
+    line.clear();
+    for _ in 0..u64::MAX {
+        if read_some(reader, line)? {
+            return Ok(true);
+        }
+        if line.len() >= FRONT {
+            return Ok(false);
+        }
+    }
+    Err(io::Error::from(ErrorKind::Interrupted))
+}
+
+// Reads the rest of a line whose front was read. If the front is faulty, whatever follows it, this
+// is its fault, and nothing is read, since the line may have no end. Its last byte is not judged: it
+// may be the CR of a line's end.
+fn read_rest<R: BufRead>(
     alloc: Global,
     reader: &mut R,
-    number: usize,
     line: &mut Vec<u8>,
-) -> io::Result<()> {
-    line.clear();
-    reader.take(FRONT as u64).read_until(b'\n', line)?;
-    if line.len() == FRONT && !line.ends_with(b"\n") && !is_final(alloc, number, line) {
-        reader.read_until(b'\n', line)?;
+    whole: bool,
+) -> io::Result<Option<LineFault>>
+    ensures { IfOk result (λ fault. (text : List ℕ)
+        → IsFrontOf text whole line.old.items (R.remaining reader.old)
+        → IsLineOrFault text fault line.new.items (R.remaining reader.new)) }
+{
+    if whole {
+        return Ok(None);
     }
-    Ok(())
+    if let Some((_, front)) = line.split_last() {
+        if let Some(fault) = fault_of_front(alloc, front) {
+            return Ok(Some(fault));
+        }
+    }
+    reader.read_until(b'\n', line)?;
+    Ok(None)
 }
 
 // The claims of the book in a reader, or the first fault of the book, whose line is the last one
 // that is read. The error is that of the reader.
-fn claims_in<R: Read + Drop>(alloc: Global, reader: R) -> io::Result<Result<Claims, BookFault>> {
-    let mut reader = BufReader::new(alloc, reader)?;
+fn claims_in<R: BufRead>(alloc: Global, reader: &mut R) -> io::Result<Result<Claims, BookFault>>
+    ensures { IfOk result (λ read. IfSome (R.remaining reader.old)
+        (λ text. GivesAdvice read (claims_of text))) }
+{
     let mut line = Vec::new(alloc);
-    next_line(alloc, &mut reader, 1, &mut line)?;
-    let mut claims = match Claims::read(alloc, &line) {
-        Ok(claims) => claims,
-        Err(fault) => return Ok(Err(fault)),
+    let mut whole = read_front(reader, &mut line)?;
+    let Some(mut claims) = Claims::under_header(alloc, &line) else {
+        return Ok(Err(BookFault::Header));
     };
-    for number in 2..isize::MAX as usize {
-        next_line(alloc, &mut reader, number, &mut line)?;
+    for number in 1..isize::MAX as usize {
+        if let Some(fault) = read_rest(alloc, reader, &mut line, whole)? {
+            return Ok(Err(BookFault::Line(number, fault)));
+        }
         if line.is_empty() {
-            break;
+            return Ok(Ok(claims));
         }
         claims = match claims.read_more(alloc, number, &line) {
             Ok(claims) => claims,
             Err(fault) => return Ok(Err(fault)),
         };
+        whole = read_front(reader, &mut line)?;
     }
-    Ok(Ok(claims))
+    Ok(Err(BookFault::Memory))
 }
 
-// Opens the file of a book, which has to be a regular file or a pipe, since a device may have no
-// end. `InvalidInput` is the kind of the error for a device.
-fn open_book<T: Files>(rt: &T, name: &str) -> io::Result<T::File> {
+// Opens the file of a book, which has to be a regular file or a pipe; None if it is a device, which
+// may have no end.
+fn open_book<T: Files>(rt: &T, name: &str) -> io::Result<Option<T::File>> {
     let found = fs::metadata(rt, name)?;
     if found.is_dir() {
-        return Err(io::Error::from(io::ErrorKind::IsADirectory));
+        return Err(io::Error::from(ErrorKind::IsADirectory));
     }
     if !found.is_file() && !found.file_type().is_fifo() {
-        return Err(io::Error::from(io::ErrorKind::InvalidInput));
+        return Ok(None);
     }
-    fs::open(rt, name)
+    Ok(Some(fs::open(rt, name)?))
 }
 
-// The claims of the book in the file of this name, or the fault of the book. The error is that of a
-// file that can't be read.
-fn claims_of<T: Files>(rt: &T, alloc: Global, name: &str) -> io::Result<Result<Claims, BookFault>> {
-    let file = open_book(rt, name)?;
-    claims_in(alloc, file)
+// The claims of the book in a file, or the fault of the book. The error is that of a file that can't
+// be read.
+fn claims_of_file<F: Read + Drop>(alloc: Global, file: F) -> io::Result<Result<Claims, BookFault>>
+    ensures { IfOk result (λ read. IfSome (F.remaining file)
+        (λ text. GivesAdvice read (claims_of text))) }
+{
+    let mut reader = BufReader::new(alloc, file)?;
+    claims_in(alloc, &mut reader)
+}
+
+// The claims of the book in the file of this name.
+fn claims_under<'a, T: Files>(
+    rt: &T,
+    alloc: Global,
+    name: &'a str,
+) -> Result<Claims, SolveError<'a>>
+    ensures silent { IfErr result IsSilent }
+    ensures status { IfErr result
+        (λ error. (solve_status_of error ≡ 1) ⊎ (solve_status_of error ≡ 3)) }
+{
+    let file = match open_book(rt, name) {
+        Ok(Some(opened)) => opened,
+        Ok(None) => return Err(SolveError::BookOnDevice(name)),
+        Err(fault) => return Err(SolveError::Program(read_error(&fault, name))),
+    };
+    match claims_of_file(alloc, file) {
+        Ok(read) => Ok(read?),
+        Err(fault) => Err(SolveError::Program(read_error(&fault, name))),
+    }
 }
 
 /// Reads the claims of the book in the file of this name; None if there is no name. The errors
@@ -104,11 +189,7 @@ pub fn read_claims<'a, T: Files>(
     let Some(name) = name else {
         return Ok(None);
     };
-    let name = name.as_str();
-    match claims_of(rt, alloc, name) {
-        Ok(read) => Ok(Some(read?)),
-        Err(fault) => Err(SolveError::Program(read_error(&fault, name))),
-    }
+    Ok(Some(claims_under(rt, alloc, name.as_str())?))
 }
 
 // Makes the text of the book.
@@ -132,6 +213,8 @@ pub fn ready_book<'a, T: Files>(
 ) -> Result<Option<NewFile<'a>>, AllocError>
     requires { IfSome place.now (λ p. IsFree p.found) }
     ensures placed { IfOk result (λ file. file ≡ None ↔ place.now ≡ None) }
+    ensures name { IfOk result (λ file. IfSome file
+        (λ file. IfSome place.now (λ p. file.name ≡ p.name))) }
     ensures text { IfOk result (λ file. IfSome file
         (λ file. IsBookTextOf solved.now file.text.items)) }
 {

@@ -1,18 +1,20 @@
 //! What is found under the name of a book that is to be written.
 
-ghost use Rattle.std.specs.Prelude.{◌≡◌, ◌⊎◌, ◌↔◌, IsTrue};
+ghost use Rattle.std.specs.Prelude.{◌≡◌, ◌⊎◌, ◌↔◌};
 ghost use Rattle.obf_text.specs.LineText.{lines_of};
-ghost use Rattle.othello_rules.specs.declared.scoring.Scoring.{Scoring};
-ghost use Rattle.solved_book.specs.Books.{header};
 ghost use Rattle.book_files.specs.BookPlace.{GivesWay, IsFree};
 
 use obf_text::split_lines;
-use othello_rules::Scoring;
+use solved_book::header_scoring;
 use std::fs::Metadata;
 use std::io::Read;
 use std::os::unix::fs::MetadataExt;
 use std::rt::Files;
 use std::{fs, io};
+
+// How many bytes of a file are read to find a header: `% ffobook 2 winner` and CR LF are 20 bytes. A
+// first line that is cut is longer than a header.
+const HEADER_ROOM: usize = 20;
 
 /// What is found under the name of a book that is to be written.
 #[derive(Clone, Copy, PartialEq, Eq, Debug)]
@@ -31,17 +33,6 @@ pub enum Found {
     BookIn,
 }
 
-// Whether the line is the header of a book.
-#[tactic(auto, unfolding(solved_book::specs::Books::header))]
-fn is_header(line: &[u8]) -> bool
-    ensures { IsTrue result ↔ ((g : Scoring) × (line.now ≡ header g)) }
-{
-    match line.strip_prefix(b"% ffobook 2 ") {
-        Some(name) => Scoring::from_name(name).is_some(),
-        None => false,
-    }
-}
-
 // What a regular file that begins like this is.
 fn found_in(front: &[u8]) -> Found
     ensures free { IsFree result ↔ GivesWay (lines_of front.now) }
@@ -49,7 +40,7 @@ fn found_in(front: &[u8]) -> Found
 {
     match split_lines(front).next() {
         Some(line) => {
-            if is_header(line) {
+            if header_scoring(line).is_some() {
                 Found::Book
             } else {
                 Found::Other
@@ -92,7 +83,7 @@ impl Found {
                 return Ok(Found::BookIn);
             }
         }
-        let mut front = [0u8; 32];
+        let mut front = [0u8; HEADER_ROOM];
         let count = fs::open(rt, name)?.read(&mut front)?;
         Ok(found_in(&front[..count]))
     }

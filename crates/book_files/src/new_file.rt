@@ -28,7 +28,8 @@ impl<'a> NewFile<'a> {
         name: &'a str,
         text: Vec<u8>,
     ) -> Result<NewFile<'a>, AllocError>
-        ensures { IfOk result (λ file. file.text.items ≡ text.items) }
+        ensures name { IfOk result (λ file. file.name ≡ name.entry) }
+        ensures text { IfOk result (λ file. file.text.items ≡ text.items) }
     {
         let beside = name_beside(rt, alloc, name)?;
         Ok(NewFile { name, beside, text })

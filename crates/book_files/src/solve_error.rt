@@ -25,6 +25,8 @@ pub enum SolveError<'a> {
     Mixed,
     /// The file of the book to be read is not a book. Out of memory is `Program(Memory)`.
     BadBook(BookFault),
+    /// The book to be read is on a device of this name, which may have no end.
+    BookOnDevice(&'a str),
     /// A book can't be written under this name, as a test showed before anything was solved. The
     /// kind of the system's error says why.
     BadPlace(&'a str, ErrorKind),
@@ -95,6 +97,7 @@ impl fmt::Display for SolveError<'_> {
             SolveError::Program(error) => write!(f, "{error}"),
             SolveError::Mixed => f.write_str("answers mixed"),
             SolveError::BadBook(fault) => write!(f, "{fault}"),
+            SolveError::BookOnDevice(name) => write!(f, "cannot read {name}"),
             SolveError::BadPlace(name, _) => write!(f, "cannot write {name}"),
             SolveError::OverwritesFile(name) => write!(
                 f,
@@ -130,6 +133,7 @@ impl SolveError<'_> {
     {
         match self {
             SolveError::Program(error) => error.cause(),
+            SolveError::BookOnDevice(_) => "it is neither a file nor a pipe",
             SolveError::BadPlace(_, kind) => cause_text(*kind),
             _ => "",
         }

@@ -13,6 +13,7 @@ pub mod GreatestLemmas
 pub mod OnlyMeaning
 pub mod SomeMeaning
 pub mod PlaceLemmas
+pub mod FrontFaults
 pub mod WriterLemmas
 pub mod WriteSteps
 pub mod WrittenBytes

@@ -1,6 +1,6 @@
 -- The fields of a line. The bytes after the side to move, up to the first `%`, are cut at each
 -- `;`. A piece that is a move, a colon and a score lists that move. Any other piece lists nothing.
-use Rattle.std.specs.Prelude.{◌≡◌, ◌⊎◌, ℕ, ℤ, pos, neg_ℤ, ◌+◌, ◌-◌, ◌*◌, ◌<◌, ◌≤◌, ◌==◌, ◌&&◌, ◌||◌, Bool, nat_le, List}
+use Rattle.std.specs.Prelude.{◌≡◌, ◌⊎◌, ℕ, ℤ, pos, neg_ℤ, ◌+◌, ◌-◌, ◌*◌, ◌<◌, ◌≤◌, ◌==◌, ◌&&◌, ◌||◌, Bool, false, nat_le, List}
 use Rattle.std.specs.Prelude.{[], ◌∷◌, ◌++◌, length, map, take, drop, Option, Some, None, if◌then◌else◌}
 use Rattle.std.specs.List.{AllPass, slice_split, before_first, position_or_len, suffix_len, filter_map}
 use Rattle.std.specs.Option.{option_map}
@@ -13,6 +13,11 @@ use Rattle.obf_text.specs.declared.entries.ListedMove.TheVariants.{At, Pass, Ove
 -- a field: a listed move, with its score as the side to move sees it
 abbrev pub Field : Type 0
 Field = ListedMove × ℤ
+
+-- a listed move is the move to the square
+abbrev pub is_move_to : ListedMove → ℕ → Bool
+is_move_to (At p) q = p == q
+is_move_to _ q = false
 
 -- the greatest listed score
 abbrev pub greatest_listed : List Field → ℤ

@@ -1,5 +1,5 @@
 -- The grammar of a line of OBF text, and the meaning of a line.
-use Rattle.std.specs.Prelude.{◌≡◌, ◌≢◌, ℕ, ◌+◌, ◌<◌, ◌==◌, false, nat_lt, List, [], ◌∷◌, ◌++◌, length, map, take, drop}
+use Rattle.std.specs.Prelude.{◌≡◌, ◌≢◌, ℕ, ◌+◌, ◌<◌, ◌≤◌, ◌==◌, false, nat_lt, List, [], ◌∷◌, ◌++◌, length, map, take, drop}
 use Rattle.std.specs.Prelude.{Option, Some, None, Result, Ok, Err, if◌then◌else◌}
 use Rattle.std.specs.List.{position_or_len, AllPass}
 use Rattle.othello_rules.specs.declared.discs.Cell.{Cell}
@@ -171,3 +171,9 @@ place_of (Short found) = found
 place_of (BadCell column) = column
 place_of (BadSide column) = column
 place_of Memory = 0
+
+-- the fault is at a byte of the line, and not at its end
+abbrev pub IsAtByte : List ℕ → LineFault → Type 0
+IsAtByte line (BadCell column) = Unit {0}
+IsAtByte line (BadSide column) = column ≤ length line
+IsAtByte line _ = ⊥

@@ -3,7 +3,7 @@
 ghost use Rattle.std.specs.Prelude.{◌≡◌, ◌↔◌, [], map, IsNone, IfSome};
 ghost use Rattle.std.specs.Int.{int_max};
 ghost use Rattle.std.specs.List.{fold};
-ghost use Rattle.obf_text.specs.Fields.{greatest_listed};
+ghost use Rattle.obf_text.specs.Fields.{greatest_listed, is_move_to};
 
 use othello_rules::{Grid, Square};
 
@@ -16,6 +16,18 @@ pub enum ListedMove {
     Pass,
     /// The game is over. It is written `--`.
     Over,
+}
+
+impl ListedMove {
+    /// Whether this is the move to the square.
+    pub fn is_move_to(self, square: Square) -> bool
+        ensures { result ≡ is_move_to self square }
+    {
+        match self {
+            ListedMove::At(other) => other == square,
+            _ => false,
+        }
+    }
 }
 
 impl Default for ListedMove {

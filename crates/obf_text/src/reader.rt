@@ -1,9 +1,11 @@
 //! Reads one line.
 
-ghost use Rattle.std.specs.Prelude.{◌≡◌, ◌+◌, ◌<◌, ◌≤◌, ◌^◌, IfErr, length, map};
+ghost use Rattle.std.specs.Prelude.{◌≡◌, ◌+◌, ◌<◌, ◌≤◌, ◌^◌, ◌++◌, ℕ, List, Some, IfErr, IfSome, length, map};
 ghost use Rattle.std.specs.List.{position_or_len};
 ghost use Rattle.obf_text.specs.Bytes.{cell_of, is_no_cell};
-ghost use Rattle.obf_text.specs.Obf.{IsResultFor, Meaning, Says, board_item, gap_item, item_of, place_of};
+ghost use Rattle.obf_text.specs.Obf.{Faulty, IsAtByte, IsResultFor, Meaning, Says, board_item, gap_item};
+ghost use Rattle.obf_text.specs.Obf.{item_of, place_of};
+ghost use Rattle.obf_text.specs.declared.line_fault.LineFault.{LineFault};
 
 use crate::bytes::{blank_count, cell_count, cell_of, side_of};
 use crate::entries::{Item, Line};
@@ -86,5 +88,30 @@ pub fn read_line(alloc: Global, line: &[u8]) -> Result<Item, LineFault>
     match rest {
         [] | [b'%', ..] => Ok(Item::Skip),
         _ => read_board(alloc, start, rest),
+    }
+}
+
+/// The fault of a line by its first bytes, if each line that begins with them has it: a byte that
+/// is not a square, or another byte in place of the side. None if they have no such fault, or
+/// if memory was refused.
+pub fn fault_of_front(alloc: Global, front: &[u8]) -> Option<LineFault>
+    ensures stays { IfSome result (λ fault. (more : List ℕ)
+        → item_of (front.now ++ more) ≡ Faulty fault) }
+    ensures found { (fault : LineFault) → item_of front.now ≡ Faulty fault
+        → IsAtByte front.now fault → result ≡ Some fault }
+{
+    let Err(fault) = read_line(alloc, front) else {
+        return None;
+    };
+    match fault {
+        LineFault::BadCell(_) => Some(fault),
+        LineFault::BadSide(column) => {
+            if column <= front.len() {
+                Some(fault)
+            } else {
+                None
+            }
+        }
+        LineFault::Short(_) | LineFault::Memory => None,
     }
 }

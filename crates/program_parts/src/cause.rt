@@ -19,7 +19,7 @@ pub fn cause_text(kind: ErrorKind) -> &'static str
         ErrorKind::IsADirectory => "it is a folder",
         ErrorKind::ReadOnlyFilesystem => "the file system is read-only",
         ErrorKind::FilesystemLoop => "too many links lead to it",
-        ErrorKind::InvalidInput => "it is neither a file nor a pipe",
+        ErrorKind::InvalidInput => "the file system refuses it",
         ErrorKind::StorageFull => "no space left",
         ErrorKind::QuotaExceeded => "the quota is used up",
         ErrorKind::FileTooLarge => "the file would be too large",

@@ -11,6 +11,7 @@
 
 mod cause;
 mod inputs;
+pub mod laws;
 mod option_fault;
 mod program_error;
 pub mod settings_args;

@@ -85,7 +85,9 @@ pub fn read_error<'a>(fault: &io::Error, name: &'a str) -> ProgramError<'a>
 /// The error for a command line that can't be read: `Memory` if memory was refused, otherwise
 /// `BadWords`.
 pub fn words_error(fault: &io::Error) -> ProgramError<'static>
-    ensures { (result ≡ Memory) ⊎ (result ≡ BadWords) }
+    ensures memory { error_kind fault.now ≡ ErrorKind.OutOfMemory → result ≡ Memory }
+    ensures words { (error_kind fault.now ≡ ErrorKind.OutOfMemory → ⊥) → result ≡ BadWords }
+    ensures either { (result ≡ Memory) ⊎ (result ≡ BadWords) }
 {
     match fault.kind() {
         ErrorKind::OutOfMemory => ProgramError::Memory,

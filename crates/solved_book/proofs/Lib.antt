@@ -10,3 +10,4 @@ pub mod OneOrder
 pub mod LineLaws
 pub mod BookTexts
 pub mod Parts
+pub mod LineSteps

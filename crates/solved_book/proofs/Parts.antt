@@ -13,11 +13,11 @@ use Rattle.solved_book.specs.declared.book_fault.BookFault.{BookFault}
 use Rattle.solved_book.proofs.BookTexts.{scoring_under}
 use Rattle.solved_book.proofs.LineLaws.{fault_before, lines_after, under_ok}
 
-abbrev is_feed : ℕ → Bool
+abbrev pub is_feed : ℕ → Bool
 is_feed b = b == 10
 
 -- the lines of a text that ends with a line feed, by the text before it
-abbrev ended_lines : List ℕ → List (List ℕ)
+abbrev pub ended_lines : List ℕ → List (List ℕ)
 ended_lines front = map strip_carriage_return (slice_split is_feed front)
 
 onto_split : (b : ℕ) (xs ys : List ℕ) → onto_first b (slice_split is_feed xs ++ slice_split is_feed ys) ≡ onto_first b (slice_split is_feed xs) ++ slice_split is_feed ys
@@ -41,7 +41,7 @@ last_kept [] q qs = refl
 last_kept (p ∷ []) q qs = keeps_first p (q ∷ qs) q qs refl
 last_kept (p ∷ r ∷ ps) q qs = keeps_first p (r ∷ (ps ++ q ∷ qs)) r (ps ++ q ∷ qs) refl ∙ ap (λ parts. p ∷ parts) (last_kept (r ∷ ps) q qs)
 
-lines_parts : (front rest : List ℕ) → lines_of (front ++ 10 ∷ rest) ≡ ended_lines front ++ lines_of rest
+pub lines_parts : (front rest : List ℕ) → lines_of (front ++ 10 ∷ rest) ≡ ended_lines front ++ lines_of rest
 lines_parts front rest =
     let part = has_first_part is_feed rest in
     let kept : without_empty_last (slice_split is_feed front ++ slice_split is_feed rest) ≡ slice_split is_feed front ++ without_empty_last (slice_split is_feed rest) =

@@ -15,9 +15,13 @@ pub record BookView : Type 0 where
   pub scoring : Scoring
   pub positions : List bits.PosView
 
+-- how the first line of a book begins
+abbrev pub header_start : List ℕ
+header_start = codes "% ffobook 2 "
+
 -- the first line of a book
 unfoldable pub header : Scoring → List ℕ
-header g = codes "% ffobook 2 " ++ scoring_name g
+header g = header_start ++ scoring_name g
 
 -- the line of a position, with Black as the mover
 unfoldable pub book_line : Scoring → bits.PosView → List ℕ

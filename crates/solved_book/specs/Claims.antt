@@ -19,6 +19,7 @@ use Rattle.obf_text.specs.LineText.{lines_of}
 use Rattle.obf_text.specs.Obf.{Entry, Meaning, Skipped, Holds, Faulty, item_of}
 use Rattle.endgame_search.specs.declared.solved.Claim.{Claim}
 use Rattle.solved_book.specs.Order.{by_masks, is_behind}
+use Rattle.solved_book.specs.Books.{header_start}
 use Rattle.solved_book.specs.Listing.{claim_of}
 use Rattle.solved_book.specs.declared.book_fault.BookFault.{BookFault}
 use Rattle.solved_book.specs.declared.book_fault.BookFault.TheVariants as fault
@@ -38,7 +39,7 @@ pub record ClaimsView : Type 0 where
 -- not one; otherwise `Winner`
 abbrev pub scoring_in : List ℕ → Option Scoring
 scoring_in line =
-    if starts_with nat_eq line (codes "% ffobook 2 ") then scoring_named (drop 12 line)
+    if starts_with nat_eq line header_start then scoring_named (drop 12 line)
     else (if starts_with nat_eq line (codes "% ffobook ") then None else Some Winner)
 
 abbrev pub scoring_of_lines : List (List ℕ) → Option Scoring
@@ -93,6 +94,10 @@ entry_claim (Faulty f) = None
 entry_claim (Holds entry) = Some (discs_of entry.position, claim_of entry.listed)
 
 -- ---- all lines
+
+-- claims of no position
+abbrev pub no_claims : Scoring → ClaimsView
+no_claims g = record { scoring = g; claims = [] }
 
 -- the claims of lines, or the fault of the first faulty line
 abbrev pub LinesOutcome : Type 0

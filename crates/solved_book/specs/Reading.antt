@@ -1,5 +1,5 @@
 -- What the calls that read the lines of a book return.
-use Rattle.std.specs.Prelude.{◌≡◌, List, map, Option, option_map, Result, Ok, Err}
+use Rattle.std.specs.Prelude.{◌≡◌, ◌≢◌, ℕ, All, List, map, Option, option_map, Result, Ok, Err}
 use Rattle.othello_bits.specs.Pos.{PosView}
 use Rattle.endgame_search.specs.declared.solved.Claim.{Claim}
 use Rattle.solved_book.specs.Order.{Masks, position_at}
@@ -19,3 +19,7 @@ GivesLine (Err f) meaning = meaning ≡ Err f
 
 abbrev pub claimed_positions : List PositionClaim → List PosView
 claimed_positions claims = map (λ (c : PositionClaim). c.0) claims
+
+-- no byte is a line feed
+abbrev pub NoFeeds : List ℕ → Type 0
+NoFeeds bytes = All (λ b. b ≢ 10) bytes

@@ -1,8 +1,9 @@
 //! Claims of positions, read from the text of a book.
 
-ghost use Rattle.std.specs.Prelude.{◌≡◌, ◌<◌, ◌^◌, [], None, length, map, option_map};
+ghost use Rattle.std.specs.Prelude.{◌≡◌, ◌<◌, ◌^◌, None, length, map, option_map};
+ghost use Rattle.obf_text.specs.LineText.{lines_of};
 ghost use Rattle.solved_book.specs.Claims.{GivesAdvice, claims_of, claim_for, last_position};
-ghost use Rattle.solved_book.specs.Claims.{more_claims};
+ghost use Rattle.solved_book.specs.Claims.{more_claims, no_claims, scoring_of_lines};
 ghost use Rattle.solved_book.specs.Order.{AreRising, position_at};
 ghost use Rattle.solved_book.specs.Reading.{claimed_positions, position_claim};
 
@@ -55,12 +56,20 @@ fn last_masks(claims: &BTreeMap<Masks, Claim>) -> Option<Masks>
 impl Claims {
     /// An empty list of claims under a scoring. It takes no memory.
     pub fn new(alloc: Global, scoring: Scoring) -> Claims
-        ensures { result ≡ record { scoring = scoring; claims = [] } }
+        ensures { result ≡ no_claims scoring }
     {
         Claims {
             scoring,
             claims: BTreeMap::new(alloc),
         }
+    }
+
+    /// An empty list of claims under the scoring that the first line of a text names, as `read` finds
+    /// it. None if the line is an unknown header.
+    pub fn under_header(alloc: Global, text: &[u8]) -> Option<Claims>
+        ensures { result ≡ option_map no_claims (scoring_of_lines (lines_of text.now)) }
+    {
+        Some(Claims::new(alloc, read_first_line(text)?))
     }
 
     /// Reads the text of a book.
@@ -79,8 +88,8 @@ impl Claims {
     pub fn read(alloc: Global, text: &[u8]) -> Result<Claims, BookFault>
         ensures { GivesAdvice result (claims_of text.now) }
     {
-        match read_first_line(text) {
-            Some(scoring) => Claims::new(alloc, scoring).read_more(alloc, 1, text),
+        match Claims::under_header(alloc, text) {
+            Some(claims) => claims.read_more(alloc, 1, text),
             None => Err(BookFault::Header),
         }
     }

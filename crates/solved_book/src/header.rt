@@ -1,15 +1,19 @@
 //! The first line of a book.
 
-ghost use Rattle.std.specs.Prelude.{◌≡◌, [], ◌∷◌, ◌++◌, OnOk, codes};
+ghost use Rattle.std.specs.Prelude.{◌≡◌, [], ◌∷◌, ◌++◌, OnOk, IfSome, Some};
 ghost use Rattle.std.specs.Io.KnownBytes.{Appends};
 ghost use Rattle.solved_book.specs.Claims.{scoring_in, scoring_of_lines};
 ghost use Rattle.solved_book.specs.Books.{header};
 ghost use Rattle.obf_text.specs.LineText.{lines_of};
+ghost use Rattle.othello_rules.specs.declared.scoring.Scoring.{Scoring};
 
 use obf_text::split_lines;
 use othello_rules::Scoring;
 use std::io;
 use std::io::Write;
+
+// How a header begins. The name of its scoring follows.
+const HEADER: &[u8] = b"% ffobook 2 ";
 
 /// Writes the line that names a scoring, and its end.
 #[tactic(auto, unfolding(crate::specs::Books::header))]
@@ -18,7 +22,20 @@ pub(crate) fn write_header<W: Write>(writer: &mut W, scoring: Scoring) -> io::Re
         (Appends (W.contents writer.old) (W.contents writer.new) (header scoring ++ 10 ∷ [])) }
 {
     let name = scoring.name();
-    write!(writer, "% ffobook 2 {name}\n")
+    writer.write_all(HEADER)?;
+    write!(writer, "{name}\n")
+}
+
+/// The scoring that a header names. None if the line is not the header of a book.
+#[tactic(auto, unfolding(crate::specs::Books::header))]
+pub fn header_scoring(line: &[u8]) -> Option<Scoring>
+    ensures header { IfSome result (λ g. line.now ≡ header g) }
+    ensures all { (g : Scoring) → line.now ≡ header g → result ≡ Some g }
+{
+    match line.strip_prefix(HEADER) {
+        Some(name) => Scoring::from_name(name),
+        None => None,
+    }
 }
 
 // The scoring that a first line names: `Winner` if it is not a header, None if it is an
@@ -26,8 +43,8 @@ pub(crate) fn write_header<W: Write>(writer: &mut W, scoring: Scoring) -> io::Re
 fn read_header(line: &[u8]) -> Option<Scoring>
     ensures { result ≡ scoring_in line.now }
 {
-    if line.starts_with(b"% ffobook 2 ") {
-        return Scoring::from_name(&line[12..]);
+    if line.starts_with(HEADER) {
+        return Scoring::from_name(&line[HEADER.len()..]);
     }
     if line.starts_with(b"% ffobook ") {
         return None;

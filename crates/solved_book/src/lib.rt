@@ -26,3 +26,4 @@ mod order;
 pub use book::Book;
 pub use book_fault::BookFault;
 pub use claims::Claims;
+pub use header::header_scoring;

@@ -9,10 +9,10 @@ use Rattle.othello_rules.specs.declared.answer.Best.TheVariants as best
 use Rattle.othello_rules.proofs.ListLaws.{Contains-filter}
 use Rattle.othello_rules.proofs.MoveLaws.{Contains-squares}
 use Rattle.othello_rules.proofs.Reorder.{list_all-member, member-list_any}
-use Rattle.obf_text.specs.Fields.{Field}
+use Rattle.obf_text.specs.Fields.{Field, is_move_to}
 use Rattle.obf_text.specs.declared.entries.ListedMove.{ListedMove}
 use Rattle.obf_text.specs.declared.entries.ListedMove.TheVariants as listed
-use Rattle.suite_reports.specs.Check.{agrees, are_best_in, complete_check, fields_with, is_best_in, is_square, lists_best, lists_square}
+use Rattle.suite_reports.specs.Check.{agrees, are_best_in, complete_check, fields_with, is_best_in, lists_best, lists_square}
 use Rattle.suite_reports.specs.declared.check.Check.TheVariants.{Agree, Differ}
 
 if_agree : (b : Bool) → cond b Agree Differ ≡ Agree → b ≡ true
@@ -28,7 +28,7 @@ agree_parts (f ∷ fs) A h =
     let both = and_parts _ _ (if_agree _ h) in
     ((and_parts _ _ both.0).1, both.1)
 
-best_square : (mask q : ℕ) (m : ListedMove) → is_square q m ≡ true → is_best_in (best.Moves mask) m ≡ true → in_mask mask q ≡ true
+best_square : (mask q : ℕ) (m : ListedMove) → is_move_to m q ≡ true → is_best_in (best.Moves mask) m ≡ true → in_mask mask q ≡ true
 best_square mask q (listed.At p) same is_best = subst (λ n. in_mask mask n ≡ true) (eqb-true p q same) is_best
 best_square mask q listed.Pass same is_best = absurd (false≢true same)
 best_square mask q listed.Over same is_best = absurd (false≢true same)
@@ -36,7 +36,7 @@ best_square mask q listed.Over same is_best = absurd (false≢true same)
 listed_is_best : (fields : List Field) (score : ℤ) (mask q : ℕ) → are_best_in (best.Moves mask) score fields ≡ true
     → lists_square fields score q ≡ true → in_mask mask q ≡ true
 listed_is_best fields score mask q are_best there =
-    let f = member-list_any (λ f. int_eq f.1 score && is_square q f.0) fields there in
+    let f = member-list_any (λ f. int_eq f.1 score && is_move_to f.0 q) fields there in
     let parts = and_parts _ _ f.2 in
     let counts = Contains-filter (λ f. int_eq f.1 score) fields f.0 f.1 parts.0 in
     best_square mask q f.0.0 parts.1 (list_all-member (λ f. is_best_in (best.Moves mask) f.0) (fields_with score fields) f.0 are_best counts)

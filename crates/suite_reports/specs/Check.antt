@@ -1,12 +1,12 @@
 -- How the scores that a line lists compare with the answer.
-use Rattle.std.specs.Prelude.{ℕ, ℤ, ◌==◌, ◌&&◌, Bool, true, false, List, [], ◌∷◌, filter, if◌then◌else◌}
+use Rattle.std.specs.Prelude.{ℕ, ℤ, ◌&&◌, Bool, true, false, List, [], ◌∷◌, filter, if◌then◌else◌}
 use Rattle.std.specs.List.{list_all, list_any}
 use Rattle.std.specs.Ordering.{int_eq}
 use Rattle.othello_rules.specs.Masks.{in_mask, squares_of}
 use Rattle.othello_rules.specs.Answer.{AnswerView}
 use Rattle.othello_rules.specs.declared.answer.Best.{Best}
 use Rattle.othello_rules.specs.declared.answer.Best.TheVariants as best
-use Rattle.obf_text.specs.Fields.{Field, greatest_listed}
+use Rattle.obf_text.specs.Fields.{Field, greatest_listed, is_move_to}
 use Rattle.obf_text.specs.declared.entries.ListedMove.{ListedMove}
 use Rattle.obf_text.specs.declared.entries.ListedMove.TheVariants as listed
 use Rattle.suite_reports.specs.declared.check.Check.{Check}
@@ -38,14 +38,9 @@ unfoldable pub check : List Field → AnswerView → Check
 check [] answer = Unlisted
 check (f ∷ fs) answer = if agrees (f ∷ fs) answer then Agree else Differ
 
--- a listed move is the move to the square
-abbrev pub is_square : ℕ → ListedMove → Bool
-is_square q (listed.At p) = p == q
-is_square q _ = false
-
 -- the move to the square is listed with this score
 abbrev pub lists_square : List Field → ℤ → ℕ → Bool
-lists_square fields score q = list_any (λ f. int_eq f.1 score && is_square q f.0) fields
+lists_square fields score q = list_any (λ f. int_eq f.1 score && is_move_to f.0 q) fields
 
 -- Each best move is listed with the score. If the mover has to pass, or the game is over, there
 -- is nothing to choose, so nothing can be left out.

@@ -3,7 +3,7 @@
 ghost use Rattle.std.specs.Prelude.{◌≡◌, Some};
 ghost use Rattle.std.specs.List.{list_all};
 ghost use Rattle.suite_reports.specs.Check.{are_best_in, check, check_by, complete_check, is_best_in};
-ghost use Rattle.suite_reports.specs.Check.{is_square, lists_best, lists_square};
+ghost use Rattle.suite_reports.specs.Check.{lists_best, lists_square};
 ghost use Rattle.suite_reports.specs.ReportText.{check_text};
 
 use obf_text::{ListedMove, greatest_score};
@@ -77,22 +77,12 @@ pub fn check_of(listed: &[(ListedMove, i8)], answer: &Answer) -> Check
     }
 }
 
-// Whether a listed move is the move to this square.
-fn is_square(square: Square, listed: ListedMove) -> bool
-    ensures { result ≡ is_square square listed }
-{
-    match listed {
-        ListedMove::At(other) => other == square,
-        _ => false,
-    }
-}
-
 // Whether the move to this square is listed with this score.
 fn lists_square(listed: &[(ListedMove, i8)], score: i8, square: Square) -> bool
     ensures { result ≡ lists_square listed.now score square }
 {
     listed.iter().any(|(listed_move, listed_score)| {
-        *listed_score == score && is_square(square, *listed_move)
+        *listed_score == score && listed_move.is_move_to(square)
     })
 }
 

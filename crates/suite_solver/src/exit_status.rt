@@ -1,6 +1,7 @@
 //! The exit status of `ffosolve`.
 
-ghost use Rattle.std.specs.Prelude.{◌≡◌, IfOk, IsErr};
+ghost use Rattle.std.specs.Prelude.{◌≡◌, IfErr, IfOk, IsErr};
+ghost use Rattle.std.specs.IoError.{error_kind};
 ghost use Rattle.std.specs.Process.{exit_status};
 ghost use Rattle.program_parts.specs.Inputs.{names_of};
 ghost use Rattle.program_parts.specs.Endings.{EndsUnread};
@@ -12,7 +13,7 @@ use book_files::SolveError;
 use program_parts::{ErrorStream, ProgramError, borrow_words, words_error};
 use std::alloc::Global;
 use std::io;
-use std::io::{Eprint, Read, Write};
+use std::io::{Eprint, ErrorKind, Read, Write};
 use std::marker::Sync;
 use std::process::{ExitCode, Termination};
 use std::rt::{Clock, Files};
@@ -44,6 +45,7 @@ fn error_status(error: &SolveError<'_>) -> u8
         SolveError::Program(ProgramError::BadWords) => 2,
         SolveError::Program(ProgramError::CannotRead(_, _) | ProgramError::CannotWrite(_, _))
         | SolveError::BadBook(_)
+        | SolveError::BookOnDevice(_)
         | SolveError::BadPlace(_, _)
         | SolveError::OverwritesFile(_)
         | SolveError::OverwritesBookIn(_) => 3,
@@ -74,6 +76,10 @@ pub fn program_of<T: Files + Clock + Threads + Wait + Sync, R: Read, W: Write, E
         (R.remaining input.old) (W.contents output.old) (W.contents output.new) result.status) }
     ensures unread { IsErr words
         → EndsUnread 1 (W.contents output.old) (W.contents output.new) result.status }
+    ensures memory { IfErr words (λ fault. error_kind fault ≡ ErrorKind.OutOfMemory
+        → result.status ≡ 1) }
+    ensures words { IfErr words (λ fault. (error_kind fault ≡ ErrorKind.OutOfMemory → ⊥)
+        → result.status ≡ 2) }
 {
     let words = match words {
         Ok(words) => words,

@@ -1,6 +1,6 @@
 //! The program `ffosolve`.
 
-ghost use Rattle.std.specs.Prelude.{◌≡◌, ◌⊎◌, ◌↔◌, map, None, Some, OnOk, IfOk, IfErr, IfSome, IsErr, IsErrOf};
+ghost use Rattle.std.specs.Prelude.{◌≡◌, ◌⊎◌, map, option_map, string_bytes, Some, OnOk, IfOk, IfErr, IfSome, IsErr, IsErrOf};
 ghost use Rattle.std.specs.List.{concat};
 ghost use Rattle.std.specs.Io.KnownBytes.{Appends};
 ghost use Rattle.program_parts.specs.Inputs.{names_of};
@@ -93,7 +93,8 @@ fn place_of_run<'a, T: Files>(
     asked: &'a Options,
     texts: &[Vec<u8>],
 ) -> Result<Option<BookPlace<'a>>, SolveError<'a>>
-    ensures named { IfOk result (λ place. place ≡ None ↔ asked.now.book_out ≡ None) }
+    ensures named { IfOk result (λ place. option_map (λ p. p.name.now) place
+        ≡ option_map string_bytes asked.now.book_out) }
     ensures free { IfOk result (λ place. IfSome place (λ p. IsFree p.found)) }
     ensures files { (fault : InputFault) → refusal_of (texts_of texts.now) ≡ Some fault
         → IsErrOf result (Program (BadInput fault)) }
