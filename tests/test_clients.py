@@ -11,7 +11,7 @@ import unittest
 import zipfile
 
 from .prefix import CXX, PIP, PREFIX, VERSION, C, setUpModule
-from .support import ROOT, built, lack, need, run, stored
+from .support import ROOT, built, lack, need, need_module, run, stored
 import ffosolve
 
 SMALL, LARGE = 9, 10  # how many positions of examples/masks.txt an example solves; only the last has 20 empty squares
@@ -141,7 +141,8 @@ class Examples(unittest.TestCase):
         listed = re.search(r"^> (\S{64} X; .*\n)", (ROOT / page).read_text(), re.MULTILINE)[1]
         PREFIX.write("list.obf", listed)
         PREFIX.write("list.scores", run(built("ffoscores"), input=listed.encode()).stdout)
-        for language, *names in (["c"], ["cpp"], ["python"], ["python", page], ["rust"]):
+        pages = "README.md", "docs/library.md", page
+        for language, *names in (["c"], ["cpp"], *(["python", name] for name in pages), ["rust"]):
             with self.subTest(language=language, names=names):
                 block, wanted = shown(language, *names)
                 self.assertNotEqual(wanted, "")
@@ -151,8 +152,9 @@ class Examples(unittest.TestCase):
 class PythonPackage(unittest.TestCase):
     def test_its_own_tests_pass(self):
         self.assertTrue((PREFIX.site / "ffosolve/py.typed").exists())
-        ran = PREFIX.make(sys.executable, "-m", "unittest", "discover", "-s", PREFIX.work / "python/tests")
-        self.assertRegex(ran.stderr, r"Ran [1-9]\d* tests")
+        need_module("pytest")
+        words = (sys.executable, "-m", "pytest", "-q", "-p", "no:cacheprovider", PREFIX.work / "python/tests")
+        self.assertRegex(PREFIX.make(*words).stdout, r"(?m)^[1-9]\d* passed")
 
     def test_pip_installs_its_program(self):
         program = PREFIX.site / "bin/ffosolve-games"

@@ -74,18 +74,21 @@ def children(dead=False):
     return [process for process in found if (stat(process)[0] == "Z") == dead]
 
 
-def processor_seconds():
-    """Returns the processor time of this process and of its children."""
-    return sum(int(it) for process in ("self", *children()) for it in stat(process)[11:13]) / os.sysconf("SC_CLK_TCK")
+def working():
+    """Returns the threads of this process and of its children that want a processor, but not the thread that asks."""
+    found = []
+    for process in (os.getpid(), *children()):
+        with contextlib.suppress(FileNotFoundError, ProcessLookupError):
+            found += [f"{process}/task/{task}" for task in os.listdir(f"/proc/{process}/task")]
+    return [task for task in found if stat(task)[0] == "R" and task.split("/")[-1] != str(threading.get_native_id())]
 
 
 def assert_no_processor_works():
-    """Asserts that, at the latest a second from now, neither this process nor its children take processor time."""
-    time.sleep(0.7)
-    before = processor_seconds()
-    time.sleep(0.3)
-    assert processor_seconds() - before < 0.1
-    assert not [process for process in children() if process not in kept()]
+    """Asserts that, at the latest a second from now, nothing of this process works and only kept processes are left."""
+    end = time.monotonic() + 1
+    while any(working() or sorted(children()) != sorted(kept()) or time.sleep(0.01) for _ in range(5)):
+        assert time.monotonic() < end, (working(), children(), kept())
+        time.sleep(0.01)
 
 
 def kept():
@@ -176,7 +179,7 @@ def test_an_iterator_that_is_left_stops(threads, leave, solver):
 def test_an_iterator_yields_what_is_finished_before_the_timeout(threads, solver):
     found, positions = [], [EASY, HARD, EASY, HARD, HOPELESS, EASY]
     with pytest.raises(TimeoutError):
-        for answer in solver.solve_iter(positions, threads=threads, timeout=5):
+        for answer in solver.solve_iter(positions, threads=threads, timeout=2):
             found.append(answer)
     assert found == solver.solve_all(positions[:4])
     assert_no_processor_works()
@@ -286,11 +289,18 @@ def test_calls_of_several_threads_do_not_stop_each_other(solver):
 
 
 def test_an_ended_process_is_reported_and_the_next_call_starts_another(solver):
-    for number, how in ((signal.SIGKILL, "was ended by signal 9"), (signal.SIGTERM, "was ended by signal 15")):
-        for call in (*ONE.values(), *MANY.values()):
-            threading.Timer(0.3, lambda: [os.kill(process, number) for process in children()]).start()
-            with pytest.raises(ChildProcessError, match=f"^the process that solved {how}$"):
-                call(solver, HOPELESS)
+    for call, number in (*((call, 9) for call in (*ONE.values(), *MANY.values())), (Solver.solve, 15)):
+        is_over = threading.Event()
+
+        def kill():
+            while not is_over.wait(0.1):
+                for process in children():
+                    os.kill(process, number)
+
+        threading.Thread(target=kill).start()
+        with pytest.raises(ChildProcessError, match=f"^the process that solved was ended by signal {number}$"):
+            call(solver, HOPELESS)
+        is_over.set()
         time.sleep(0.2)
         assert not children()
     solver.solve(HARD)

@@ -16,19 +16,30 @@ A Solver solves one position, or many. Scores are for the side to move.
     ['H1']
     >>> solver.move_scores(position)
     {'A1': 52, 'H1': 62}
+    >>> solver.best_line(position)
+    [('H1', 62), ('PS', -62), ('A1', 62)]
     >>> [answer.score for answer in solver.solve_all([position, position.play("A1")], threads=2)]
     [62, -52]
 
 By default, a Solver takes positions with up to 20 empty squares; `Solver(max_empties=24)` takes up to 24. A position
 with two more empty squares takes some 2 to 20 times as long.
 
-`read_lines("list.obf")` reads a file of lines such as `from_obf` reads, and `read_games("WTH_2001.wtb")` reads games;
-`solver.positions(game)` has a game's positions. `compare_scores` compares a list's scores with those of `ffoscores`.
+`read_lines("list.obf")` reads a file of lines such as `from_obf` reads, and `solver.scored_line(position)` writes one.
+`read_games("WTH_2001.wtb")` reads games; `solver.positions(game)` has a game's positions, and `game.turns()` each move
+with the position in which it is made, which is what a search for a player's mistakes needs. `compare_scores` compares a
+list's scores with those of `ffoscores`. With NumPy, `solver.solve_arrays(*masks_of(positions))` solves arrays.
 
-A notebook shows a position as a picture. `position.show(solver.move_scores(position))` adds the scores of its moves.
+`position.canonical()` is the same for all eight images of a position, as a book needs it, and
+`position.canonical_symmetry.square("F5")` is the square that a move becomes there.
 
-On the main thread, Ctrl-C and any signal whose handler raises an exception interrupt a call within a fraction of a
-second. The library finishes begun work in the background, unless the program ends. Several threads may call at once.
+A notebook shows a position as a picture. `position.show(solver.move_scores(position))` adds the scores of its moves;
+`position.show().save("board.svg")` writes the picture to a file.
+
+A call that is left stops at once: by Ctrl-C, or another signal whose handler raises an exception; by `timeout=SECONDS`
+(TimeoutError); if an iterator is closed; or if asyncio cancels what awaits `asyncio.to_thread(solver.solve, position)`.
+For that, calls that may last are made in processes of their own, which end with the program. Only calls for at most 14
+empty squares, or a few thousand at most 8, are made without; they end within 0.2 seconds. Several threads may call at
+once, and so may the processes of a pool, since a Solver can be pickled.
 
 The wheel that `make wheel` builds contains the shared library. Without that wheel, install the library, or name its
 path: `Solver("FOLDER/libffosolve.so")` or FFOSOLVE_LIBRARY. Reading, writing and showing positions needs no library.

@@ -35,10 +35,8 @@ class Solver:
     """Solves positions under a scoring. Keeps no results between calls. Several threads may use one Solver at once. It
     can be pickled.
 
-    A call that takes more than `timeout` seconds, if that is given, ends with TimeoutError. A call that is left so, by
-    Ctrl-C or another exception in a signal's handler, or under asyncio because what awaits `asyncio.to_thread(call)` is
-    cancelled, stops. For this, calls for more than a few easy positions or one with up to 14 empty squares are made in
-    processes of the package, which are kept for later calls. Only a call without them goes on for up to 0.2 seconds.
+    A call ends with TimeoutError if it takes more than `timeout` seconds; a brief one, as `help(ffosolve)` says, ends
+    as usual. If somebody else ends the process that makes a call, this raises ChildProcessError.
 
     `library` is the path of the shared library. By default, it is the path in the environment variable FFOSOLVE_LIBRARY
     or, if that is empty or not set, the first library that fits: in this package, in the system's library folders, in
@@ -92,8 +90,7 @@ class Solver:
 
     def solve(self, position: Position, *, timeout: Optional[float] = None) -> Answer:
         """The answer for a position. Raises SharedSquare, TooManyEmpties and NoMemory; ValueError for a mask below 0
-        or above 2**64 - 1; TypeError for an object that is not a position; TimeoutError; and ChildProcessError if
-        somebody ends the call's process."""
+        or above 2**64 - 1; and TypeError for an object that is not a position."""
         return self._answer(self._run(timeout), position)
 
     def confirm(self, position: Position, claim: Answer, *, timeout: Optional[float] = None) -> Answer:
