@@ -1,6 +1,8 @@
 """Perfect play, scored lines, games turn by turn, arrays of positions, tables, and Solvers in other processes."""
 import copy
+import inspect
 import pickle
+import textwrap
 from concurrent.futures import ProcessPoolExecutor
 
 import pytest
@@ -68,6 +70,14 @@ def test_the_turns_of_a_game_are_the_positions_in_which_its_moves_are_made():
         with pytest.raises(ffosolve.GameRefused):
             Game.of_text(wrong).turns()
     assert Game(1).turns() == []
+
+
+def test_the_example_of_turns_prints_the_moves_that_lose_discs(capsys):
+    """The scores of the positions after D7 and the other moves are those of plain minimax."""
+    game = Game.of_text("d3c5f6e3c4e6c6b7c7c2f3c3e2b4e7f2f1g2c1b3f5e1g3h3f4g1d2b1a1e8a8g6h2d1"
+                        "a2h1b2g4b5a3g5a6a5c8d8b6f7d6h7h4h6h5a7h8d7b8g7f8a4g8")
+    exec(textwrap.dedent(inspect.getdoc(Game.turns).split(":\n\n")[1]), {"game": game, "solver": Solver(max_empties=6)})
+    assert capsys.readouterr().out == "X D7 2 instead of 10\n"
 
 
 def test_a_game_of_moves_without_words_has_squares():
