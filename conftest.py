@@ -13,7 +13,7 @@ from pathlib import Path
 
 import pytest
 
-pytest.register_assert_rewrite("tests.support", "tests.games")
+pytest.register_assert_rewrite("tests.support", "tests.games", "tests.many")
 from tests.support import as_at_a_login  # noqa: E402 - pytest rewrites the assertions of what is imported later
 
 ROOT = Path(__file__).parent

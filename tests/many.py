@@ -1,17 +1,21 @@
-"""Helpers for the tests of ffosolve-many: they install it, run it, and check its output and the files it leaves."""
+"""Fixtures for the tests of ffosolve-many: they install it, run it, and check its output and the files it leaves."""
 import os
+import re
 import shutil
 import sys
-import unittest
+import tempfile
 from pathlib import Path
-from unittest import mock
 
-from tests.support import InFolder, built, copy_many, module_folder, positions, run, write
+import pytest
+
+from tests.support import built, copy_many, positions, run, write
 
 BOARD = b"-OXXXXX-XXXXXXXOXXXXXXXXXXXXXXXXXXXOXXXXXXXXXXXXXXXXXXXXXXXXXXXX"  # two empty squares
+WORDS = ("--lines=20", "work", "list.obf", "--book-out", "joined.book")  # a command for the folder of a `Case`
 # A script that replaces the program @real@ and runs it. It appends its arguments to the file $WORDS. If its input has
-# DIE or FAIL, it kills itself or fails. For a part of a list, it first sleeps $PAUSE seconds, or 45 once $LAST parts
-# are solved, and the Python function $SPOIL changes the output. $SPOIL_KNOWN changes that for the line solve.KNOWN.
+# DIE, FAIL or KILL, it kills itself, fails, or kills its parent. For a part of a list, it first sleeps $PAUSE seconds,
+# or 45 once $LAST parts are solved, and the Python function $SPOIL changes the output. $SPOIL_KNOWN changes that for
+# the line solve.KNOWN.
 ACTING = """\
 #!@python@ -IS
 import glob, os, signal, subprocess, sys, time
@@ -26,6 +30,8 @@ if b"DIE" in text:
     os.kill(os.getpid(), signal.SIGKILL)
 if b"FAIL" in text:
     sys.exit("ffosolve: out of memory")
+if b"KILL" in text:
+    os.kill(os.getppid(), signal.SIGKILL)
 if is_part:
     is_last = len(glob.glob("results/???????")) >= int(places.get("LAST", 10_000))
     time.sleep(45 if is_last else float(places.get("PAUSE", 0)))
@@ -36,82 +42,100 @@ sys.stdout.buffer.write(eval(spoil)(subprocess.run(command, stdout=subprocess.PI
 """
 
 
-def install(name, *changes, script=None):
-    """Installs ffosolve-many in the new folder BASE/`name`; returns the path of bin/ffosolve-many there. Beside it are
-    ffosolve and ffoscores or, under both names, scripts with the text `script`, in which @real@ is replaced by the
-    path of the real program, @python@ by Python's. Each (module, old, new) of `changes` replaces `old` in a module."""
-    many = copy_many(BASE / name)
-    for module, old, new in changes:
-        path = many.parent.parent / f"python/src/ffosolve/_many/{module}.py"
-        before, after = path.read_text().split(old)  # fails unless the text occurs once
-        path.write_text(before + new + after)
-    for program in ("ffosolve", "ffoscores"):
-        place = shutil.copy(built(program), many.with_name(f"real-{program}" if script else program))
-        if script:
-            write(many.with_name(program), script.replace("@real@", str(place)).replace("@python@", sys.executable))
-    return many
+class Installed:
+    """What the tests of a module share. BASE is a folder; MANY and ACTS are the paths of two copies of ffosolve-many
+    there, and ACTS runs the script ACTING instead of ffosolve and ffoscores. SMALL is 60 lines of 68 bytes."""
+
+    def __init__(self, base):
+        self.BASE, self.SMALL = base, positions(60, 1, 5)
+        self.MANY, self.ACTS = self.install("plain"), self.install("acting prefix", script=ACTING)
+
+    def install(self, name, *changes, script=None):
+        """Installs ffosolve-many in the new folder BASE/`name`; returns the path of bin/ffosolve-many there. Beside it
+        are ffosolve and ffoscores or, under both names, scripts with the text `script`, in which @real@ is replaced by
+        the path of the real program, @python@ by Python's. Each (module, old, new) of `changes` replaces `old`."""
+        many = copy_many(self.BASE / name)
+        for module, old, new in changes:
+            path = many.parent.parent / f"python/src/ffosolve/_many/{module}.py"
+            before, after = path.read_text().split(old)  # fails unless the text occurs once
+            path.write_text(before + new + after)
+        for program in ("ffosolve", "ffoscores"):
+            place = shutil.copy(built(program), many.with_name(f"real-{program}" if script else program))
+            if script:
+                write(many.with_name(program), script.replace("@real@", str(place)).replace("@python@", sys.executable))
+        return many
 
 
-def setUpModule(python=sys.executable):
-    """Sets BASE to a new folder, MANY and ACTS to the paths of two copies of ffosolve-many there, and SMALL to 60 lines
-    of 68 bytes. ACTS runs the script ACTING instead of ffosolve and ffoscores. `python3` on PATH now runs `python`."""
-    global BASE, MANY, ACTS, SMALL
-    BASE = module_folder()
-    (BASE / "tmp").mkdir()
-    write(BASE / "python/python3", f'#!/bin/sh\nexec "{python}" "$@"\n')  # the one on the path may be slow
-    places = {"TMPDIR": f"{BASE}/tmp", "PATH": f"{BASE}/python:{os.environ['PATH']}"}
-    unittest.enterModuleContext(mock.patch.dict(os.environ, places))
-    MANY, ACTS = install("plain"), install("acting prefix", script=ACTING)
-    SMALL = positions(60, 1, 5)
+@pytest.fixture(scope="module")
+def many_python():
+    """The Python that runs ffosolve-many in the tests of a module."""
+    return sys.executable
 
 
-class Case(InFolder):
+@pytest.fixture(scope="module")
+def installed(many_python):
+    """An `Installed`. `python3` on the PATH runs `many_python`."""
+    with pytest.MonkeyPatch.context() as patch, tempfile.TemporaryDirectory(prefix="ffosolve-test-") as name:
+        base = Path(name)
+        base.chmod(0o755)
+        (base / "tmp").mkdir()
+        write(base / "python/python3", f'#!/bin/sh\nexec "{many_python}" "$@"\n')  # the one on the path may be slow
+        patch.setenv("TMPDIR", f"{base}/tmp")
+        patch.setenv("PATH", f"{base}/python:{os.environ['PATH']}")
+        yield Installed(base)
+
+
+class Case:
     """A test in a folder with a list of 60 positions, `list.obf`, and the book that one run of ffosolve wrote for it,
-    `one.book`. `self.one` is what that run printed, as bytes."""
+    `one.book`. `one` is what that run printed, as bytes. It has the attributes of an `Installed`, too."""
 
-    WORDS = ("--lines=20", "work", "list.obf", "--book-out", "joined.book")
-
-    def setUp(self):
-        super().setUp()
-        self.write_list(SMALL)
+    def __init__(self, installed, folder, start):
+        self.__dict__.update(vars(installed), folder=folder, start=start, install=installed.install)
+        self.write_list(self.SMALL)
 
     def write_list(self, text, *options):
-        """Writes `text` to list.obf; ffosolve with `options` makes its report, `self.one`, and its book, one.book."""
+        """Writes `text` to list.obf; ffosolve with `options` makes its report, `one`, and its book, one.book."""
         write("list.obf", text)
-        ran = run(MANY.with_name("ffosolve"), "--book-out", "one.book", *options, "list.obf")
-        self.assertEqual((ran.returncode, ran.stderr), (0, b""))
+        ran = run(self.MANY.with_name("ffosolve"), "--book-out", "one.book", *options, "list.obf")
+        assert (ran.returncode, ran.stderr) == (0, b"")
         self.one = ran.stdout
 
     def many(self, *words, status=0, output=None, message="", by=None, places={}, **how):
         """Runs MANY or the command `by` with the arguments `words`, and with `places` added to the environment. Asserts
-        that it ends with `status`, prints `output` (by default, `self.one` if `status` is 0 and otherwise nothing), and
-        has `message` in its standard error, which is returned. If `status` is 0 and joined.book is one of `words`, also
+        that it ends with `status`, prints `output` (by default, `one` if `status` is 0 and otherwise nothing), and has
+        `message` in its standard error, which is returned. If `status` is 0 and joined.book is one of `words`, also
         asserts that joined.book equals one.book, and removes joined.book. `how` are other keyword arguments of run."""
-        ran = run(by or MANY, *words, env={**os.environ, **places}, **how)
+        ran = run(by or self.MANY, *words, env={**os.environ, **places}, **how)
         errors = ran.stderr.decode()
         if output is None:
             output = b"" if status else self.one
-        self.assertEqual((ran.returncode, ran.stdout), (status, output), errors)
-        self.assertIn(message, errors)
+        assert (ran.returncode, ran.stdout) == (status, output), errors
+        assert message in errors
         if status == 0 and "joined.book" in words:
             self.same_book()
             Path("joined.book").unlink()
         return errors
 
     def same_book(self, name="joined.book"):
-        self.assertEqual(Path(name).read_bytes(), Path("one.book").read_bytes())
-
-    def files(self):
-        """Returns {path: (content, mode)} of everything below the test's folder, with content False for a non-file."""
-        return {path: (path.is_file() and path.read_bytes(), path.lstat().st_mode) for path in Path(".").rglob("*")}
+        assert Path(name).read_bytes() == Path("one.book").read_bytes()
 
     def refused(self, status, message, *words, **how):
         """Calls `many`. Asserts that no file changes, and that the error is one line, with advice if `status` is 2."""
-        before = self.files()
+        before = files()
         (line,) = self.many(*words, status=status, message=message, **how).splitlines()
         advice = "(Try 'ffosolve-many --help'|use |name |merged)" if status == 2 else ""
-        self.assertRegex(line, f"^ffosolve-many: .*{advice}")
-        self.assertEqual(self.files(), before)
+        assert re.search(f"^ffosolve-many: .*{advice}", line)
+        assert files() == before
 
     def parts_solved(self):
         return len(list(Path("work/results").glob("[0-9]" * 7)))
+
+
+def files():
+    """Returns {path: (content, mode)} of everything in the working folder, with content False for a non-file."""
+    return {path: (path.is_file() and path.read_bytes(), path.lstat().st_mode) for path in Path(".").rglob("*")}
+
+
+@pytest.fixture
+def case(installed, folder, start):
+    return Case(installed, folder, start)

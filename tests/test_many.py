@@ -2,412 +2,464 @@
 import os
 import re
 import sys
-import unittest
+import types
 from pathlib import Path
 from unittest import mock
 
-from tests import many
-from tests.many import ACTING, BOARD, Case, install, setUpModule
-from tests.support import NOBODY, ROOT, SECONDS, limited, positions, run, stored, worked_rows, write
+import pytest
 
-from ffosolve._many import books, engine, files, folder
+from ffosolve import _command_line
+from ffosolve._many import books, engine, folder
+from tests.many import ACTING, BOARD, WORDS, files
+from tests.support import (NOBODY, ROOT, SECONDS, cannot_write, ends, limited, positions, run, stored, worked_rows,
+                           write)
 
-
-class Results(Case):
-    def test_report_and_book_are_those_of_one_run(self):
-        words = ("--lines", 7, "list.obf", "--book-out", "joined.book")
-        line = "ffosolve-many: list.obf: 60 lines in 9 parts, {} of them solved before; folder list.obf.parts\n"
-        self.assertEqual(self.many(*words), line.format(0))
-        self.assertEqual(self.many(*words), line.format(9))
-        self.assertEqual(self.many(*words, "--quiet"), "")
-        self.write_list(many.SMALL[:68])
-        self.many("work", "list.obf", message=": 1 line in 1 part, 0 of them")
-
-    def test_a_checkout_has_the_program_that_its_wrapper_runs(self):
-        self.many("work", "list.obf", by=ROOT / "bin/ffosolve-many")
-        self.assertIn(stored("out/ffosolve"), [path.read_bytes() for path in Path("work").glob("program-*")])
-
-    def test_the_program_is_found_through_a_link_and_names_may_have_blanks(self):
-        os.symlink(many.ACTS, "link")
-        os.rename("list.obf", "a  list;$x'.obf")
-        words = ("--lines=30", "a folder ;'$y", "a  list;$x'.obf", "--book-out", "a book;'")
-        self.many(*words, by="./link")
-        self.same_book("a book;'")
-
-    def test_options_stand_anywhere_and_reach_the_program_of_each_part(self):
-        limit, usual = "--max-empties=20 ", "--scoring=winner --workers=0"
-        others = "--max-empties=7 --scoring=discs --workers=1 --table=9"
-        for program, words, given in (("ffosolve", "", limit + usual), ("ffosolve", others, others),
-                                      ("ffoscores", "--complete", f"{limit}{usual} --complete")):
-            output = run(many.MANY.with_name(program), *words.split(), "list.obf").stdout
-            mode = ["--scores"] if program == "ffoscores" else []
-            self.many(*mode, f"work {words}", "--lines=20", "list.obf", *words.split(), "--jobs", 2, output=output,
-                      by=many.ACTS, places={"WORDS": f"{self.folder}/words"})
-            # The program is run for a line that it refuses, with its limit; then for a known line and three parts.
-            runs = [f"{given.removeprefix(limit)} /dev/stdin", *[given] * 4]
-            self.assertEqual(Path("words").read_text().splitlines(), runs)
-            Path("words").unlink()
-        self.write_list(many.SMALL, "--scoring=sign")
-        os.rename("list.obf", "-x")
-        self.many("--scoring=sign", "--book-out", "joined.book", "--", "work", "-x")
-
-    def test_the_limit_of_empty_squares_is_by_default_that_of_the_program(self):
-        three = 'case "$*" in *max-emp*) ;; *) set -- --max-empties=3 "$@" ;; esac'
-        by = install("other", script=f'#!/bin/sh\n{three}\nexec "@real@" "$@"\n')
-        self.write_list(many.SMALL, "--max-empties=3")
-        self.many(*self.WORDS, by=by)
-        self.many(*self.WORDS, "--max-empties=3", message=", 3 of them solved before")
-        self.refused(2, "work was begun with --max-empties 3: use another folder", *self.WORDS)
-
-    def test_a_program_may_be_late_to_read_a_large_part(self):
-        self.write_list(many.SMALL * 17)
-        self.many("list.obf", by=install("late", script='#!/bin/sh\nsleep 1\nexec "@real@" "$@"\n'))
-
-    def test_lines_of_each_kind_and_none_at_all_are_solved(self):
-        kinds, blank = stored("examples/kinds.obf"), b"\r\n \t\n\t % X\n% no end of the last line\n\r\r\n \r\n"
-        whole, best = kinds + blank + kinds.rstrip(b"\n"), b"\n".join(worked_rows("ffosolve/best")[0])
-        for text, lines, *words in (whole, 4), (whole, 1000), (b"", 4), (best, 4, "--complete"):
-            self.write_list(text, *words)
-            self.many("--lines", lines, *words, f"work {len(text)} {lines}", "list.obf", "--book-out", "joined.book")
-
-    def test_scores_and_status_are_those_of_one_run(self):
-        remarked = many.SMALL + b"% remark\r\n\n" + many.SMALL.rstrip(b"\n")
-        kinds = stored("examples/kinds.obf") + many.SMALL
-        for status, count, text, *words in (0, 3, remarked), (1, 2, kinds, "--complete"):
-            write("list.obf", text)
-            one = run(many.MANY.with_name("ffoscores"), *words, "list.obf")
-            self.assertEqual(one.returncode, status)
-            for before in (0, count):
-                self.many("--scores", *words, "--lines=50", f"work{status}", "list.obf", status=status,
-                          output=one.stdout, message=f", {before} of them solved before")
-
-    def test_each_cut_part_is_solved_by_a_command_that_needs_only_python(self):
-        line = "3 parts, {} of them solved; python3 work/solve.py NAME solves one, from 0000000 to 0000002\n"
-        self.ends((0, line.format(0), ""), many.MANY, "--cut", *self.WORDS)
-        command = (sys.executable, "-IS", Path("work", "solve.py").absolute())
-        for name in ("0000000", "0000002"):
-            self.ends((0, "", ""), *command, name, cwd="/", env={"PATH": "/usr/bin:/bin"})
-        self.ends((0, line.format(2), ""), many.MANY, "--cut", *self.WORDS)
-        self.many(*self.WORDS, message="in 3 parts, 2 of them solved before")
-        for words in (("0000003",), ("3",), (), ("0000000", "0000001")):
-            self.ends((1, "", f"part {' '.join(words)}: the parts are 0000000 to 0000002\n"), *command, *words)
-
-    def test_a_book_goes_through_a_link_or_into_a_pipe_and_a_file_keeps_its_permissions(self):
-        write("there", "% ffobook 2 winner\n", 0o764)
-        os.symlink("there", "link")
-        self.many(*self.WORDS[:-1], "link")
-        self.assertEqual((os.path.islink("link"), os.stat("there").st_mode & 0o777), (True, 0o764))
-        self.same_book("there")
-        os.mkfifo("pipe")
-        reader = self.start("cat", "pipe")
-        self.many(*self.WORDS[:-1], "pipe")
-        self.assertTrue(Path("pipe").is_fifo())
-        self.assertEqual(reader.communicate(timeout=SECONDS)[0], Path("one.book").read_bytes())
-
-    def test_a_book_that_cannot_be_written_keeps_its_old_content(self):
-        self.many(*self.WORDS)
-        write("joined.book", "% ffobook 2 winner\n")
-        self.many(*self.WORDS, status=3, output=self.one, preexec_fn=limited(RLIMIT_FSIZE=1000),
-                  message="ffosolve-many: cannot write joined.book: File too large\n")
-        self.assertEqual(Path("joined.book").read_text(), "% ffobook 2 winner\n")
-
-    def test_a_book_that_may_not_be_written_is_not_replaced(self):
-        self.folder.chmod(0o777)
-        write("joined.book", "% ffobook 2 winner\n", 0o444)
-        self.refused(3, "cannot write joined.book: permission denied\n", *self.WORDS, **NOBODY)
-        Path("joined.book").unlink()
-        change = "    run.sweep()\n    open('joined.book', 'w').close(), os.chmod('joined.book', 0o444)\n"
-        by = install("forbidding", ("command", "    run.sweep()\n", change))  # makes a book once the parts are solved
-        self.many(*self.WORDS, by=by, status=3, output=self.one,
-                  message="cannot write joined.book: Permission denied\n", **NOBODY)
-        self.assertEqual(Path("joined.book").read_bytes(), b"")
-
-    def test_progress_rises_in_a_log_and_on_a_terminal(self):
-        by = install("often", ("engine", "(1 if is_terminal else 60)", "(0.1 if is_terminal else 0.3)"),
-                     ("engine", "due = now + (1 if flying else 0.2)", "due = now + 0.1"), script=ACTING)
-        for place, shell in (("log", ("sh", "-c")), ("terminal", ("script", "/dev/null", "-qec"))):
-            command = f"'{by}' --jobs=2 --lines=6 {place} list.obf >report"
-            ran = run(*shell, command, env={**os.environ, "PAUSE": "0.3", "SHELL": "/bin/sh"})
-            self.assertEqual(Path("report").read_bytes(), self.one)
-            lines = (ran.stderr or ran.stdout).decode()
-            counts = [*map(int, re.findall(r"\d+%, .*?(?:1|no) machine at work, parts (\d+) of 10", lines))]
-            is_one_line = "\033" in lines and lines.count("\n") == 1  # the first, then one that changes
-            self.assertEqual((counts, is_one_line), (sorted(counts), place == "terminal"))
-            self.assertGreater(len(set(counts)), 2, lines)
-        self.assertEqual(self.many("--quiet", "--lines=6", "list.obf", by=by, places={"PAUSE": "0.3"}), "")
-
-    def test_output_that_fails_is_reported_and_closed_or_full_errors_do_no_harm(self):
-        for words in (("list.obf",), ("--help",), ("--merge-books", "one.book")):
-            self.cannot_write(many.MANY, "--quiet", *words)
-        self.ends((3, "", "ffosolve-many: cannot write standard output: File too large\n"), "sh", "-c",
-                  'ulimit -f 1; PYTHONUNBUFFERED=1 exec "$0" --quiet list.obf >short', many.MANY)
-        self.many("list.obf", message=", 1 of them solved before")
-        for place, streams in enumerate(("<&- 2>&-", "2>/dev/full", "2>&-")):
-            self.many("-c", f'exec "{many.MANY}" {place} list.obf {streams}', by="sh")
-
-    def test_jobs_are_limited_by_the_files_that_may_be_open(self):
-        message = "28 of 300 jobs work at a time, since no more than 256 files may be open (ulimit -n)"
-        self.many("--jobs=300", "--lines=1", *self.WORDS[1:], message=message, preexec_fn=limited(RLIMIT_NOFILE=256))
+pytest_plugins = ["tests.many"]
 
 
-class CommandLine(Case):
-    def test_wrong_command_lines_are_refused(self):
-        for name in ("two.obf", "kept", b"not\xff"):
-            write(os.fsdecode(name), many.SMALL)
-        os.symlink("kept", "link")
-        os.symlink("/proc/self/fd/1", "out")
-        for status, message, *words in (
-                (2, "no list is named"),
-                (2, "'two.obf' is one word too many", "work", "list.obf", "two.obf"),
-                (2, "'list.obf' is not a folder: name one FOLDER and one LIST", "list.obf", "two.obf"),
-                (2, r"'$'not\xff'' is not a folder", b"not\xff", "two.obf"),
-                (3, "cannot write /proc/work: No such file or directory", "/proc/work", "list.obf"),
-                (2, "'-x' is not an option; a file of that name is ./-x", "-x"),
-                (2, "'-' has no folder of its own: name a FOLDER before it", "-"),
-                (3, "cannot read .: Is a directory", "."),
-                (2, "'--line' is not an option", "--line", "5", "list.obf"),
-                (2, "'-rf *' is not an option", "-rf *", "list.obf"),
-                (2, "'' is not the name of a file", "work", ""),
-                (2, "--jobs: takes a number from 1 to 999, not '0'", "--jobs", "0", "list.obf"),
-                (2, "--jobs: takes a number from 1 to 999, not '1_0'", "--jobs=1_0", "list.obf"),
-                (2, "--lines: takes a number from 1 to 10000, not '10001'", "list.obf", "--lines", "10001"),
-                (2, "--lines: expected one argument", "list.obf", "--lines"),
-                (2, "--lines: given twice", "list.obf", "--lines=5", "--lines=6"),
-                (2, "--book-out: '' is empty or not UTF-8", "list.obf", "--book-out", ""),
-                (2, "--book-in is not an option of --scores", "--scores", "list.obf", "--book-in=one.book"),
-                (2, "--book-out is not an option of --scores", "--scores", "list.obf", "--book-out=b"),
-                (2, "--jobs is not an option of --scheduler", "list.obf", "--scheduler=tcp://h1:8786", "--jobs=3"),
-                (2, "--cut is not an option of --scheduler", "list.obf", "--scheduler=tcp://h1:8786", "--cut"),
-                (2, "--hosts is gone: start a cluster with `dask ssh --hostfile FILE`", "list.obf", "--hosts", "h"),
-                (2, "--hosts is gone: ", "list.obf", "--hosts=h"),
-                (2, "--sweep is gone: a cluster removes its own files", "--sweep", "work"),
-                (2, "--book-out out is standard output", "list.obf", "--book-out", "out"),
-                (2, "--book-out ./list.obf is the list", "list.obf", "--book-out", "./list.obf"),
-                (3, "cannot write none/book", "list.obf", "--book-out", "none/book"),
-                (3, "cannot write /proc/book", "list.obf", "--book-out", "/proc/book"),
-                (3, "cannot write .: it is a folder", "list.obf", "--book-out", "."),
-                (3, "link is not a book and would be overwritten", "list.obf", "--book-out", "link"),
-                (2, r"--book-out: $'not\xff' is empty or not UTF-8", "list.obf", "--book-out", b"not\xff"),
-                (3, "kept is not a book and would be overwritten", "--merge-books", "one.book", "--book-out", "kept"),
-                (3, "one.book is read and would be overwritten: write --book-out NEW, then ffosolve-many --merge-books "
-                    "one.book NEW", "list.obf", "--book-in=one.book", "--book-out=one.book"),
-                (3, "cannot read none.obf: No such file or directory", "none.obf"),
-                (3, r"cannot read $'a\xff\n\'': No such file or directory", b"a\xff\n'"),
-                (3, "cannot read .: Is a directory", "work", "."),
-                (3, "cannot read none.book: No such file or directory", "list.obf", "--book-in", "none.book"),
-                (2, "--merge-books needs the name of a book", "--merge-books"),
-                (2, "--lines is not an option of --merge-books", "--merge-books", "--lines=5", "one.book"),
-                (3, "cannot read none.book: No such file or directory", "--merge-books", "one.book", "none.book")):
-            with self.subTest(words=words):
-                self.refused(status, message, *words)
-
-    def test_files_that_may_not_be_read_or_written_are_named(self):
-        write("secret", many.SMALL, 0o600)
-        self.refused(3, "cannot read secret: Permission denied\n", "work", "secret", **NOBODY)
-        self.refused(3, "cannot write work: Permission denied\n", "work", "list.obf", **NOBODY)
-        os.mkdir("open")
-        os.chmod("open", 0o777)
-        self.refused(3, "cannot write book: permission denied\n", "open/work", "list.obf", "--book-out=book", **NOBODY)
-
-    def test_what_the_program_refuses_is_refused_in_its_words(self):
-        write("bad.book", b"?\n")
-        for status, message, *words in ((2, "'61'", "--max-empties", 61), (2, "'a;b'", "--scoring", "a;b"),
-                                        (2, "'x'", "--workers=x"), (2, "'99999999'", "--table=99999999"),
-                                        (3, "book line 1: bad square", "--book-in=bad.book")):
-            self.many("work", "list.obf", *words, status=status, message=message)
-            self.assertFalse(Path("work").exists())
-
-    def test_help_and_version_are_printed_whatever_else_is_given(self):
-        for words in (("--help",), ("-h",), ("list.obf", "--help"), ("work", "-h", "list.obf")):
-            ran = run(many.MANY, *words, text=True, env={**os.environ, "COLUMNS": "80"})
-            self.assertEqual((ran.returncode, ran.stderr, ran.stdout.count("\n  ffosolve-many ")), (0, "", 2))
-            self.assertTrue(ran.stdout.startswith("usage: ffosolve-many [OPTIONS] [FOLDER] LIST"), ran.stdout)
-            self.assertLessEqual(max(map(len, ran.stdout.splitlines())), 80)
-        self.assertFalse(Path("list.obf.parts").exists())
-        by = install("versioned")
-        write(by.parent.parent / "VERSION", "1.2.3\n")
-        for word in ("-V", "--version"):
-            self.assertEqual(self.many("list.obf", word, by=by, output=b"ffosolve-many 1.2.3\n"), "")
-
-    def test_missing_or_wrong_programs_and_tools_are_named(self):
-        by = install("lacking", script="#!/bin/sh\n:\n")
-        self.refused(4, "is not the program ffosolve", "list.obf", by=by)
-        by.with_name("real-ffosolve").replace(by.with_name("ffoscores"))
-        self.refused(4, "is not the program ffoscores", "--scores", "list.obf", by=by)
-        for name, words in (("ffosolve", ()), ("ffoscores", ("--scores",))):
-            by.with_name(name).unlink()
-            self.refused(4, f"{name} is missing: it has to be next to ffosolve-many", *words, "list.obf", by=by)
-        places = {"PATH": f"{many.BASE}/python"}
-        self.refused(4, "setpriv is not on the path: apt-get install util-linux", "work", "list.obf", places=places)
-
-    def test_output_onto_the_list_or_the_book_is_refused(self):
-        for stream, message in ((">>list.obf", "standard output is the list list.obf"),
-                                (">>joined.book", "--book-out joined.book is standard output, where the report goes"),
-                                ("2>>joined.book", "--book-out joined.book is standard error")):
-            ran = run("sh", "-c", f'"$0" "$@" {stream}', many.MANY, *self.WORDS)
-            self.assertEqual((ran.returncode, Path("list.obf").read_bytes()), (2, many.SMALL))
-            self.assertIn(message, ran.stderr.decode() or Path("joined.book").read_text())
+def test_report_and_book_are_those_of_one_run(case):
+    words = ("--lines", 7, "list.obf", "--book-out", "joined.book")
+    line = "ffosolve-many: list.obf: 60 lines in 9 parts, {} of them solved before; folder list.obf.parts\n"
+    assert case.many(*words) == line.format(0)
+    assert case.many(*words) == line.format(9)
+    assert case.many(*words, "--quiet") == ""
+    case.write_list(case.SMALL[:68])
+    case.many("work", "list.obf", message=": 1 line in 1 part, 0 of them")
 
 
-class MergeBooks(Case):
-    def test_merged_books_are_the_book_of_all(self):
-        whole = Path("one.book").read_bytes()
-        header, *entries = whole.splitlines(keepends=True)
-        first, other = (header + b"".join(some) for some in (entries[:40], entries[20:]))
-        write("a.book", first)
-        write("b.book", other)
-        self.assertEqual(self.many("--merge-books", "a.book", "b.book", output=whole), "")
-        for name in ("/dev/stdin", "-"):
-            self.many("--merge-books", name, "a.book", output=whole, input=other)
-        self.many("b.book", "a.book", "a.book", "--merge-books", "--book-out", "a.book", output=b"")
-        self.same_book("a.book")
-        self.assertEqual(run(many.MANY.with_name("ffosolve"), "--book-in=a.book", "list.obf").stdout, self.one)
-
-    def test_more_books_than_may_be_open_are_merged_and_the_program_runs_once(self):
-        header, *entries = Path("one.book").read_bytes().splitlines(keepends=True)
-        names, few = [f"{number}.book" for number in range(80)], {"preexec_fn": limited(RLIMIT_NOFILE=40)}
-        for number, name in enumerate(names):
-            write(name, header + entries[number % len(entries)])
-        whole = b"".join([header, *entries])
-        self.many("--merge-books", *names, output=whole, by=many.ACTS, places={"WORDS": "words"}, **few)
-        self.assertEqual(Path("words").read_text().count("--book-in="), 1)
-        other = header + b"% X\n" + entries[30][:64] + entries[30][64:].translate(bytes.maketrans(b"+-", b"-+"))
-        self.refused(3, "- line 3 and 30.book line 2 disagree: ", "--merge-books", *names, "-", input=other, **few)
-
-    def test_the_books_of_many_parts_are_merged_in_batches(self):
-        by = install("batches", ("books", "BATCH = 256", "BATCH = 7"))
-        self.many("--lines=1", *self.WORDS[1:], by=by)
-
-    def test_a_book_in_another_spelling_is_merged(self):
-        write("mine.book", b"% my own\n\n " + BOARD[::-1].lower() + b"\tb; h8:+52; a8:62 % why\r\n")
-        first = ROOT / "examples/first.book"
-        self.many("--merge-books", "mine.book", first, output=first.read_bytes())
-
-    def test_the_merged_book_is_checked_before_it_is_written(self):
-        by = install("misprinting", ("books", "whole.seek(0)", "whole.write(b'no entry\\n'); whole.seek(0)"))
-        self.many("--merge-books", "one.book", by=by, status=3, message="the merged book: book line 62: bad square")
-
-    def test_books_that_cannot_be_merged_are_named(self):
-        write("discs.book", b"% ffobook 2 discs\r\n")
-        for names in (("one.book", "discs.book"), ("one.book", "discs.book", "one.book")):
-            self.refused(2, "one.book has the scoring winner and discs.book discs", "--merge-books", *names)
-        self.many("--merge-books", "discs.book", "discs.book", output=b"% ffobook 2 discs\n")
-        first, lying = ROOT / "examples/first.book", ROOT / "examples/lying.book"
-        self.refused(3, f"{first} line 2 and {lying} line 2 disagree: -XOOOOO-", "--merge-books", first, lying)
-        header, *entries = Path("one.book").read_bytes().splitlines(keepends=True)
-        for text, message in ((entries[1] + entries[0], "3: not in order"), (entries[0] * 2, "3: not in order"),
-                              (b"?\n", "2: bad square at column 1"), (entries[0][:66] + b"\n", "2: no moves"),
-                              (entries[0].replace(b" X;", b" O;"), "2: not canonical"),
-                              (b"% X\n-\n", "3: board has 1 of 64")):
-            write("bad.book", header + text)
-            self.refused(3, f"bad.book: book line {message}", "--merge-books", "one.book", "bad.book")
-        write("bad.book", b"% ffobook 3 winner\n")
-        self.refused(3, "bad.book: book line 1: unknown header", "--merge-books", "one.book", "bad.book")
-
-    def test_an_entry_of_a_book_has_the_greatest_score_of_its_line_and_the_moves_with_that_score(self):
-        head = BOARD + b" X;"
-        for fields, claim in ((b" A1:+02;", b" A1:+02;"), (b"b2:2 ; A1:+02;C1:-64;", b" A1:+02; B2:+02;"),
-                              (b"H1:1;A2:1", b" H1:+01; A2:+01;"), (b" A1:-0; junk; A9:+3; A1:+65", b" A1:+00;"),
-                              (b"PS:-4;", b" PS:-04;"), (b"--:4;PS:4", b" PS:+04;"), (b"--:4;A1:4", b" A1:+04;"),
-                              (b" A1:-02; % B1:+64;", b" A1:-02;"), (b"A1:2; B1:4\r\r", b" A1:+02;"),
-                              (b" A1:+02; B1:-04;", b" A1:+02;"), (b" A2:+02; B1:+02;", b" B1:+02; A2:+02;"),
-                              (b" PS:+04; A1:+04;", b" A1:+04;"), (b" A1:+02; A1:+02;", b" A1:+02;")):
-            lines = [b"\n", b" \t\r\n", b"% X\n", head + fields + b"\n"]
-            ((_, place, line),) = books.entries_of(lines, "it")
-            self.assertEqual((line, place), (head + claim + b"\n", ("it", 4)), fields)
+def test_a_checkout_has_the_program_that_its_wrapper_runs(case):
+    case.many("work", "list.obf", by=ROOT / "bin/ffosolve-many")
+    assert stored("out/ffosolve") in [path.read_bytes() for path in Path("work").glob("program-*")]
 
 
-class Progress(unittest.TestCase):
-    # Seconds that bench/peer.rs took for each part of 264 positions with 8 to 18 empty squares, six in a part.
-    TOOK = (0.010, 0.278, 0.010, 0.223, 0.028, 0.331, 0.060, 0.105, 0.138, 1.174, 0.240, 0.010, 0.173, 0.014, 0.264,
-            0.031, 0.364, 0.055, 0.342, 0.058, 0.181, 0.220, 0.007, 0.177, 0.009, 0.164, 0.016, 0.148, 0.026, 0.172,
-            0.156, 0.481, 0.305, 0.008, 0.222, 0.007, 0.472, 0.008, 0.220, 0.029, 0.158, 0.201, 0.105, 0.263)
-    FULL = b"X" * 64 + b" X\n"  # a line of weight 1
+def test_the_program_is_found_through_a_link_and_names_may_have_blanks(case):
+    os.symlink(case.ACTS, "link")
+    os.rename("list.obf", "a  list;$x'.obf")
+    words = ("--lines=30", "a folder ;'$y", "a  list;$x'.obf", "--book-out", "a book;'")
+    case.many(*words, by="./link")
+    case.same_book("a book;'")
 
-    def setUp(self):
-        self.now = 0.0  # the time of the mocked clock, in seconds
-        self.enterContext(mock.patch("time.monotonic", lambda: self.now))
 
-    def progress(self, texts, lines=1):
-        """Returns an engine.Progress (what is left to do) for parts of a list, `texts`, each taken as `lines` lines."""
-        a_run = folder.Run.__new__(folder.Run)
-        a_run.lines, a_run.all_lines, a_run.parts, a_run.text = lines, len(texts) * lines, len(texts), texts.__getitem__
-        return engine.Progress(a_run, range(len(texts)), 20)
+def test_options_stand_anywhere_and_reach_the_program_of_each_part(case):
+    limit, usual = "--max-empties=20 ", "--scoring=winner --workers=0"
+    others = "--max-empties=7 --scoring=discs --workers=1 --table=9"
+    for program, words, given in (("ffosolve", "", limit + usual), ("ffosolve", others, others),
+                                  ("ffoscores", "--complete", f"{limit}{usual} --complete")):
+        output = run(case.MANY.with_name(program), *words.split(), "list.obf").stdout
+        mode = ["--scores"] if program == "ffoscores" else []
+        case.many(*mode, f"work {words}", "--lines=20", "list.obf", *words.split(), "--jobs", 2, output=output,
+                  by=case.ACTS, places={"WORDS": f"{case.folder}/words"})
+        # The program is run for a line that it refuses, with its limit; then for a known line and three parts.
+        runs = [f"{given.removeprefix(limit)} /dev/stdin", *[given] * 4]
+        assert Path("words").read_text().splitlines() == runs
+        Path("words").unlink()
+    case.write_list(case.SMALL, "--scoring=sign")
+    os.rename("list.obf", "-x")
+    case.many("--scoring=sign", "--book-out", "joined.book", "--", "work", "-x")
 
-    def test_the_time_left_is_known_within_a_factor_of_two_from_a_tenth_of_the_work_on(self):
-        lines, ends = positions(264, 8, 18, 3).splitlines(keepends=True), []
-        one = self.progress([b"".join(lines[at:at + 6]) for at in range(0, 264, 6)], 6)
-        waiting, running, whole = list(range(44)), {}, one.left_weight
-        while one.parts:
-            while waiting and len(running) < 2:
-                running[waiting.pop(0)] = self.now
-            one.update(dict.fromkeys(running, "here"))
-            self.now, number = min((since + self.TOOK[number], number) for number, since in running.items())
-            del running[number]
-            one.end(number, self.TOOK[number])
-            one.update(dict.fromkeys(running, "here"))
-            if one.weight < whole / 10:
-                self.assertNotIn("left", one.text())
-            elif one.parts:
-                ends.append(self.now + one.left())
-                self.assertRegex(one.text(), r"^[0-9]+%, [0-9]+ s left, ")
-        self.assertGreater(len(ends), 30)
-        for end in ends:
-            self.assertTrue(0.5 < end / self.now < 2, (end, self.now))
 
-    def test_the_longest_part_at_work_is_waited_for(self):
-        one = self.progress([self.FULL, self.FULL, 10 * self.FULL, self.FULL])
-        one.update({0: "h1", 2: "h2"})
-        self.now = 30.0
-        one.end(0, 30)
-        one.end(3, 30)
-        one.update({1: "h1", 2: "h2"})
-        self.assertEqual(one.left(), 270)  # not 150, which it would be if two machines could share a part
+def test_the_limit_of_empty_squares_is_by_default_that_of_the_program(case):
+    three = 'case "$*" in *max-emp*) ;; *) set -- --max-empties=3 "$@" ;; esac'
+    by = case.install("other", script=f'#!/bin/sh\n{three}\nexec "@real@" "$@"\n')
+    case.write_list(case.SMALL, "--max-empties=3")
+    case.many(*WORDS, by=by)
+    case.many(*WORDS, "--max-empties=3", message=", 3 of them solved before")
+    case.refused(2, "work was begun with --max-empties 3: use another folder", *WORDS)
 
-    def test_a_part_of_a_lost_machine_waits_again(self):
-        one = self.progress([self.FULL] * 4)
-        one.update({0: "h1", 1: "h2"})
-        self.now = 100.0
-        one.end(0, 100)
-        one.update({1: "h2", 2: "h1"})
-        self.assertEqual(one.left(), 100)
-        self.now = 190.0
-        one.update({2: "h1"})
-        self.assertEqual(one.left(), 210)
-        self.assertEqual(one.text(), "25%, 4 min left, 1 machine at work, parts 1 of 4")
-        self.now = 193.0
-        one.update({})
-        self.assertEqual(one.text(), "25%, no machine at work, parts 1 of 4")
 
-    def test_work_grows_with_the_empty_squares_of_both_spellings(self):
-        growth = engine.GROWTH
-        for empty in (b"-", b"."):
-            text = (BOARD + b" X\n\n% -----\n" + b"-" * 30 + b"X" * 34 + b" X\n").replace(b"-", empty)
-            self.assertEqual(engine.weight_of(text, 20), growth ** 2 + 1)
-        for empties, seconds in ((6, 0.666 / 0.0042), (8, 8.76 / 0.0042)):  # 20 and 22 empty squares against 14
-            self.assertTrue(0.5 < growth ** empties / seconds < 2)
+def test_a_program_may_be_late_to_read_a_large_part(case):
+    case.write_list(case.SMALL * 17)
+    case.many("list.obf", by=case.install("late", script='#!/bin/sh\nsleep 1\nexec "@real@" "$@"\n'))
 
-    def test_times_are_shown_in_words(self):
-        for seconds, words in ((0, "0 s"), (119, "119 s"), (120, "2 min"), (3599, "1 h 0 min"), (7500, "2 h 5 min")):
-            self.assertEqual(engine.span_of(seconds), words)
 
-    def test_the_line_fits_a_terminal(self):
-        one = self.progress([self.FULL] * 1200, 200)
-        one.update({659: "h1"})
-        self.now = 55.4
-        for number in range(659):
-            one.end(number, 55.4)
-        whole = "54%, 8 h 19 min left, 1 machine at work, parts 659 of 1200"
-        self.assertEqual(one.text(), whole)
-        for columns, line in ((80, whole), (50, "54%, 8 h 19 min left"), (200, whole)):
-            size = mock.patch.object(os, "get_terminal_size", return_value=os.terminal_size((columns, 24)))
-            with size, mock.patch.object(sys, "stderr", mock.Mock()), mock.patch("builtins.print") as printed:
-                files.show(whole)
-            self.assertEqual(printed.call_args[0][0], f"\r\033[Kffosolve-many: {line}")
+def test_lines_of_each_kind_and_none_at_all_are_solved(case):
+    kinds, blank = stored("examples/kinds.obf"), b"\r\n \t\n\t % X\n% no end of the last line\n\r\r\n \r\n"
+    whole, best = kinds + blank + kinds.rstrip(b"\n"), b"\n".join(worked_rows("ffosolve/best")[0])
+    for text, lines, *words in (whole, 4), (whole, 1000), (b"", 4), (best, 4, "--complete"):
+        case.write_list(text, *words)
+        case.many("--lines", lines, *words, f"work {len(text)} {lines}", "list.obf", "--book-out", "joined.book")
 
-    def test_a_part_that_runs_long_is_named(self):
-        one = self.progress([self.FULL] * 4, 3)
-        one.update({0: "h1", 1: "h2"})
-        self.now = 720.0
-        line = "0%, 2 machines at work, parts 0 of 4; part 0000000 (lines 1 to 3) has been running for 12 min on h1"
-        self.assertEqual(one.text(), line)
+
+def test_scores_and_status_are_those_of_one_run(case):
+    remarked = case.SMALL + b"% remark\r\n\n" + case.SMALL.rstrip(b"\n")
+    kinds = stored("examples/kinds.obf") + case.SMALL
+    for status, count, text, *words in (0, 3, remarked), (1, 2, kinds, "--complete"):
+        write("list.obf", text)
+        one = run(case.MANY.with_name("ffoscores"), *words, "list.obf")
+        assert one.returncode == status
+        for before in (0, count):
+            case.many("--scores", *words, "--lines=50", f"work{status}", "list.obf", status=status,
+                      output=one.stdout, message=f", {before} of them solved before")
+
+
+def test_cut_parts_are_solved_by_a_command_that_needs_only_python(case):
+    os.mkdir("my work")
+    os.symlink("my work", "work")
+    line = "10 parts, {} of them solved; python3 'my work/solve.py' {} solves the others\n"
+    cut, solve = (case.MANY, "--cut", "--lines=6", "my work", *WORDS[2:]), Path("my work", "solve.py").absolute()
+    ends((0, line.format(0, "0-9"), ""), *cut)
+    command = (sys.executable, "-IS", solve)
+    for words in (("0000000",), ("2-4", "0000006-7")):
+        ends((0, "", ""), *command, *words, cwd="/", env={"PATH": "/usr/bin:/bin"})
+    before = files()
+    ends((0, "", ""), *command, "0-4")  # which solves part 1 alone
+    assert {path.name for path in before.keys() ^ files().keys()} == {"0000001"}
+    assert before.items() <= files().items()
+    ends((0, line.format(7, "5 8-9"), ""), *cut)
+    for words in (("10",), ("-1",), (), ("3", "10-12"), ("4-3",), ("00000003",)):
+        error = f"solve.py {' '.join(words)}: name parts from 0 to 9, such as 0-9: '{' '.join(words)}'\n"
+        ends((1, "", error), *command, *words)
+    ends((0, "", ""), *command, "8-99", "5")
+    ends((0, "10 parts, 10 of them solved\n", ""), *cut)
+    case.many("--lines=6", *WORDS[1:], message="in 10 parts, 10 of them solved before")
+
+
+def test_a_book_goes_through_a_link_or_into_a_pipe_and_a_file_keeps_its_permissions(case):
+    write("there", "% ffobook 2 winner\n", 0o764)
+    os.symlink("there", "link")
+    case.many(*WORDS[:-1], "link")
+    assert (os.path.islink("link"), os.stat("there").st_mode & 0o777) == (True, 0o764)
+    case.same_book("there")
+    os.mkfifo("pipe")
+    reader = case.start("cat", "pipe")
+    case.many(*WORDS[:-1], "pipe")
+    assert Path("pipe").is_fifo()
+    assert reader.communicate(timeout=SECONDS)[0] == Path("one.book").read_bytes()
+
+
+def test_a_book_that_cannot_be_written_keeps_its_old_content(case):
+    case.many(*WORDS)
+    write("joined.book", "% ffobook 2 winner\n")
+    case.many(*WORDS, status=3, output=case.one, preexec_fn=limited(RLIMIT_FSIZE=1000),
+              message="ffosolve-many: cannot write joined.book: File too large\n")
+    assert Path("joined.book").read_text() == "% ffobook 2 winner\n"
+
+
+def test_a_book_that_may_not_be_written_is_not_replaced(case):
+    case.folder.chmod(0o777)
+    write("joined.book", "% ffobook 2 winner\n", 0o444)
+    case.refused(3, "cannot write joined.book: permission denied\n", *WORDS, **NOBODY)
+    Path("joined.book").unlink()
+    change = "    run.sweep()\n    open('joined.book', 'w').close(), os.chmod('joined.book', 0o444)\n"
+    by = case.install("forbidding", ("command", "    run.sweep()\n", change))  # makes a book once the parts are solved
+    case.many(*WORDS, by=by, status=3, output=case.one,
+              message="cannot write joined.book: Permission denied\n", **NOBODY)
+    assert Path("joined.book").read_bytes() == b""
+
+
+def test_progress_rises_in_a_log_and_on_a_terminal(case):
+    by = case.install("often", ("engine", "(1 if is_terminal else 60)", "(0.1 if is_terminal else 0.3)"),
+                      ("engine", "due = now + (1 if flying else 0.2)", "due = now + 0.1"), script=ACTING)
+    for place, shell in (("log", ("sh", "-c")), ("terminal", ("script", "/dev/null", "-qec"))):
+        command = f"'{by}' --jobs=2 --lines=6 {place} list.obf >report"
+        ran = run(*shell, command, env={**os.environ, "PAUSE": "0.3", "SHELL": "/bin/sh"})
+        assert Path("report").read_bytes() == case.one
+        lines = (ran.stderr or ran.stdout).decode()
+        counts = [*map(int, re.findall(r"\d+%, .*?(?:1|no) machine at work, parts (\d+) of 10", lines))]
+        is_one_line = "\033" in lines and lines.count("\n") == 1  # the first, then one that changes
+        assert (counts, is_one_line) == (sorted(counts), place == "terminal")
+        assert len(set(counts)) > 2, lines
+    assert case.many("--quiet", "--lines=6", "list.obf", by=by, places={"PAUSE": "0.3"}) == ""
+
+
+def test_output_that_fails_is_reported_and_closed_or_full_errors_do_no_harm(case):
+    for words in (("list.obf",), ("--help",), ("--merge-books", "one.book")):
+        cannot_write(case.MANY, "--quiet", *words)
+    ends((3, "", "ffosolve-many: cannot write standard output: File too large\n"), "sh", "-c",
+         'ulimit -f 1; PYTHONUNBUFFERED=1 exec "$0" --quiet list.obf >short', case.MANY)
+    case.many("list.obf", message=", 1 of them solved before")
+    for place, streams in enumerate(("<&- 2>&-", "2>/dev/full", "2>&-")):
+        case.many("-c", f'exec "{case.MANY}" {place} list.obf {streams}', by="sh")
+
+
+def test_jobs_are_limited_by_the_files_that_may_be_open(case):
+    message = "28 of 300 jobs work at a time, since no more than 256 files may be open (ulimit -n)"
+    case.many("--jobs=300", "--lines=1", *WORDS[1:], message=message, preexec_fn=limited(RLIMIT_NOFILE=256))
+
+
+# (status, message, *command line)
+REFUSED = [
+    (2, "no list is named"),
+    (2, "'two.obf' is one word too many", "work", "list.obf", "two.obf"),
+    (2, "'list.obf' is not a folder: name one FOLDER and one LIST", "list.obf", "two.obf"),
+    (2, r"'$'not\xff'' is not a folder", b"not\xff", "two.obf"),
+    (3, "cannot write /proc/work: No such file or directory", "/proc/work", "list.obf"),
+    (2, "'-x' is not an option; a file of that name is ./-x", "-x"),
+    (2, "'-' has no folder of its own: name a FOLDER before it", "-"),
+    (3, "cannot read .: Is a directory", "."),
+    (2, "'--line' is not an option", "--line", "5", "list.obf"),
+    (2, "'-rf *' is not an option", "-rf *", "list.obf"),
+    (2, "'' is not the name of a file", "work", ""),
+    (2, "--jobs: takes a number from 1 to 999, not '0'", "--jobs", "0", "list.obf"),
+    (2, "--jobs: takes a number from 1 to 999, not '1_0'", "--jobs=1_0", "list.obf"),
+    (2, "--lines: takes a number from 1 to 10000, not '10001'", "list.obf", "--lines", "10001"),
+    (2, "--lines: expected one argument", "list.obf", "--lines"),
+    (2, "--lines: given twice", "list.obf", "--lines=5", "--lines=6"),
+    (2, "--book-out: '' is empty or not UTF-8", "list.obf", "--book-out", ""),
+    (2, "--book-in is not an option of --scores", "--scores", "list.obf", "--book-in=one.book"),
+    (2, "--book-out is not an option of --scores", "--scores", "list.obf", "--book-out=b"),
+    (2, "--jobs is not an option of --scheduler", "list.obf", "--scheduler=tcp://h1:8786", "--jobs=3"),
+    (2, "--cut is not an option of --scheduler", "list.obf", "--scheduler=tcp://h1:8786", "--cut"),
+    (2, "--hosts is gone: start a cluster with `dask ssh --hostfile FILE`", "list.obf", "--hosts", "h"),
+    (2, "--hosts is gone: ", "list.obf", "--hosts=h"),
+    (2, "--sweep is gone: a cluster removes its own files", "--sweep", "work"),
+    (2, "--book-out out is standard output", "list.obf", "--book-out", "out"),
+    (2, "--book-out ./list.obf is the list", "list.obf", "--book-out", "./list.obf"),
+    (3, "cannot write none/book", "list.obf", "--book-out", "none/book"),
+    (3, "cannot write /proc/book", "list.obf", "--book-out", "/proc/book"),
+    (3, "cannot write .: it is a folder", "list.obf", "--book-out", "."),
+    (3, "link is not a book and would be overwritten", "list.obf", "--book-out", "link"),
+    (2, r"--book-out: $'not\xff' is empty or not UTF-8", "list.obf", "--book-out", b"not\xff"),
+    (3, "kept is not a book and would be overwritten", "--merge-books", "one.book", "--book-out", "kept"),
+    (3, "one.book is read and would be overwritten: write --book-out NEW, then ffosolve-many --merge-books "
+        "one.book NEW", "list.obf", "--book-in=one.book", "--book-out=one.book"),
+    (3, "cannot read none.obf: No such file or directory", "none.obf"),
+    (3, r"cannot read $'a\xff\n\'': No such file or directory", b"a\xff\n'"),
+    (3, "cannot read .: Is a directory", "work", "."),
+    (3, "cannot read none.book: No such file or directory", "list.obf", "--book-in", "none.book"),
+    (2, "--merge-books needs the name of a book", "--merge-books"),
+    (2, "--lines is not an option of --merge-books", "--merge-books", "--lines=5", "one.book"),
+    (3, "cannot read none.book: No such file or directory", "--merge-books", "one.book", "none.book"),
+]
+
+
+@pytest.mark.parametrize("status, message, words", [(status, message, words) for status, message, *words in REFUSED])
+def test_wrong_command_lines_are_refused(case, status, message, words):
+    for name in ("two.obf", "kept", b"not\xff"):
+        write(os.fsdecode(name), case.SMALL)
+    os.symlink("kept", "link")
+    os.symlink("/proc/self/fd/1", "out")
+    case.refused(status, message, *words)
+
+
+def test_files_that_may_not_be_read_or_written_are_named(case):
+    write("secret", case.SMALL, 0o600)
+    case.refused(3, "cannot read secret: Permission denied\n", "work", "secret", **NOBODY)
+    case.refused(3, "cannot write work: Permission denied\n", "work", "list.obf", **NOBODY)
+    os.mkdir("open")
+    os.chmod("open", 0o777)
+    case.refused(3, "cannot write book: permission denied\n", "open/work", "list.obf", "--book-out=book", **NOBODY)
+
+
+def test_what_the_program_refuses_is_refused_in_its_words(case):
+    write("bad.book", b"?\n")
+    for status, message, *words in ((2, "'61'", "--max-empties", 61), (2, "'a;b'", "--scoring", "a;b"),
+                                    (2, "'x'", "--workers=x"), (2, "'99999999'", "--table=99999999"),
+                                    (3, "book line 1: bad square", "--book-in=bad.book")):
+        case.many("work", "list.obf", *words, status=status, message=message)
+        assert not Path("work").exists()
+
+
+def test_help_and_version_are_printed_whatever_else_is_given(case):
+    for words in (("--help",), ("-h",), ("list.obf", "--help"), ("work", "-h", "list.obf")):
+        ran = run(case.MANY, *words, text=True, env={**os.environ, "COLUMNS": "80"})
+        assert (ran.returncode, ran.stderr, ran.stdout.count("\n  ffosolve-many ")) == (0, "", 2)
+        assert ran.stdout.startswith("usage: ffosolve-many [OPTIONS] [FOLDER] LIST"), ran.stdout
+        assert max(map(len, ran.stdout.splitlines())) <= 80
+    assert not Path("list.obf.parts").exists()
+    by = case.install("versioned")
+    write(by.parent.parent / "VERSION", "1.2.3\n")
+    for word in ("-V", "--version"):
+        assert case.many("list.obf", word, by=by, output=b"ffosolve-many 1.2.3\n") == ""
+
+
+def test_missing_or_wrong_programs_and_tools_are_named(case):
+    by = case.install("lacking", script="#!/bin/sh\n:\n")
+    case.refused(4, "is not the program ffosolve", "list.obf", by=by)
+    by.with_name("real-ffosolve").replace(by.with_name("ffoscores"))
+    case.refused(4, "is not the program ffoscores", "--scores", "list.obf", by=by)
+    for name, words in (("ffosolve", ()), ("ffoscores", ("--scores",))):
+        by.with_name(name).unlink()
+        case.refused(4, f"{name} is missing: it has to be next to ffosolve-many", *words, "list.obf", by=by)
+    places = {"PATH": f"{case.BASE}/python"}
+    case.refused(4, "setpriv is not on the path: apt-get install util-linux", "work", "list.obf", places=places)
+
+
+def test_output_onto_the_list_or_the_book_is_refused(case):
+    for stream, message in ((">>list.obf", "standard output is the list list.obf"),
+                            (">>joined.book", "--book-out joined.book is standard output, where the report goes"),
+                            ("2>>joined.book", "--book-out joined.book is standard error")):
+        ran = run("sh", "-c", f'"$0" "$@" {stream}', case.MANY, *WORDS)
+        assert (ran.returncode, Path("list.obf").read_bytes()) == (2, case.SMALL)
+        assert message in (ran.stderr.decode() or Path("joined.book").read_text())
+
+
+def test_merged_books_are_the_book_of_all(case):
+    whole = Path("one.book").read_bytes()
+    header, *entries = whole.splitlines(keepends=True)
+    first, other = (header + b"".join(some) for some in (entries[:40], entries[20:]))
+    write("a.book", first)
+    write("b.book", other)
+    assert case.many("--merge-books", "a.book", "b.book", output=whole) == ""
+    for name in ("/dev/stdin", "-"):
+        case.many("--merge-books", name, "a.book", output=whole, input=other)
+    case.many("b.book", "a.book", "a.book", "--merge-books", "--book-out", "a.book", output=b"")
+    case.same_book("a.book")
+    assert run(case.MANY.with_name("ffosolve"), "--book-in=a.book", "list.obf").stdout == case.one
+
+
+def test_more_books_than_may_be_open_are_merged_and_the_program_runs_once(case):
+    header, *entries = Path("one.book").read_bytes().splitlines(keepends=True)
+    names, few = [f"{number}.book" for number in range(80)], {"preexec_fn": limited(RLIMIT_NOFILE=40)}
+    for number, name in enumerate(names):
+        write(name, header + entries[number % len(entries)])
+    whole = b"".join([header, *entries])
+    case.many("--merge-books", *names, output=whole, by=case.ACTS, places={"WORDS": "words"}, **few)
+    assert Path("words").read_text().count("--book-in=") == 1
+    other = header + b"% X\n" + entries[30][:64] + entries[30][64:].translate(bytes.maketrans(b"+-", b"-+"))
+    case.refused(3, "- line 3 and 30.book line 2 disagree: ", "--merge-books", *names, "-", input=other, **few)
+
+
+def test_the_books_of_many_parts_are_merged_in_batches(case):
+    by = case.install("batches", ("books", "BATCH = 256", "BATCH = 7"))
+    case.many("--lines=1", *WORDS[1:], by=by)
+
+
+def test_a_book_in_another_spelling_is_merged(case):
+    write("mine.book", b"% my own\n\n " + BOARD[::-1].lower() + b"\tb; h8:+52; a8:62 % why\r\n")
+    first = ROOT / "examples/first.book"
+    case.many("--merge-books", "mine.book", first, output=first.read_bytes())
+
+
+def test_the_merged_book_is_checked_before_it_is_written(case):
+    by = case.install("misprinting", ("books", "whole.seek(0)", "whole.write(b'no entry\\n'); whole.seek(0)"))
+    case.many("--merge-books", "one.book", by=by, status=3, message="the merged book: book line 62: bad square")
+
+
+def test_books_that_cannot_be_merged_are_named(case):
+    write("discs.book", b"% ffobook 2 discs\r\n")
+    for names in (("one.book", "discs.book"), ("one.book", "discs.book", "one.book")):
+        case.refused(2, "one.book has the scoring winner and discs.book discs", "--merge-books", *names)
+    case.many("--merge-books", "discs.book", "discs.book", output=b"% ffobook 2 discs\n")
+    first, lying = ROOT / "examples/first.book", ROOT / "examples/lying.book"
+    case.refused(3, f"{first} line 2 and {lying} line 2 disagree: -XOOOOO-", "--merge-books", first, lying)
+    header, *entries = Path("one.book").read_bytes().splitlines(keepends=True)
+    for text, message in ((entries[1] + entries[0], "3: not in order"), (entries[0] * 2, "3: not in order"),
+                          (b"?\n", "2: bad square at column 1"), (entries[0][:66] + b"\n", "2: no moves"),
+                          (entries[0].replace(b" X;", b" O;"), "2: not canonical"),
+                          (b"% X\n-\n", "3: board has 1 of 64")):
+        write("bad.book", header + text)
+        case.refused(3, f"bad.book: book line {message}", "--merge-books", "one.book", "bad.book")
+    write("bad.book", b"% ffobook 3 winner\n")
+    case.refused(3, "bad.book: book line 1: unknown header", "--merge-books", "one.book", "bad.book")
+
+
+def test_an_entry_of_a_book_has_the_greatest_score_of_its_line_and_the_moves_with_that_score(case):
+    head = BOARD + b" X;"
+    for fields, claim in ((b" A1:+02;", b" A1:+02;"), (b"b2:2 ; A1:+02;C1:-64;", b" A1:+02; B2:+02;"),
+                          (b"H1:1;A2:1", b" H1:+01; A2:+01;"), (b" A1:-0; junk; A9:+3; A1:+65", b" A1:+00;"),
+                          (b"PS:-4;", b" PS:-04;"), (b"--:4;PS:4", b" PS:+04;"), (b"--:4;A1:4", b" A1:+04;"),
+                          (b" A1:-02; % B1:+64;", b" A1:-02;"), (b"A1:2; B1:4\r\r", b" A1:+02;"),
+                          (b" A1:+02; B1:-04;", b" A1:+02;"), (b" A2:+02; B1:+02;", b" B1:+02; A2:+02;"),
+                          (b" PS:+04; A1:+04;", b" A1:+04;"), (b" A1:+02; A1:+02;", b" A1:+02;")):
+        lines = [b"\n", b" \t\r\n", b"% X\n", head + fields + b"\n"]
+        ((_, place, line),) = books.entries_of(lines, "it")
+        assert (line, place) == (head + claim + b"\n", ("it", 4)), fields
+
+
+# Seconds that bench/peer.rs took for each part of 264 positions with 8 to 18 empty squares, six in a part.
+TOOK = (0.010, 0.278, 0.010, 0.223, 0.028, 0.331, 0.060, 0.105, 0.138, 1.174, 0.240, 0.010, 0.173, 0.014, 0.264,
+        0.031, 0.364, 0.055, 0.342, 0.058, 0.181, 0.220, 0.007, 0.177, 0.009, 0.164, 0.016, 0.148, 0.026, 0.172,
+        0.156, 0.481, 0.305, 0.008, 0.222, 0.007, 0.472, 0.008, 0.220, 0.029, 0.158, 0.201, 0.105, 0.263)
+FULL = b"X" * 64 + b" X\n"  # a line of weight 1
+
+
+@pytest.fixture
+def clock(monkeypatch):
+    """A clock that shows `clock.now`, in seconds."""
+    clock = types.SimpleNamespace(now=0.0)
+    monkeypatch.setattr("time.monotonic", lambda: clock.now)
+    return clock
+
+
+def progress(texts, lines=1):
+    """Returns an engine.Progress (what is left to do) for parts of a list, `texts`, each taken as `lines` lines."""
+    a_run = folder.Run.__new__(folder.Run)
+    weights = [folder.weight_of(text, 20) for text in texts]
+    a_run.parts, a_run.cut = len(texts), types.SimpleNamespace(lines=lines, count=len(texts) * lines, weights=weights)
+    return engine.Progress(a_run, range(len(texts)))
+
+
+def test_the_time_left_is_known_within_a_factor_of_two_from_a_tenth_of_the_work_on(clock):
+    lines, ends = positions(264, 8, 18, 3).splitlines(keepends=True), []
+    one = progress([b"".join(lines[at:at + 6]) for at in range(0, 264, 6)], 6)
+    waiting, running, whole = list(range(44)), {}, one.left_weight
+    while one.parts:
+        while waiting and len(running) < 2:
+            running[waiting.pop(0)] = clock.now
+        one.update(dict.fromkeys(running, "here"))
+        clock.now, number = min((since + TOOK[number], number) for number, since in running.items())
+        del running[number]
+        one.end(number, TOOK[number])
+        one.update(dict.fromkeys(running, "here"))
+        if one.weight < whole / 10:
+            assert "left" not in one.text()
+        elif one.parts:
+            ends.append(clock.now + one.left())
+            assert re.search(r"^[0-9]+%, [0-9]+ s left, ", one.text())
+    assert len(ends) > 30
+    for end in ends:
+        assert 0.5 < end / clock.now < 2, (end, clock.now)
+
+
+def test_the_longest_part_at_work_is_waited_for(clock):
+    one = progress([FULL, FULL, 10 * FULL, FULL])
+    one.update({0: "h1", 2: "h2"})
+    clock.now = 30.0
+    one.end(0, 30)
+    one.end(3, 30)
+    one.update({1: "h1", 2: "h2"})
+    assert one.left() == 270  # not 150, which it would be if two machines could share a part
+
+
+def test_a_part_of_a_lost_machine_waits_again(clock):
+    one = progress([FULL] * 4)
+    one.update({0: "h1", 1: "h2"})
+    clock.now = 100.0
+    one.end(0, 100)
+    one.update({1: "h2", 2: "h1"})
+    assert one.left() == 100
+    clock.now = 190.0
+    one.update({2: "h1"})
+    assert one.left() == 210
+    assert one.text() == "25%, 4 min left, 1 machine at work, parts 1 of 4"
+    clock.now = 193.0
+    one.update({})
+    assert one.text() == "25%, no machine at work, parts 1 of 4"
+
+
+def test_work_grows_with_the_empty_squares_of_both_spellings():
+    growth = folder.GROWTH
+    for empty in (b"-", b"."):
+        text = (BOARD + b" X\n\n% -----\n" + b"-" * 30 + b"X" * 34 + b" X\n").replace(b"-", empty)
+        assert folder.weight_of(text, 20) == growth ** 2 + 1
+    for empties, seconds in ((6, 0.666 / 0.0042), (8, 8.76 / 0.0042)):  # 20 and 22 empty squares against 14
+        assert 0.5 < growth ** empties / seconds < 2
+
+
+def test_times_are_shown_in_words():
+    for seconds, words in ((0, "0 s"), (119, "119 s"), (120, "2 min"), (3599, "1 h 0 min"), (7500, "2 h 5 min")):
+        assert engine.span_of(seconds) == words
+
+
+def test_the_line_fits_a_terminal(clock):
+    one = progress([FULL] * 1200, 200)
+    one.update({659: "h1"})
+    clock.now = 55.4
+    for number in range(659):
+        one.end(number, 55.4)
+    whole = "54%, 8 h 19 min left, 1 machine at work, parts 659 of 1200"
+    assert one.text() == whole
+    for columns, line in ((64, whole), (39, "54%, 8 h 19 min left"), (200, whole)):
+        size = mock.patch.object(os, "get_terminal_size", return_value=os.terminal_size((columns, 24)))
+        with size, mock.patch.object(_command_line, "name", "it"), mock.patch.object(os, "write") as written:
+            _command_line.show(whole)
+        written.assert_called_once_with(2, f"\r\033[Kit: {line}".encode())
+
+
+def test_a_part_that_runs_long_is_named(clock):
+    one = progress([FULL] * 4, 3)
+    one.update({0: "h1", 1: "h2"})
+    clock.now = 720.0
+    line = "0%, 2 machines at work, parts 0 of 4; part 0000000 (lines 1 to 3) has been running for 12 min on h1"
+    assert one.text() == line

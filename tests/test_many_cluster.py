@@ -1,217 +1,358 @@
 """ffosolve-many on a Dask cluster of this machine prints what one run of ffosolve or ffoscores does, or an error."""
+import contextlib
 import os
 import random
+import re
 import shutil
 import signal
+import socket
 import sys
-import time
-import unittest
 from pathlib import Path
-from unittest import mock
+
+import pytest
 
 from tests import many
-from tests.many import ACTING, Case, install
-from tests.support import SECONDS, as_at_a_login, lack, limited, processes_in, run, wait_until, write
+from tests.many import ACTING
+from tests.support import SECONDS, as_at_a_login, limited, need, run, wait_until, write
 
-PYTHON = next((python for python in (sys.executable, "/usr/bin/python3")
-               if run(python, "-c", "import distributed").returncode == 0), None)
-
-
-def setUpModule():
-    global HASTY
-    if PYTHON is None:
-        lack("distributed (Debian: python3-distributed)")
-    many.setUpModule(PYTHON)
-    HASTY = install("hasty", ("cluster", "LOST_SECONDS = 30", "LOST_SECONDS = 12"),
-                    ("solve", "KNOWN_SECONDS = 30", "KNOWN_SECONDS = 2"),
-                    ("engine", "(1 if is_terminal else 60)", "1"), script=ACTING)
-
-
-class Interfaces(unittest.TestCase):
-    def test_the_calls_of_later_versions_of_dask_are_used(self):
-        """Dask is a mock with two workers: h1 is ready, h2 is not. In the end, neither of them can take part 0."""
-        dask, workers = mock.Mock(WorkerPlugin=object), {"h1": (None, 2, "h1", 2, []), "h2": (None, None, "h2", 7, [])}
-        client, pool = dask.Client.return_value, dask.Client.return_value.get_executor.return_value
-        client.status = "running"
-        with mock.patch.dict(sys.modules, distributed=dask, cloudpickle=mock.Mock()), \
-                mock.patch("logging.disable"), mock.patch("warnings.simplefilter"):
-            from ffosolve._many import cluster
-            one = cluster.Cluster("h1:8786", mock.MagicMock(text=str))
-        dask.Client.assert_called_once_with(address="h1:8786", timeout=30, set_as_default=False)
-        client.get_executor.assert_called_once_with(pure=False, resources={one.name: 1})
-        for has_program in (False, True):
-            client.run_on_scheduler.return_value = has_program, workers, set()
-            self.assertEqual((one.look({}), one.room), ({}, 6))
-        client.loop.add_callback.assert_called_once_with(client.register_plugin, one.program, name=one.name)
-        one.submit(0, ())
-        pool.submit.assert_called_once_with(mock.ANY, 0, "0", key=mock.ANY, workers=None)
-        client.run_on_scheduler.return_value = True, workers, [0]
-        one.look({pool.submit.return_value: 0})
-        pool.submit.return_value.cancel.assert_called_once_with()
+pytest_plugins = ["tests.many"]
+WORDS = ("--lines=4", "--book-in=one.book", *many.WORDS[1:])  # 15 parts
+# Runs Dask's module that the argument after -m names, and claims to be another Python.
+OTHER_PYTHON = """if True:
+    import runpy, sys, distributed.versions as versions
+    known = versions.get_system_info
+    versions.get_system_info = lambda: {**dict(known()), "python": "3.7.1.final.0"}
+    del sys.argv[:2]
+    runpy.run_module(sys.argv[0], run_name="__main__")
+"""
+INTERRUPTED = "interrupted; the same command goes on with what is solved\n"
 
 
-class Cluster(Case):
-    WORDS = ("--lines=4", "--book-in=one.book", *Case.WORDS[1:])  # 15 parts
+@pytest.fixture(scope="module")
+def many_python():
+    """A Python that has distributed."""
+    for python in (sys.executable, "/usr/bin/python3"):
+        if run(python, "-c", "import distributed").returncode == 0:
+            return python
+    pytest.skip("distributed is missing (Debian: python3-distributed)")
 
-    def setUp(self):
-        super().setUp()
-        self.workers, self.port = {}, "0"
-        self.start_scheduler()
+
+@pytest.fixture(scope="module")
+def hasty(installed):
+    return installed.install("hasty", ("cluster", "LOST_SECONDS = 30", "LOST_SECONDS = 12"),
+                             ("solve", "KNOWN_SECONDS = 30", "KNOWN_SECONDS = 5"),
+                             ("engine", "(1 if is_terminal else 60)", "1"), script=ACTING)
+
+
+class Cluster:
+    """A scheduler and workers. `begin` and `ended` run ffosolve-many on them."""
+
+    def __init__(self, case, hasty, python):
+        self.case, self.hasty, self.python, self.daemons, self.port = case, hasty, python, {}, "0"
 
     def daemon(self, name, *command, **places):
-        """Starts Dask's scheduler or a worker with `places` added to the environment. Returns the process: it logs to
-        NAME.log and ends with the test. The scheduler removes workers that are silent for 5 seconds."""
-        settings = {"DASK_DISTRIBUTED__SCHEDULER__WORKER_TTL": "5s", "DASK_DISTRIBUTED__COMM__TIMEOUTS__CONNECT": "3s"}
+        """Starts Dask's scheduler or a worker with `places` added to the environment; it logs to NAME.log. The
+        scheduler removes workers that are silent for 5 seconds."""
+        settings = {"DASK_DISTRIBUTED__SCHEDULER__WORKER_TTL": "5s", "DASK_DISTRIBUTED__COMM__TIMEOUTS__CONNECT": "3s",
+                    "TEST_DAEMON": f"{self.case.folder}/{name}"}
         with open(f"{name}.log", "wb") as log:
-            ran = self.start(*command, "--no-dashboard", stdout=log, stderr=log, start_new_session=True,
-                             env={**os.environ, **settings, **places})
-        self.addCleanup(lambda: ran.poll() is None and os.killpg(ran.pid, signal.SIGKILL))
-        return ran
+            self.daemons[name] = self.case.start(*command, "--no-dashboard", stdout=log, stderr=log,
+                                                 start_new_session=True, env={**os.environ, **settings, **places})
 
-    def start_scheduler(self):
+    def start_scheduler(self, *options, before=()):
         write("scheduler.json", "")
-        self.scheduler = self.daemon("scheduler", PYTHON, "-m", "distributed.cli.dask_scheduler", "--host=127.0.0.1",
-                                     f"--port={self.port}", "--scheduler-file=scheduler.json")
-        wait_until(lambda: "tcp://" in Path("scheduler.json").read_text())
-        self.port = Path("scheduler.json").read_text().partition("tcp://127.0.0.1:")[2].partition('"')[0]
+        self.daemon("scheduler", self.python, *before, "-m", "distributed.cli.dask_scheduler", "--host=127.0.0.1",
+                    f"--port={self.port}", "--scheduler-file=scheduler.json", *options)
+        wait_until(lambda: "}" in Path("scheduler.json").read_text()[-2:])
+        self.port = re.search(r'://127.0.0.1:(\d+)"', Path("scheduler.json").read_text())[1]
 
-    def start_workers(self, *names, **places):
+    def start_workers(self, *names, options=(), before=(), **places):
         """Starts workers of one thread, and waits until they are registered. A shell starts each again when it ends."""
-        command = ("sh", "-c", 'while :; do "$@"; sleep 0.1; done', "sh", PYTHON, "-m")
         for name in names:
-            words = (f"127.0.0.1:{self.port}", "--nthreads=1", f"--local-directory=workers/{name}")
-            self.workers[name] = self.daemon(name, *command, "distributed.cli.dask_worker", *words, **places)
+            command = ("sh", "-c", 'while :; do "$@"; sleep 0.1; done', "sh", self.python, *before, "-m",
+                       "distributed.cli.dask_worker")
+            self.daemon(name, *command, f"127.0.0.1:{self.port}", "--nthreads=1", f"--local-directory=workers/{name}",
+                        *options, **places)
         wait_until(lambda: all("Registered to" in Path(f"{name}.log").read_text() for name in names))
 
-    def signal_workers(self, number, *names):
+    def signal(self, number, *names):
         for name in names:
-            os.killpg(self.workers[name].pid, number)
+            os.killpg(self.daemons[name].pid, number)
 
-    def begin(self):
+    def begin(self, *words):
         """Starts ffosolve-many on the cluster, with its standard error in the file `messages`. Returns its process."""
         with open("messages", "wb") as log:
-            return self.start(HASTY, "--scheduler=scheduler.json", *self.WORDS, stderr=log, preexec_fn=as_at_a_login)
+            return self.case.start(self.hasty, "--scheduler=scheduler.json", *(words or WORDS), stderr=log,
+                                   preexec_fn=as_at_a_login)
 
     def ended(self, ran):
         """Waits for the end of a run that `begin` started. Asserts that its report and its book are those of one run of
-        ffosolve, and that the programs on all workers end. Returns the run's messages."""
-        output, _ = ran.communicate(timeout=2 * SECONDS)
-        self.assertEqual((ran.returncode, output), (0, self.one), self.messages())
-        self.same_book()
-        wait_until(lambda: not self.programs())
-        return self.messages()
+        ffosolve, and that nothing of it is left on the workers. Returns the run's messages."""
+        output, _ = ran.communicate(timeout=3 * SECONDS)
+        assert (ran.returncode, output) == (0, self.case.one), messages()
+        self.case.same_book()
+        self.leaves_nothing()
+        return messages()
 
-    def messages(self):
-        return Path("messages").read_text()
+    def leaves_nothing(self):
+        wait_until(lambda: not self.programs() and not self.packs())
+        assert {path.parts[0] for path in Path(".").rglob("program-?")} <= {"work", "scores"}
+
+    def processes(self, daemon):
+        """Returns {process ID: command line} of one daemon or, by default, of all, and of the programs they started."""
+        found, mark = {}, f"TEST_DAEMON={self.case.folder}/{daemon}"
+        for number in filter(str.isdigit, os.listdir("/proc")):
+            with contextlib.suppress(OSError):  # the process has ended
+                if mark in Path(f"/proc/{number}/environ").read_text(errors="replace"):
+                    found[int(number)] = Path(f"/proc/{number}/cmdline").read_text(errors="replace")
+        return found
 
     def programs(self, worker=""):
-        """Returns {process ID: command line} of the programs that solve parts on one worker or, by default, on all."""
-        return processes_in(self.folder / "workers" / worker)
+        """Returns the IDs of the processes that solve parts on a worker or, by default, on all."""
+        return [number for number, words in self.processes(worker).items() if "--max-empties" in words]
 
-    def test_report_book_and_scores_are_those_of_one_run(self):
-        self.start_workers("worker1", "worker2")
-        self.ended(self.begin())
-        shutil.rmtree("work")
-        self.many("--scheduler", f"tcp://127.0.0.1:{self.port}", *self.WORDS)
-        self.assertEqual({path.parts[0] for path in Path(".").rglob("program-?")}, {"work"})
-        scores = run(many.MANY.with_name("ffoscores"), "list.obf").stdout
-        self.many("--scheduler=scheduler.json", "--scores", "scores", "list.obf", output=scores)
+    def packs(self, worker=""):
+        """Returns the files that the workers keep in memory."""
+        files = []
+        for number in self.processes(worker):
+            with contextlib.suppress(OSError):
+                files += [path for path in Path(f"/proc/{number}/fd").iterdir() if "memfd:ffo" in os.readlink(path)]
+        return files
 
-    def test_workers_are_waited_for_and_may_be_killed_or_fall_silent_or_join_late(self):
-        ran = self.begin()
-        wait_until(lambda: "0%, no machine at work, parts 0 of 15" in self.messages())
-        self.start_workers("worker1", "worker2", "worker3", PAUSE="1")
-        wait_until(lambda: self.parts_solved() >= 1 and self.programs("worker1") and self.programs("worker2"))
-        self.signal_workers(signal.SIGKILL, "worker1")
-        self.signal_workers(signal.SIGSTOP, "worker2")
-        self.start_workers("worker1", PAUSE="0.1")
-        wait_until(lambda: self.programs("worker1"))
-        self.ended(ran)
 
-    def test_all_workers_may_be_silent_for_longer_than_the_scheduler_waits(self):
-        self.start_workers("worker1", "worker2", PAUSE="1")
-        ran = self.begin()
-        wait_until(lambda: self.parts_solved() >= 2)
-        self.signal_workers(signal.SIGSTOP, "worker1", "worker2")
-        wait_until(lambda: "%, no machine at work, parts " in self.messages())
-        self.signal_workers(signal.SIGCONT, "worker1", "worker2")
-        self.ended(ran)
+def messages():
+    return Path("messages").read_text()
 
-    def test_a_worker_whose_program_is_wrong_or_late_gets_no_part(self):
-        self.start_workers("worker1", SPOIL_KNOWN="lambda text: text.replace(b'+', b'-')")
-        self.start_workers("worker2", SPOIL_KNOWN="lambda text: time.sleep(60)")
-        ran = self.begin()
-        wait_until(lambda: self.messages().count(" is left out: ") == 2)
-        self.start_workers("worker3")
-        messages = self.ended(ran)
-        for why in ("solves a known line wrong", "needs more than 2 seconds for a known line"):
-            self.assertRegex(messages, rf"\n.*: tcp://127\.0\.0\.1:\d+ is left out: the program {why}\n")
-        self.assertNotIn("failed", messages)
 
-    def test_a_worker_that_fails_three_parts_in_a_row_is_left_out_but_not_the_last_one(self):
-        self.start_workers("worker1", SPOIL="lambda text: text[:-5]")
-        self.start_workers("worker2", PAUSE="1")
-        messages = self.ended(self.begin())
-        self.assertRegex(messages, r" failed part 00000\d\d \(lines \d+ to \d+\): its results are not complete\n")
-        self.assertRegex(messages, r" is left out: 3 parts failed in a row\n")
-        shutil.rmtree("work")
-        self.signal_workers(signal.SIGKILL, "worker2")
-        wait_until(lambda: "Remove worker" in Path("scheduler.log").read_text())
-        ran = self.begin()
-        self.assertEqual((ran.communicate(timeout=SECONDS)[0], ran.returncode), (b"", 1), self.messages())
-        self.assertIn("not solved: 15 of 15 parts: part 0000000 (lines 1 to 4), ", self.messages())
-        self.assertEqual(self.messages().count("failed part 0000000 "), 3)
+@pytest.fixture
+def cluster(case, hasty, many_python):
+    """A `Cluster` with a scheduler."""
+    it = Cluster(case, hasty, many_python)
+    it.start_scheduler()
+    yield it
+    for name in it.daemons:
+        with contextlib.suppress(ProcessLookupError):
+            it.signal(signal.SIGKILL, name)
 
-    def test_a_scheduler_that_is_back_at_once_goes_on_and_one_that_is_lost_ends_the_run(self):
-        self.start_workers("worker1", PAUSE="0.5")
-        for count, is_lost in ((2, True), (5, False)):
-            ran = self.begin()
-            wait_until(lambda: self.parts_solved() >= count)
-            self.signal_workers(signal.SIGKILL, "worker1")
-            self.scheduler.kill()
-            self.scheduler.wait()
-            wait_until(lambda: "%, no machine at work, parts " in self.messages())
-            if is_lost:
-                self.assertEqual((ran.communicate(timeout=SECONDS)[0], ran.returncode), (b"", 3))
-                lost = " scheduler .* is lost; the same command goes on with what is solved\n$"
-                self.assertRegex(self.messages(), lost)
-            self.start_scheduler()
-            self.start_workers("worker1", PAUSE="0.5")
-        self.ended(ran)
 
-    def test_signals_end_the_programs_of_the_workers_and_kills_at_random_moments_lose_nothing(self):
-        self.start_workers("worker1", PAUSE="0.7")
-        self.start_workers("worker2", PAUSE="45")
-        rng = random.Random(1)
-        for number in (signal.SIGINT, signal.SIGTERM, signal.SIGHUP, signal.SIGKILL, *[signal.SIGKILL] * 3):
-            ran = self.begin()
-            time.sleep(rng.uniform(0.5, 4))
-            if number != signal.SIGKILL:
-                wait_until(lambda: len(self.programs()) == 2 or ran.poll() is not None)
-            ran.send_signal(number)
-            output, _ = ran.communicate(timeout=SECONDS)
-            wait_until(lambda: not self.programs(), 2 + 2 * os.getloadavg()[0] / os.cpu_count())
-            self.assertIn(ran.returncode, (0, -number) if output else (-number,))
-            self.assertNotIn("Traceback", self.messages())
-            if output:
-                shutil.rmtree("work")
-        self.signal_workers(signal.SIGKILL, "worker2")
-        self.ended(self.begin())
+def test_report_book_and_scores_are_those_of_one_run(cluster, case):
+    cluster.start_workers("worker1", "worker2")
+    cluster.ended(cluster.begin())
+    shutil.rmtree("work")
+    case.many("--scheduler", f"tcp://127.0.0.1:{cluster.port}", *WORDS)
+    scores = run(case.MANY.with_name("ffoscores"), "list.obf").stdout
+    case.many("--scheduler=scheduler.json", "--scores", "scores", "list.obf", output=scores)
+    cluster.leaves_nothing()
+    assert "Run out-of-band" not in Path("scheduler.log").read_text()
 
-    def test_a_full_disk_ends_the_run_and_it_goes_on_when_there_is_room(self):
-        self.start_workers("worker1", "worker2")
-        words = ("--scheduler=scheduler.json", *self.WORDS)
-        run(many.MANY, "--cut", *self.WORDS)
-        full = limited(RLIMIT_FSIZE=len(self.one) // 15 + 400)  # some records are longer
-        self.many(*words, preexec_fn=full, status=3, message="ffosolve-many: cannot write work: File too large\n")
-        wait_until(lambda: not self.programs())
-        self.many(*words, message=f"in 15 parts, {self.parts_solved()} of them solved before")
 
-    def test_a_scheduler_that_cannot_be_reached_is_named(self):
-        self.scheduler.kill()
-        by = install("impatient", ("cluster", "LOST_SECONDS = 30", "LOST_SECONDS = 1"))
-        for address, why in (f"tcp://127.0.0.1:{self.port}", ""), ("nonsense", "[Errno 2] No such file or directory"):
-            self.many("--scheduler", address, "work", "list.obf", by=by, status=3,
-                      message=f"cannot reach the scheduler {address}: {why}")
-        self.refused(4, "--scheduler needs Python's package distributed (No module named ", "-S", many.MANY,
-                     "--scheduler=h1:8786", "other", "list.obf", by=PYTHON)
+def test_workers_are_waited_for_and_may_be_killed_or_fall_silent_or_join_late(cluster):
+    ran = cluster.begin()
+    wait_until(lambda: "0%, no machine at work, parts 0 of 15" in messages())
+    cluster.start_workers("worker1", "worker2", "worker3", PAUSE="1")
+    wait_until(lambda: cluster.case.parts_solved() and cluster.programs("worker1") and cluster.programs("worker2"))
+    cluster.signal(signal.SIGKILL, "worker1")
+    cluster.signal(signal.SIGSTOP, "worker2")
+    cluster.start_workers("worker1", PAUSE="0.1")
+    wait_until(lambda: cluster.programs("worker1"))
+    cluster.signal(signal.SIGKILL, "worker2")
+    cluster.ended(ran)
+
+
+def test_all_workers_may_be_silent_for_longer_than_the_scheduler_waits(cluster, case):
+    cluster.start_workers("worker1", "worker2", PAUSE="1")
+    ran = cluster.begin()
+    wait_until(lambda: case.parts_solved() >= 2)
+    cluster.signal(signal.SIGSTOP, "worker1", "worker2")
+    wait_until(lambda: "%, no machine at work, parts " in messages())
+    cluster.signal(signal.SIGCONT, "worker1", "worker2")
+    cluster.ended(ran)
+
+
+def test_a_worker_solves_as_many_parts_at_once_as_it_has_threads(cluster):
+    cluster.start_workers("worker1", options=["--nthreads=3"], PAUSE="5")
+    ran = cluster.begin()
+    wait_until(lambda: len(cluster.programs()) == 3)
+    cluster.ended(ran)
+
+
+def test_a_worker_that_is_not_fit_gets_no_part_until_it_is_started_again(cluster):
+    cluster.start_workers("worker1", SPOIL_KNOWN="lambda text: text.replace(b'+', b'-')", options=["--worker-port=0"])
+    cluster.start_workers("worker2", SPOIL_KNOWN="lambda text: time.sleep(60)")
+    cluster.start_workers("worker3", before=["-c", OTHER_PYTHON], options=["--no-nanny"])
+    ran = cluster.begin()
+    wait_until(lambda: messages().count(" is left out: ") == 3)
+    for why in ("the program solves a known line wrong", "the program needs more than 5 seconds for a known line",
+                r"it has Python 3\.7, and ffosolve-many 3\.\d+"):
+        assert re.search(rf"\n.*: (tcp://127\.0\.0\.1:\d+) is left out: {why}\n", messages())
+    port = re.search(r":(\d+) is left out: the program solves", messages())[1]
+    cluster.signal(signal.SIGKILL, "worker1")
+    cluster.start_workers("worker1", options=[f"--worker-port={port}"])
+    cluster.ended(ran)
+    assert "failed" not in messages()
+
+
+def test_a_worker_may_lose_its_folder(cluster, case):
+    cluster.start_workers("worker1", PAUSE="0.2")
+    ran = cluster.begin()
+    wait_until(lambda: case.parts_solved() >= 2)
+    shutil.rmtree("workers")
+    assert "failed" not in cluster.ended(ran)
+
+
+def test_a_worker_that_fails_three_parts_in_a_row_is_left_out_but_not_the_last_one(cluster):
+    cluster.start_workers("worker1", SPOIL="lambda text: text[:-5]")
+    cluster.start_workers("worker2", PAUSE="1")
+    told = cluster.ended(cluster.begin())
+    assert len(re.findall(r" failed part 00000\d\d \(lines \d+ to \d+\): its results are not complete\n", told)) == 3
+    assert told.count(" is left out: 3 parts failed in a row\n") == 1
+    shutil.rmtree("work")
+    cluster.signal(signal.SIGKILL, "worker2")
+    wait_until(lambda: "Remove worker" in Path("scheduler.log").read_text())
+    ran = cluster.begin()
+    assert (ran.communicate(timeout=SECONDS)[0], ran.returncode) == (b"", 1), messages()
+    assert "not solved: 15 of 15 parts: part 0000000 (lines 1 to 4), " in messages()
+    assert messages().count("failed part 0000000 ") == 3
+
+
+def test_a_worker_that_fails_now_and_then_is_not_left_out(cluster, case):
+    count = f"open('{case.folder}/count', 'a').write('.'), os.path.getsize('{case.folder}/count')"
+    cluster.start_workers("worker1", SPOIL=f"lambda text: text[:-5] if ({count})[1] % 2 else text")
+    cluster.start_workers("worker2", PAUSE="4")
+    ran = cluster.begin()
+    cluster.ended(ran)
+    assert messages().count(" failed ") >= 3 and "left out" not in messages()
+
+
+def test_a_part_that_kills_its_worker_fails_after_three_tries_and_the_others_are_solved(cluster, case):
+    cluster.start_workers("worker1", options=["--nthreads=2"])
+    write("list.obf", case.SMALL[:68 * 22] + b"% KILL\n" + case.SMALL[68 * 22:])
+    ran = cluster.begin()
+    assert (ran.communicate(timeout=3 * SECONDS)[0], ran.returncode) == (b"", 1), messages()
+    assert ": not solved: 1 of 16 parts: part 0000005 (lines 21 to 24). " in messages()
+    assert messages().count("failed part 0000005 (lines 21 to 24): the worker ended\n") == 3
+    cluster.leaves_nothing()
+
+
+def test_a_scheduler_that_is_back_at_once_goes_on_and_one_that_is_lost_ends_the_run(cluster, case):
+    cluster.start_workers("worker1", PAUSE="0.5")
+    for count, is_lost in ((2, True), (5, False)):
+        ran = cluster.begin()
+        wait_until(lambda: case.parts_solved() >= count)
+        cluster.signal(signal.SIGKILL, "worker1", "scheduler")
+        if is_lost:
+            assert (ran.communicate(timeout=SECONDS)[0], ran.returncode) == (b"", 3), messages()
+            lost = " scheduler .* is lost; the same command goes on with what is solved\n$"
+            assert re.search(lost, messages())
+        cluster.start_scheduler()
+        cluster.start_workers("worker1", PAUSE="0.5")
+    cluster.ended(ran)
+
+
+def test_a_scheduler_that_is_silent_is_said_to_be_and_at_last_lost(cluster, case):
+    cluster.start_workers("worker1", PAUSE="0.5")
+    for count, is_lost in ((2, False), (5, True)):
+        ran = cluster.begin()
+        wait_until(lambda: case.parts_solved() >= count)
+        cluster.signal(signal.SIGSTOP, "scheduler")
+        wait_until(lambda: re.search(r"%, the scheduler has been silent for \d+ s, parts \d+ of 15\n", messages()))
+        if is_lost:
+            assert (ran.communicate(timeout=SECONDS)[0], ran.returncode) == (b"", 3)
+            assert " is lost; the same command goes on with what is solved\n" in messages()
+        cluster.signal(signal.SIGCONT, "scheduler")
+        if not is_lost:
+            cluster.ended(ran)
+            shutil.rmtree("work")
+
+
+def test_a_caller_that_a_signal_ends_leaves_nothing_on_the_workers(cluster, case):
+    cluster.start_workers("worker1", PAUSE="0.7")
+    cluster.start_workers("worker2", PAUSE="45")
+    for number in (signal.SIGINT, signal.SIGTERM, signal.SIGHUP, signal.SIGKILL):
+        ran = cluster.begin()
+        wait_until(lambda: cluster.programs("worker1") and cluster.programs("worker2"))
+        ran.send_signal(number)
+        output, _ = ran.communicate(timeout=SECONDS)
+        cluster.leaves_nothing()
+        assert (ran.returncode, output) == (-number, b"")
+        assert messages().endswith(INTERRUPTED) == (number != signal.SIGKILL)
+    rng = random.Random(1)
+    for _ in range(3):
+        ran = cluster.begin()
+        with contextlib.suppress(AssertionError):  # a moment of its first seconds
+            wait_until(lambda: ran.poll() is not None, rng.uniform(0.5, 4))
+        ran.kill()
+        output, _ = ran.communicate(timeout=SECONDS)
+        cluster.leaves_nothing()
+        assert (ran.returncode, output) == (-signal.SIGKILL, b"")
+    cluster.signal(signal.SIGKILL, "worker2")
+    cluster.ended(cluster.begin())
+
+
+def test_a_full_disk_ends_the_run_and_it_goes_on_when_there_is_room(cluster, case):
+    cluster.start_workers("worker1", "worker2")
+    words = ("--scheduler=scheduler.json", *WORDS)
+    run(case.MANY, "--cut", *WORDS)
+    full = limited(RLIMIT_FSIZE=len(case.one) // 15 + 400)  # some records are longer
+    case.many(*words, preexec_fn=full, status=3, message="ffosolve-many: cannot write work: File too large\n")
+    cluster.leaves_nothing()
+    case.many(*words, message=f"in 15 parts, {case.parts_solved()} of them solved before")
+
+
+@pytest.fixture
+def impatient(installed):
+    path = installed.BASE / "impatient"
+    return path / "bin/ffosolve-many" if path.exists() else installed.install(
+        "impatient", ("cluster", "LOST_SECONDS = 30", "LOST_SECONDS = 2"))
+
+
+NOT_AN_ADDRESS = "it is neither an address with a port, such as tcp://h1:8786, nor a file"
+NO_ADDRESS = "cannot reach a scheduler: the file {} has no address of one, or not yet\n"
+NO_ANSWER = "it does not answer as a scheduler does (the address of one with TLS begins with tls://)\n"
+
+
+@pytest.mark.parametrize("address, why", [
+    ("nonsense", NOT_AN_ADDRESS), ("tcp://h1", NOT_AN_ADDRESS), ("h1:x", NOT_AN_ADDRESS),
+    ("xyz://h1:8786", "unknown address scheme 'xyz'"), ("tls://127.0.0.1:1", "TLS expects a `ssl_context` argument"),
+    ("tcp://127.0.0.1:1", "Timed out"), ("empty", NO_ADDRESS), ("half", NO_ADDRESS), ("other", NO_ADDRESS),
+    (".", NO_ADDRESS),
+])
+def test_what_is_no_scheduler_is_named(case, impatient, many_python, address, why):
+    write("empty", "")
+    write("half", '{"type": "Scheduler", "address": "tcp')
+    write("other", "[1]")
+    case.many("--scheduler", address, "--quiet", "work", "list.obf", by=impatient, status=3,
+              message=why.format(address) if why == NO_ADDRESS else f"cannot reach the scheduler {address}: {why}")
+
+
+def test_a_server_that_is_no_scheduler_is_named(cluster, case, impatient):
+    cluster.start_workers("worker1")
+    log = Path("worker1.log").read_text()
+    with socket.create_server(("127.0.0.1", 0)) as held:
+        for address, why in ((re.search(r"Start worker at: +(\S+)", log)[1], " is not a scheduler, but a worker\n"),
+                             (re.search(r"Start Nanny at: +'(\S+)'", log)[1], " is not a scheduler, but a nanny\n"),
+                             (f"tcp://127.0.0.1:{held.getsockname()[1]}", NO_ANSWER)):
+            case.many("--scheduler", address, "--quiet", "work", "list.obf", by=impatient, status=3, message=why)
+
+
+def test_a_scheduler_of_another_python_or_with_tls_is_named(cluster, case, impatient):
+    need("openssl")
+    run("openssl", "req", "-x509", "-newkey", "rsa:2048", "-nodes", "-keyout", "key", "-out", "cert", "-subj", "/CN=x",
+        check=True)
+    secret = ("--protocol=tls", "--tls-ca-file=cert", "--tls-cert=cert", "--tls-key=key")
+    other = r"has Python 3\.7, and ffosolve-many 3\.\d+: use the same\n"
+    for options, before, why in ((secret, (), NO_ANSWER), ((), ["-c", OTHER_PYTHON], other)):
+        cluster.signal(signal.SIGKILL, "scheduler")
+        cluster.port = "0"
+        cluster.start_scheduler(*options, before=before)
+        errors = case.many(f"--scheduler=tcp://127.0.0.1:{cluster.port}", "work", "list.obf", by=impatient, status=3)
+        assert re.search(why if before else re.escape(why), errors)
+        assert cluster.daemons["scheduler"].poll() is None
+
+
+def test_a_missing_or_malformed_dask_is_named(case, many_python):
+    case.refused(4, f"--scheduler needs the package distributed, which {many_python} lacks (No module named ", "-S",
+                 case.MANY, "--scheduler=h1:8786", "other", "list.obf", by=many_python)
+    write("dask/dask.yaml", "distributed: [")
+    case.refused(3, "Dask cannot start: ", "--scheduler=h1:8786", "other", "list.obf",
+                 places={"DASK_CONFIG": f"{case.folder}/dask"})

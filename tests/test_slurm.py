@@ -4,10 +4,10 @@ import re
 import socket
 import subprocess
 from pathlib import Path
-from unittest import mock
 
-from tests import many
-from tests.many import Case, setUpModule
+import pytest
+
+from tests.many import WORDS
 from tests.support import SECONDS, need, run, stored, wait_until, write
 
 CONFIGURATION = """\
@@ -29,35 +29,47 @@ PartitionName=all Nodes=ALL Default=YES
 """
 
 
-class Slurm(Case):
-    def setUp(self):
-        super().setUp()
-        if os.geteuid() != 0:
-            self.skipTest("Slurm's daemons are started by root alone")
-        need("slurmctld", "slurmd", "sbatch")
-        with socket.create_server(("127.0.0.1", 0)) as one, socket.create_server(("127.0.0.1", 0)) as other:
-            ports = [server.getsockname()[1] for server in (one, other)]
-        host = socket.gethostname().partition(".")[0]
-        write("slurm.conf", CONFIGURATION.format(host=host, place=self.folder, ports=ports))
-        path = f"/usr/bin:{os.environ['PATH']}"  # with Debian's dask
-        self.enterContext(mock.patch.dict(os.environ, SLURM_CONF=f"{self.folder}/slurm.conf", PATH=path))
-        for name in ("slurmctld", "slurmd"):
-            self.start(name, "-D", stdout=subprocess.DEVNULL, stderr=subprocess.DEVNULL)
-        wait_until(lambda: b"idle" in run("sinfo", "-h", "-o", "%T").stdout)
-        self.scripts = re.findall(b"```sh\n(#!/bin/sh\n#SBATCH.*?)```", stored("docs/many-machines.md"), re.DOTALL)
+pytest_plugins = ["tests.many"]
 
-    def test_the_job_array_of_the_document_solves_all_parts(self):
-        write("part.sh", self.scripts[1])
-        words = ("--lines=3", *self.WORDS[1:])
-        self.assertEqual(run(many.MANY, "--cut", *words).stdout[:32], b"20 parts, 0 of them solved; pyth")
-        run("sbatch", "--wait", "--array=0-19", "part.sh", check=True, timeout=5 * SECONDS)
-        self.many(*words, message="20 of them solved before")
 
-    def test_the_job_of_the_document_solves_a_list_on_its_own_cluster(self):
-        need("dask")
-        os.symlink(many.MANY.parent, "bin")
-        job = self.scripts[0].replace(b"--nodes=4", b"--nodes=1").replace(b"--cpus-per-task=8", b"--cpus-per-task=2")
-        write("job.sh", job.replace(b"list.obf", b"--lines=3 list.obf"))
-        run("sbatch", "--wait", "--output=job.log", "job.sh", check=True, timeout=5 * SECONDS)
-        self.assertEqual(Path("list.report").read_bytes(), self.one, Path("job.log").read_text())
-        self.assertIn("60 lines in 20 parts, 0 of them solved before", Path("job.log").read_text())
+@pytest.fixture
+def scripts(case, monkeypatch):
+    """Starts Slurm. Returns the scripts in the document."""
+    if os.geteuid() != 0:
+        pytest.skip("Slurm's daemons are started by root alone")
+    need("slurmctld", "slurmd", "sbatch")
+    with socket.create_server(("127.0.0.1", 0)) as one, socket.create_server(("127.0.0.1", 0)) as other:
+        ports = [server.getsockname()[1] for server in (one, other)]
+    host = socket.gethostname().partition(".")[0]
+    write("slurm.conf", CONFIGURATION.format(host=host, place=case.folder, ports=ports))
+    monkeypatch.setenv("SLURM_CONF", f"{case.folder}/slurm.conf")
+    monkeypatch.setenv("PATH", f"/usr/bin:{os.environ['PATH']}")  # with Debian's dask
+    for name in ("slurmctld", "slurmd"):
+        case.start(name, "-D", stdout=subprocess.DEVNULL, stderr=subprocess.DEVNULL)
+    wait_until(lambda: b"idle" in run("sinfo", "-h", "-o", "%T").stdout)
+    return re.findall(b"```sh\n(#!/bin/sh\n#SBATCH.*?)```", stored("docs/many-machines.md"), re.DOTALL)
+
+
+def test_the_job_array_of_the_document_solves_all_parts_and_shows_why_some_fail(case, scripts):
+    write("part.sh", scripts[1].replace(b"100", b"6").replace(b"99", b"5"))
+    case.write_list(case.SMALL + b"% FAIL\n")
+    words = ("--lines=3", *WORDS[1:])
+    run(case.ACTS, "--cut", *words, check=True)
+    run("sbatch", "--wait", "--array=0-3", "part.sh", timeout=5 * SECONDS)
+    (log,) = Path(".").glob("parts-*.log")
+    assert log.read_text() == "part 0000020: ffosolve: out of memory\n"
+    Path("work/program-0").unlink()
+    case.many(*words, message="in 21 parts, 20 of them solved before")
+
+
+def test_the_job_of_the_document_solves_a_list_on_its_own_cluster_and_ends_with_the_status(case, scripts):
+    need("dask")
+    os.symlink(case.ACTS.parent, "bin")
+    job = scripts[0].replace(b"--nodes=4", b"--nodes=1").replace(b"--cpus-per-task=8", b"--cpus-per-task=2")
+    write("job.sh", job.replace(b"list.obf", b"--lines=3 list.obf"))
+    for text, status in ((case.SMALL, 0), (case.SMALL + b"% FAIL\n", 1)):
+        case.write_list(text)
+        ran = run("sbatch", "--wait", "--output=job.log", "job.sh", timeout=5 * SECONDS)
+        log = Path("job.log").read_text()
+        assert (ran.returncode, Path("list.report").read_bytes()) == (status, b"" if status else case.one), log
+        assert f"in {20 + status} parts, {20 * status} of them solved before" in log

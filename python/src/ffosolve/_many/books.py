@@ -1,4 +1,5 @@
 """Merges books: those of the parts of a run (see `Run` in folder.py), or those that the command line names."""
+import argparse
 import heapq
 import io
 import itertools
@@ -6,19 +7,24 @@ import os
 import re
 import tempfile
 from pathlib import Path
+from typing import Iterable, Iterator, List, Sequence, Tuple
 
-from .._positions import BLACK, WHITE, NoPosition, Position
+from .._command_line import DONE, MISUSED, Refusal, print_all
+from .._positions import BLACK, WHITE, Position
+from .._refusals import NoPosition
 from .._squares import NAMES
-from .files import DONE, NAME, REFUSED, UNREADABLE, Program, Refusal, misused, print_all, regular, replace, shown
-from .folder import HEADER
+from .._text import shown
+from .files import check_book_out, check_books, misused, program_in, regular, replace
+from .folder import HEADER, Run
 
+Entry = Tuple[List[int], Tuple[str, int], bytes]  # see `entries_of`
 READ = 4096  # bytes of a book that are read at once, and the rest of their last line
 BATCH = 256  # parts whose books are merged in memory at a time
 # A line of a book, as ffosolve writes it, except that the moves may be in another order.
 ENTRY = re.compile(rb"[XO-]{64} X;(?: (?:PS|--):[+-]\d\d;| [A-H][1-8]:([+-]\d\d);(?: [A-H][1-8]:\1;)*)\n")
 
 
-def lines_of(path):
+def lines_of(path: Path) -> Iterator[bytes]:
     """Yields the lines of a book's file. Closes the file between reads, since too many might be open otherwise."""
     lines, at = [b""], 0
     while lines:
@@ -28,7 +34,7 @@ def lines_of(path):
         yield from lines
 
 
-def entries_of(lines, name):
+def entries_of(lines: Iterable[bytes], name: str) -> Iterator[Entry]:
     """Yields (masks, (name, line number), text) for each position in `lines`. Books are sorted by `masks`: X's and O's
     squares as bits; `text` is the line in ENTRY's form. Raises ValueError if a line is malformed or lists no move."""
     for number, text in enumerate(lines, 1):
@@ -39,62 +45,62 @@ def entries_of(lines, name):
             except NoPosition:
                 continue
             greatest = max(score for _, score in line.listed)
-            moves = {move for move, score in line.listed if score == greatest}
-            best = [square for square in NAMES if square in moves] or [max(moves)]  # PS if listed, otherwise --
+            equal = {move for move, score in line.listed if score == greatest}
+            best = [square for square in NAMES if square in equal] or [max(equal)]  # PS if listed, otherwise --
             text = f"{line.to_obf()}{''.join(f' {move}:{greatest:+03d};' for move in best)}\n".encode()
         yield [int(text[63::-1].translate(side), 2) for side in (BLACK, WHITE)], (name, number), text
 
 
-def merged(names, books):
+def merged(names: Sequence[str], books: Iterable[Iterable[bytes]]) -> Iterator[bytes]:
     """Yields the lines of one book with all positions of `books`, each an iterable of lines; `names` has the names of
     these books. Refuses two scorings, and lines that disagree. Raises ValueError at a malformed or repeated line."""
-    books = list(map(iter, books))
-    firsts = [next(book, b"") for book in books]
-    scorings = [first.decode("latin-1").removeprefix("% ffobook 2 ").rstrip() if first.startswith(b"% ffobook ")
+    rests = [iter(book) for book in books]
+    firsts = [next(book, b"") for book in rests]
+    scorings = [re.sub("^% ffobook 2 ", "", first.decode("latin-1")).rstrip() if first.startswith(b"% ffobook ")
                 else "winner" for first in firsts]
     for name, scoring in zip(names, scorings):
         if scoring != scorings[0]:
-            raise Refusal(REFUSED, f"{names[0]} has the scoring {scorings[0]} and {name} {scoring}: "
-                                   "only books of one scoring can be merged")
+            raise Refusal(f"{names[0]} has the scoring {scorings[0]} and {name} {scoring}: only books of one scoring "
+                          "can be merged", MISUSED)
     yield HEADER.format(scorings[0]).encode()
-    entries = (entries_of(itertools.chain([first], book), name) for name, first, book in zip(names, firsts, books))
+    entries = (entries_of(itertools.chain([first], book), name) for name, first, book in zip(names, firsts, rests))
     for _, ((_, place, line), *others) in itertools.groupby(heapq.merge(*entries), lambda entry: entry[0]):
         for _, other_place, other in others:
             if place[0] == other_place[0] and place != other_place:
                 raise ValueError("{} line {} is not in order".format(*other_place))
             if line != other:
-                raise Refusal(UNREADABLE, "{} line {} and {} line {} disagree: {} and {}".format(
+                raise Refusal("{} line {} and {} line {} disagree: {} and {}".format(
                     *place, *other_place, line[:-1].decode(), other[64:-1].decode().strip()))
         yield line
 
 
-def book_of(run, folder):
+def book_of(run: Run, folder: str) -> Iterator[bytes]:
     """Yields the lines of a run's book. Merges the parts' books, BATCH to a file in `folder`, then merges the files."""
-    paths, books = [], (io.BytesIO(book) for _, _, book, _ in run.solved())
+    paths, books = [Path(os.devnull)], (io.BytesIO(found.book) for found in run.solved())
+    header = HEADER.format(run.task["options"]["--scoring"]).encode()  # the whole book if the list has no lines
     while batch := list(itertools.islice(books, BATCH)):
         paths.append(Path(folder, f"{len(paths)}.book"))
         with paths[-1].open("wb") as file:
-            file.writelines(merged(range(BATCH), batch))
-    header = HEADER.format(run.options["--scoring"]).encode()  # the whole book if the list has no lines
-    yield from merged(["", *(path.name for path in paths)], [[header], *map(lines_of, paths)])
+            file.writelines(merged([*map(str, range(BATCH))], batch))
+    yield from merged([*map(str, paths)], [[header], *map(lines_of, paths[1:])])
 
 
-def merge_books(command, programs):
+def merge_books(command: argparse.Namespace, programs: str) -> int:
     """Merges the books that a command from `parse` names; prints the result or writes --book-out. Returns a status."""
     if not command.words:
         raise misused("--merge-books needs the name of a book")
-    program, names = Program(programs, "ffosolve"), list(map(shown, command.words))
+    program, names = program_in(programs, "ffosolve"), list(map(shown, command.words))
     if command.book_out:
-        program.check_book_out(command.book_out, os.devnull)
+        check_book_out(program, command.book_out, os.devnull)
     paths = [regular(name) for name in command.words]
-    with tempfile.NamedTemporaryFile(prefix=f"{NAME}-") as whole:
+    with tempfile.TemporaryFile() as whole:
         try:
             whole.writelines(merged(names, map(lines_of, paths)))
             whole.seek(0)
-            program.check_books(["the merged book"], [whole.name])
+            check_books(program, ["the merged book"], [f"/proc/{os.getpid()}/fd/{whole.fileno()}"])
         except (ValueError, Refusal) as why:
-            program.check_books(names, paths)  # refuses a book that is wrong by itself
-            raise why if isinstance(why, Refusal) else Refusal(UNREADABLE, str(why)) from None
+            check_books(program, names, paths)  # refuses a book that is wrong by itself
+            raise why if isinstance(why, Refusal) else Refusal(str(why)) from None
         if command.book_out:
             replace(command.book_out, whole)
         else:

@@ -1,26 +1,31 @@
 """Runs ffosolve-many: reads its command line, and then solves a list and prints the results, or merges books."""
 import argparse
-import contextlib
+import itertools
 import os
 import re
-import signal
+import shlex
+import stat
 import sys
 import tempfile
 from pathlib import Path
+from typing import Any, List, Optional
 
-from .. import __version__
+from .._command_line import DONE, REMARKED, UNREADABLE, Parser, Refusal, print_all, say
+from .._command_line import run as run_program
+from .._text import shown
 from .books import book_of, merge_books
 from .engine import Threads, solve_parts
-from .files import (DONE, NAME, UNREADABLE, UNSOLVED, Program, Refusal, counted, is_same, misused, path_of, print_all,
-                    refusing, regular, replace, run_options, say, shown)
-from .folder import Run
+from .files import (builds_of, check_book_out, check_options, counted, is_same, misused, path_of, program_in, regular,
+                    replace)
+from .folder import Run, begin, options_of
+from .solve import words_of
 
-SIGNALS = (signal.SIGINT, signal.SIGTERM, signal.SIGHUP)
+NAME = "ffosolve-many"
 GONE = {
     "--hosts": "start a cluster with `dask ssh --hostfile FILE`, and use --scheduler (nor is PARALLEL_SSH read)",
     "--sweep": "a cluster removes its own files; those of an earlier version are folders run-* in your home folder"}
 EXCLUDED = {"scheduler": {"jobs", "cut"}, "scores": {"book_in", "book_out"}}  # {option: those refused with it}
-WITH_MERGE_BOOKS = {"merge_books", "book_out", "quiet", "version", "help"}
+WITH_MERGE_BOOKS = {"merge_books", "book_out", "quiet"}
 
 USAGE = f"""{NAME} [OPTIONS] [FOLDER] LIST
        {NAME} --merge-books [--book-out FILE] BOOK.."""
@@ -57,8 +62,7 @@ OPTIONS = {
         ("--cut", None, "only cut the list, for another scheduler"),
         ("--merge-books", None, "solve nothing, and merge books of one scoring into one"),
         ("--quiet", None, "write only failures to standard error"),
-        ("--version -V", None, "print the version"),
-        ("--help -h", None, "print this help")),
+        ("--version", None, ""), ("--help", None, "")),
     "options of ffosolve, with the same meaning": (
         ("--max-empties", "N", "solve positions with at most N empty squares, 0 to 60 [default: that of ffosolve]"),
         ("--workers", "N", "extra threads per part, beyond its own, 0 to 64 [default: 0]"),
@@ -71,7 +75,8 @@ OPTIONS = {
 class Once(argparse.Action):
     """An option that may be given only once. Its value is UTF-8, not empty; with `const`, an int from 1 to `const`."""
 
-    def __call__(self, parser, namespace, value, option_string=None):
+    def __call__(self, parser: argparse.ArgumentParser, namespace: argparse.Namespace, value: Any,
+                 option_string: Optional[str] = None) -> None:
         if getattr(namespace, self.dest) is not None:
             raise argparse.ArgumentError(self, "given twice")
         if not value or re.search("[\udc80-\udcff]", value):
@@ -81,26 +86,21 @@ class Once(argparse.Action):
         setattr(namespace, self.dest, int(value) if self.const else value)
 
 
-def parse(words):
+def parse(words: List[str]) -> argparse.Namespace:
     """Returns a namespace with the options of the command line `words` and, as its own `words`, the other arguments.
-    Refuses wrong options, and an empty word. With --help, only the namespace's `help` is of use: the text to print."""
-    parser = argparse.ArgumentParser(NAME, USAGE, WHAT, MORE, allow_abbrev=False, add_help=False, exit_on_error=False,
-                                     formatter_class=argparse.RawDescriptionHelpFormatter)
+    Refuses wrong options, and an empty word. Prints the help or the version and raises SystemExit if asked to."""
+    parser = Parser(USAGE, WHAT, MORE)
     for title, options in OPTIONS.items():
         group = parser.add_argument_group(title)
-        for names, value, text in options:
+        for name, value, text in options:
             if value:
-                group.add_argument(names, metavar=value, action=Once, const=MOST.get(names), help=text)
-            else:
-                group.add_argument(*names.split(), action="store_true", help=text)
+                group.add_argument(name, metavar=value, action=Once, const=MOST.get(name), help=text)
+            elif text:
+                group.add_argument(name, action="store_true", help=text)
+            elif name == "--help":
+                parser.add_common(group)
     end = words.index("--") if "--" in words else len(words)
-    try:
-        command, others = parser.parse_known_args(words[:end])
-    except argparse.ArgumentError as why:
-        raise misused(str(why).removeprefix("argument ")) from None
-    if command.help:
-        command.help = parser.format_help()
-        return command
+    command, others = parser.parse_known_args(words[:end])
     for word in others:
         if instead := GONE.get(word.partition("=")[0]):
             raise misused(f"{word.partition('=')[0]} is gone: {instead}")
@@ -116,7 +116,7 @@ def parse(words):
     return command
 
 
-def begin(command, programs):
+def run_of(command: argparse.Namespace, programs: str) -> Run:
     """Checks a command from `parse`; sets its list, folder and some defaults. Returns its Run, begun or continued."""
     if not command.words:
         raise misused("no list is named; for standard input use `-`, with a FOLDER before it")
@@ -131,85 +131,66 @@ def begin(command, programs):
         raise misused(f"'{shown(command.list)}' has no folder of its own: name a FOLDER before it")
     if is_same(path, 1):
         raise misused(f"standard output is the list {shown(command.list)}: name another file")
-    command.lines = command.lines or 1000
-    command.scoring = command.scoring or "winner"
+    command.lines, command.scoring = command.lines or 1000, command.scoring or "winner"
     source = regular(command.list)
     book_in = regular(command.book_in) if command.book_in else None
-    program = Program(programs, "ffoscores" if command.scores else "ffosolve")
-    options = run_options(command, book_in)
-    command.max_empties = program.check_options(options)
+    program = program_in(programs, "ffoscores" if command.scores else "ffosolve")
+    words = words_of(options_of(command, None), str(book_in) if book_in else None)
+    command.max_empties = check_options(program, words)
     if command.book_out:
-        program.check_book_out(command.book_out, path, *options)
-    with refusing("write", command.folder):
-        return Run(command, source, program, book_in)
+        check_book_out(program, command.book_out, path, *words)
+    modes = [stat.S_IMODE(file.stat().st_mode) & 0o666 if file and file.parts[1:2] != ("proc",) else None
+             for file in (source, book_in)]
+    return begin(command, source, lambda: builds_of(program), book_in.read_bytes() if book_in else None, modes)
 
 
-def solve_list(command, programs):
+def print_cut(run: Run) -> int:
+    """Prints how many parts are solved, and the command that solves the others. Returns a status."""
+    unsolved = run.unsolved()
+    groups = itertools.groupby(enumerate(unsolved), lambda pair: pair[1] - pair[0])
+    ranges = [[number for _, number in group] for _, group in groups]
+    words = [f"{one[0]}-{one[-1]}" if one[1:] else str(one[0]) for one in ranges]
+    script = os.path.join("." if str(run.folder)[0] == "-" else "", run.folder, "solve.py")
+    quoted = shlex.quote(script) if script.isprintable() else shown(script)
+    rest = f"; python3 {quoted} {' '.join(words)} solves the others" if words else ""
+    print_all([os.fsencode(f"{counted(run.parts, 'part')}, {run.parts - len(unsolved)} of them solved{rest}\n")])
+    return DONE
+
+
+def solve_list(command: argparse.Namespace, programs: str) -> int:
     """Solves a command's list, prints results, writes any --book-out; --cut: only cuts the list. Returns the status."""
     if command.scheduler:
         from .cluster import Cluster  # refuses if its package is missing
-    run = begin(command, programs)
-    unsolved, parts, folder = len(run.unsolved()), counted(run.parts, "part"), shown(run.folder)
+    run = run_of(command, programs)
     if command.cut:
-        print_all([os.fsencode(f"{parts}, {run.parts - unsolved} of them solved; python3 {folder}/solve.py NAME solves "
-                               f"one, from 0000000 to {run.parts - 1:07d}\n")])
-        return DONE
+        return print_cut(run)
+    unsolved, parts = run.unsolved(), counted(run.parts, "part")
     if not command.quiet:
-        say(f"{shown(command.list)}: {counted(run.all_lines, 'line')} in {parts}, {run.parts - unsolved} of them "
-            f"solved before; folder {folder}")
+        say(f"{shown(command.list)}: {counted(run.cut.count, 'line')} in {parts}, {run.parts - len(unsolved)} of them "
+            f"solved before; folder {shown(run.folder)}")
     if unsolved:
-        jobs = command.jobs or len(os.sched_getaffinity(0))
-        with contextlib.closing(Cluster(command.scheduler, run) if command.scheduler else Threads(run, jobs)) as engine:
-            solve_parts(run, engine, command.quiet)
+        if command.scheduler:
+            solve_parts(run, Cluster(command.scheduler, run), command.quiet)
+        else:
+            solve_parts(run, Threads(run, command.jobs or len(os.sched_getaffinity(0))), command.quiet)
     if failed := run.unsolved():
         named = ", ".join(map(run.span, failed[:3])) + (", .." if len(failed) > 3 else "")
-        raise Refusal(UNREADABLE if command.scores else UNSOLVED,
-                      f"not solved: {len(failed)} of {parts}: {named}. The same command solves only these")
+        raise Refusal(f"not solved: {len(failed)} of {parts}: {named}. The same command solves only these",
+                      UNREADABLE if command.scores else REMARKED)
     run.sweep()
     print_all(run.output())
     if command.book_out:
-        with tempfile.TemporaryDirectory(dir=run.folder, prefix="book.", suffix=".new") as place:
-            replace(command.book_out, book_of(run, place))
+        place = run.folder if os.access(run.folder, os.W_OK) else None
+        with tempfile.TemporaryDirectory(dir=place, prefix="book.", suffix=".new") as folder:
+            replace(command.book_out, book_of(run, folder))
     return max(run.statuses, default=DONE)
 
 
-def catch(number, _):
-    """Handles one of SIGNALS: makes later ones do nothing, and raises KeyboardInterrupt with the number of this one."""
-    for other in SIGNALS:
-        signal.signal(other, lambda *_: None)  # if they were set to SIG_IGN, Python could print an error
-    raise KeyboardInterrupt(number)
-
-
-def main(programs, words):
-    """Runs ffosolve-many with the arguments `words`, and ends this process with the status, or by the signal that
-    interrupted it (SIGPIPE if the output is no longer read). `programs` is the folder with ffosolve and ffoscores."""
-    sys.stderr = sys.stderr or open(os.devnull, "w")
-    while os.open(os.devnull, os.O_RDWR) < 3:
-        pass  # so that no file that is opened later takes the place of a closed stream
-    for number in SIGNALS:
-        if signal.getsignal(number) != signal.SIG_IGN:
-            signal.signal(number, catch)
-    try:
-        if sys.stdout is None:
-            raise Refusal(UNREADABLE, "cannot write standard output: it is closed")
-        command = parse(words)
-        if command.help or command.version:
-            print_all([(command.help or f"{NAME} {__version__}\n").encode()])
-            status = DONE
-        else:
-            status = (merge_books if command.merge_books else solve_list)(command, programs)
-    except Refusal as why:
-        status, text = why.args
-        say(text)
-    except BrokenPipeError:  # standard output is no longer read
-        status = -signal.SIGPIPE
-    except OSError as why:
-        status = UNREADABLE
-        say(f"{shown(why.filename or 'a file')}: {why.strerror or why}")
-    except KeyboardInterrupt as why:
-        say("interrupted; the same command goes on with what is solved")
-        status = -why.args[0]
-    if status < 0:
-        signal.signal(-status, signal.SIG_DFL)
-        os.kill(os.getpid(), -status)
-    os._exit(status)  # without waiting for threads whose programs still run
+def main(programs: Optional[str] = None, words: Optional[List[str]] = None) -> None:
+    """Runs ffosolve-many with arguments, by default those of this process, and ends this process. `programs` is the
+    folder with ffosolve and ffoscores, by default that of this process's script."""
+    def carry_out() -> int:
+        command = parse(sys.argv[1:] if words is None else words)
+        return (merge_books if command.merge_books else solve_list)(
+            command, programs or os.path.dirname(os.path.abspath(sys.argv[0])))
+    run_program(NAME, carry_out, "interrupted; the same command goes on with what is solved")

@@ -1,5 +1,5 @@
-"""Solves one part of a list: on a thread of ffosolve-many, on a worker of a cluster, or as `python3 solve.py PART`.
-This file needs only Python and util-linux, so it works on machines without the rest of the package."""
+"""Solves parts of a list: on a thread of ffosolve-many, on a worker of a cluster, or as `python3 solve.py PARTS`.
+This file needs only Python 3.8 and util-linux, so it works on machines without the rest of the package."""
 import hashlib
 import itertools
 import json
@@ -10,40 +10,84 @@ import subprocess
 import sys
 import time
 from pathlib import Path
+from typing import Any, Callable, Dict, Iterator, List, NamedTuple, Optional, Tuple
 
 KNOWN = b"-OXXXXX-XXXXXXXOXXXXXXXXXXXXXXXXXXXOXXXXXXXXXXXXXXXXXXXXXXXXXXXX X; H1:+62; A1:+52;\n"
-KNOWN_SECONDS = 30  # in which a machine has to solve that line
+KNOWN_SECONDS = 30  # in which a machine has to solve it; that takes 0.01, but a busy machine starts programs late
 HEAD = re.compile(rb"(([01]) (\d+) (\d+) (\d+\.\d+)) ([0-9a-f]{64})\n")
+PASSED_ON = ("--max-empties", "--scoring", "--workers", "--table", "--book-in", "--complete")  # to the program
+
+# What a run's task.json has. "options": {option that decides the results: value}, with "" for an option without value,
+# and None for one that is not given; "speed", the like for other options; "parts", how many there are; "list": the
+# size and the SHA-256 of the list; "programs": the SHA-256 of each program; "known": what they print for KNOWN.
+Task = Dict[str, Any]
 
 
-def guarded(words):
+class Place:
+    """Where programs are on a machine: a folder, and the names there of programs and of a --book-in, if any."""
+
+    def __init__(self, folder: str, programs: List[str], book_in: Optional[str]) -> None:
+        self.folder, self.programs, self.book_in = folder, programs, book_in
+
+
+class Solved(NamedTuple):
+    """The results of a part: the program's exit status, its output, its book, and how many seconds it took."""
+
+    status: int
+    output: bytes
+    book: bytes
+    seconds: float
+
+
+def sha256(content: bytes) -> str:
+    return hashlib.sha256(content).hexdigest()
+
+
+def guarded(words: List[str]) -> List[str]:
     """Returns a command that runs `words` unless this process has ended, and is killed when this process ends."""
     return ["setpriv", "--pdeathsig", "KILL", "sh", "-c", '[ "$PPID" = "$0" ] && exec "$@"', str(os.getpid()), *words]
 
 
-def digest_of(task, part, head, text, results):
-    """Returns the digest of a record (see `solve`): the SHA-256, in hexadecimal, of `task`'s options and the rest."""
-    asked = json.dumps([task["options"], part]).encode()
-    return hashlib.sha256(b"\n".join((asked, head, text, results))).hexdigest().encode()
+def words_of(task: Task, book_in: Optional[str]) -> List[str]:
+    """Returns the arguments of the program, except --book-out. `book_in` is the path of a book."""
+    given = {**task["speed"], **task["options"], "--book-in": book_in}
+    return [name if given[name] == "" else f"{name}={given[name]}" for name in PASSED_ON if given[name] is not None]
 
 
-def solve(task, folder, program, part, text, is_wanted=lambda: True):
-    """Solves the lines `text` of a part. `task` is what task.json has. `program` runs in `folder` with the arguments
-    `task["words"]`, and is killed once `is_wanted` returns false. Returns (record, "") or, if the program fails, (None,
-    the reason). A record is a line with the program's status, the sizes of its output and its book in bytes, the
-    seconds that it took, and the digest that `digest_of` returns; then the output and the book."""
+def digest_of(task: Task, part: int, lines: str, head: bytes, results: bytes) -> bytes:
+    """Returns the digest of a record (see `solve`), in hexadecimal: the SHA-256 of the options that decide the results,
+    the part's number, the SHA-256 of its lines, which is `lines`, and the rest of the record."""
+    asked = json.dumps([task["options"], part, lines], sort_keys=True).encode()
+    return sha256(b"\n".join((asked, head, results))).encode()
+
+
+def read_record(task: Task, part: int, lines: str, record: bytes) -> Optional[Solved]:
+    """Returns the results in a record, or None if it is damaged or of another task. `lines` as for `digest_of`."""
+    head = HEAD.match(record)
+    if not head or digest_of(task, part, lines, head[1], record[head.end():]) != head[6]:
+        return None
+    middle = head.end() + int(head[3])
+    return Solved(int(head[2]), record[head.end():middle], record[middle:], float(head[5]))
+
+
+def solve(task: Task, place: Place, program: str, part: int, text: bytes,
+          is_wanted: Callable[[], bool] = lambda: True) -> Tuple[bytes, str]:
+    """Solves the lines `text` of a part with the program of that name in `place`, and kills it once `is_wanted` returns
+    false. Returns (record, "") or, if the program fails, (b"", the reason). A record is a line with the program's
+    status, the sizes of its output and its book in bytes, the seconds that it took, and the digest that `digest_of`
+    returns; then the output and the book."""
     # The program writes its book to the pipe of standard error, so that it needs no room on a disk.
     has_book, most = task["options"]["--book-out"] is not None, task["options"]["--scores"] is not None
-    command = guarded([program, *task["words"], *["--book-out=/dev/stderr"] * has_book])
+    words = [f"{place.folder}/{program}", *words_of(task, place.book_in), *["--book-out=/dev/stderr"] * has_book]
     begun = time.monotonic()
     try:  # after a timeout, `communicate` loses the rest of the input, so the lines are a file in memory
         with open(os.memfd_create("part"), "w+b") as file:
             file.write(text)
             file.seek(0)
-            process = subprocess.Popen(command, cwd=folder, start_new_session=True, stdin=file, stdout=subprocess.PIPE,
-                                       stderr=subprocess.PIPE)
+            process = subprocess.Popen(guarded(words), cwd=place.folder, start_new_session=True, stdin=file,
+                                       stdout=subprocess.PIPE, stderr=subprocess.PIPE)
     except OSError as why:
-        return None, f"{why.filename or 'part'}: {why.strerror}"
+        return b"", f"{why.filename or 'part'}: {why.strerror}"
     with process:
         while True:
             try:
@@ -55,62 +99,104 @@ def solve(task, folder, program, part, text, is_wanted=lambda: True):
     status = process.returncode
     if not 0 <= status <= most:
         name = f"status {status}" if status >= 0 else f"killed by {signal.Signals(-status).name}"
-        return None, (errors.decode(errors="replace").strip() or name).splitlines()[0]
+        return b"", (errors.decode(errors="replace").strip() or name).splitlines()[0]
     book = errors[max(0, errors.find(b"% ffobook ")):] if has_book else b""
     head = b"%d %d %d %.3f" % (status, len(output), len(book), time.monotonic() - begun)
-    return b"%b %b\n%b%b" % (head, digest_of(task, part, head, text, output + book), output, book), ""
+    return b"%b %b\n%b%b" % (head, digest_of(task, part, sha256(text), head, output + book), output, book), ""
 
 
-def fit_program(task, folder):
-    """Returns the path of the first program in a folder that solves KNOWN within KNOWN_SECONDS, and its output and book
-    as one text; if `task["known"]` is set, this text has to equal it. Raises ChildProcessError if no program is fit."""
+def fault_of(task: Task, place: Place, program: str) -> Tuple[str, str]:
+    """Returns what a program prints for KNOWN, output and book as one text, and why it is not fit, or ""."""
+    with open(f"{place.folder}/{program}", "rb") as file:
+        if sha256(file.read()) not in task["programs"]:
+            return "", "is damaged"
+    end = time.monotonic() + KNOWN_SECONDS
+    record, fault = solve(task, place, program, 0, KNOWN, lambda: time.monotonic() < end)
+    results = record.partition(b"\n")[2].decode("latin-1")
+    if record:
+        return results, "" if results == task.get("known", results) else "solves a known line wrong"
+    if time.monotonic() < end:
+        return "", f"can't solve a known line: {fault}"
+    return "", f"needs more than {KNOWN_SECONDS} seconds for a known line"
+
+
+def fit_program(task: Task, place: Place) -> Tuple[str, str]:
+    """Returns the name of the first program in `place` that has a SHA-256 of `task` and solves KNOWN within
+    KNOWN_SECONDS, with the results that `task` knows, if any; and these results. Raises ChildProcessError if none is
+    fit."""
     why = "is missing"
-    for program in sorted(folder.absolute().glob("program-?")):
-        end = time.monotonic() + KNOWN_SECONDS
-        record, fault = solve(task, folder, program, 0, KNOWN, lambda end=end: time.monotonic() < end)
-        if record:
-            results = record.partition(b"\n")[2].decode("latin-1")
-            if results == task.get("known", results):
-                return program, results
-            why = "solves a known line wrong"
-        elif time.monotonic() < end:
-            why = f"can't solve a known line: {fault}"
-        else:
-            why = f"needs more than {KNOWN_SECONDS} seconds for a known line"
+    for program in place.programs:
+        results, why = fault_of(task, place, program)
+        if not why:
+            return program, results
     raise ChildProcessError(f"the program {why}")
 
 
-def write_whole(path, pieces, mode=None):
-    """Writes `pieces` to a new file next to `path`, with any `mode`; renames that to `path` once all is on the disk."""
-    beside = path.with_name(f"{path.name}.{os.urandom(4).hex()}.new")
+def task_text(task: Task) -> bytes:
+    """Returns what task.json has for a task: the task and its SHA-256."""
+    return json.dumps({"task": task, "sha256": sha256(json.dumps(task).encode())}, indent=1).encode()
+
+
+def read_task(folder: Path) -> Task:
+    """Returns the task in a folder. Raises ValueError if task.json is damaged, and OSError if it can't be read."""
     try:
-        with beside.open("xb") as file:
-            file.writelines(pieces)
-            file.flush()
-            if mode is not None:
-                os.fchmod(file.fileno(), mode)
-            os.fsync(file.fileno())
-        beside.replace(path)
-    finally:
-        beside.unlink(missing_ok=True)
+        found = json.loads((folder / "task.json").read_bytes())
+        if found["sha256"] == sha256(json.dumps(found["task"]).encode()):
+            return dict(found["task"])
+    except (LookupError, TypeError, ValueError):
+        pass
+    raise ValueError(f"{folder / 'task.json'} is damaged: run ffosolve-many again")
 
 
-def main(folder, part):
-    """Solves a part of the list in a run's folder; writes the record to results. `part` is a name such as 0000000."""
-    task = json.loads((folder / "task.json").read_text())
-    if not re.fullmatch("[0-9]{7}", part) or int(part) >= task["parts"]:
-        raise FileNotFoundError(f"the parts are 0000000 to {task['parts'] - 1:07d}")
-    first, lines = int(part) * task["options"]["--lines"], task["options"]["--lines"]
+def place_in(folder: Path) -> Place:
+    """Returns the programs and the --book-in in the folder of a run."""
+    programs = sorted(path.name for path in folder.glob("program-?"))
+    return Place(str(folder.absolute()), programs, "book-in" if (folder / "book-in").is_file() else None)
+
+
+def parts_in(words: List[str], count: int) -> List[range]:
+    """Returns the parts that `words` name, such as 0000003 or 0-99. Raises ValueError for one that does not exist."""
+    found = [re.fullmatch("([0-9]{1,7})(?:-([0-9]{1,7}))?", word) for word in words]
+    ranges = [range(int(word[1]), min(count, int(word[2] or word[1]) + 1)) for word in found if word]
+    if not words or len(ranges) < len(words) or not all(ranges):
+        raise ValueError(f"name parts from 0 to {count - 1}, such as 0-{count - 1}: '{' '.join(words)}'")
+    return ranges
+
+
+def solve_into(path: Path, mode: int, task: Task, place: Place, program: str, part: int, text: bytes) -> str:
+    """Writes a part's record to `path`, unless it is there. Returns why the part is not solved, or "". Makes room for
+    the record first, so that no part is solved in vain."""
+    with open(os.open(path, os.O_RDWR | os.O_CREAT, mode), "r+b") as file:
+        if read_record(task, part, sha256(text), file.read()):
+            return ""
+        os.posix_fallocate(file.fileno(), 0, 4 * len(text) + 1000)
+        record, why = solve(task, place, program, part, text)
+        file.seek(0)
+        file.write(record)
+        file.truncate()
+        file.flush()
+        os.fsync(file.fileno())
+    return why
+
+
+def main(folder: Path, words: List[str]) -> Iterator[str]:
+    """Solves parts of the list in a run's folder, unless they are solved. Yields an error for each that fails."""
+    task, place = read_task(folder), place_in(folder)
+    parts, program = parts_in(words, task["parts"]), fit_program(task, place)[0]
     with (folder / "list").open("rb") as file:
-        text = b"".join(itertools.islice(file, first, first + lines))
-    record, fault = solve(task, folder, fit_program(task, folder)[0], int(part), text)
-    if not record:
-        raise ChildProcessError(fault)
-    write_whole(folder / "results" / part, [record])
+        mode = os.fstat(file.fileno()).st_mode & 0o666
+        for part in range(1 + max(some[-1] for some in parts)):
+            text = b"".join(itertools.islice(file, task["options"]["--lines"]))
+            if any(part in some for some in parts):
+                why = solve_into(folder / f"results/{part:07d}", mode, task, place, program, part, text)
+                if why:
+                    yield f"part {part:07d}: {why}"
 
 
 if __name__ == "__main__":
+    if sys.version_info < (3, 8):
+        sys.exit(f"solve.py needs Python 3.8 or later, and this is {sys.version.split()[0]}")
     try:
-        main(Path(__file__).resolve().parent, " ".join(sys.argv[1:]))
-    except OSError as why:
-        sys.exit(f"part {' '.join(sys.argv[1:])}: {why}")
+        sys.exit("\n".join(main(Path(__file__).resolve().parent, sys.argv[1:])) or 0)
+    except (OSError, ValueError) as why:
+        sys.exit(f"solve.py {' '.join(sys.argv[1:])}: {why}")
