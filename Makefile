@@ -21,7 +21,7 @@ levels = x86-64-v2 x86-64-v3
 programs = ffosolve ffoscores
 scripts = ffosolve-many ffosolve-games
 exported = ffosolve_*
-version := $(file <VERSION)
+version := $(firstword $(subst +, ,$(file <VERSION)))# a copy of the sources that `make deb` packs has more in it
 major := $(firstword $(subst ., ,$(version)))
 
 $(if $(filter $(levels),$(CPU)),,$(error CPU is $(CPU), but has to be one of: $(levels)))
@@ -142,7 +142,7 @@ tools:
 places = case "$(PREFIX)" in /*) ;; *) echo "PREFIX is $(PREFIX), but has to begin with a slash" >&2; exit 1 ;; esac; \
     bin="$(DESTDIR)$(BINDIR)" lib="$(DESTDIR)$(LIBDIR)" include="$(DESTDIR)$(INCLUDEDIR)" man="$(DESTDIR)$(MANDIR)" \
     share="$(DESTDIR)$(PREFIX)/share"
-documents = README.md LICENSE CHANGELOG.md VERSION \
+documents = README.md LICENSE CHANGELOG.md $(wildcard PROVED) \
     $(shell find docs examples python rust crates/*/specs \( -name __pycache__ -o -name '.*' -o -name target -o -name Cargo.lock \) -prune -o -type f -print)
 
 # Completions call the installed program for its --help, so TAB after bin/ffosolve in a checkout builds nothing.
@@ -164,8 +164,9 @@ install: $(programs:%=out/$(CPU)/%) $(libraries) ## installs programs, library, 
 	done
 	rm -rf "$$share/doc/ffosolve" "$$share/ffosolve"
 	# The package for Python that the scripts use is among the documents, too, but some systems leave these out.
-	for file in VERSION $(filter python/src/%,$(documents)); do install -D -m 644 "$$file" "$$share/ffosolve/$$file"; done
+	for file in $(filter python/src/%,$(documents)); do install -D -m 644 "$$file" "$$share/ffosolve/$$file"; done
 	for file in $(documents); do install -D -m 644 "$$file" "$$share/doc/ffosolve/$$file"; done
+	for place in ffosolve doc/ffosolve; do echo '$(package)' | install -m 644 /dev/stdin "$$share/$$place/VERSION"; done
 	rm -f "$$lib"/libffosolve.so* "$$lib"/glibc-hwcaps/x86-64-v3/libffosolve.so*
 	install -D -m 644 out/x86-64-v2/libffosolve.a "$$lib/libffosolve.a"
 	install -D -m 644 out/x86-64-v3/libffosolve.a "$$lib/libffosolve-x86-64-v3.a"
@@ -191,11 +192,13 @@ uninstall: ## removes what make install installed, and folders that are then emp
 	    "$$lib/pkgconfig/ffosolve.pc" "$$include/ffosolve.h"
 	rm -rf "$$share/doc/ffosolve" "$$share/ffosolve" "$$lib/cmake/ffosolve"
 	# System folders stay, even if they are empty.
-	case '$(PREFIX)' in /usr | /usr/local) exit 0 ;; esac
-	rmdir --ignore-fail-on-non-empty 2>/dev/null "$$bin" "$$lib/glibc-hwcaps/x86-64-v3" "$$lib/glibc-hwcaps" \
+	case '$(PREFIX)' in
+	/usr | /usr/local) ;;
+	*) rmdir --ignore-fail-on-non-empty 2>/dev/null "$$bin" "$$lib/glibc-hwcaps/x86-64-v3" "$$lib/glibc-hwcaps" \
 	    "$$lib/pkgconfig" "$$lib/cmake" "$$lib" "$$include" "$$man/man1" "$$man" "$$share/bash-completion/completions" \
 	    "$$share/bash-completion" "$$share/zsh/site-functions" "$$share/zsh" "$$share/fish/vendor_completions.d" \
-	    "$$share/fish" "$$share/doc" "$$share" "$(DESTDIR)$(PREFIX)" || :
+	    "$$share/fish" "$$share/doc" "$$share" "$(DESTDIR)$(PREFIX)" || : ;;
+	esac
 	echo "uninstalled from $(DESTDIR)$(PREFIX)"
 
 include packaging/packages.mk
