@@ -191,8 +191,8 @@ def names(size, *texts):
 
 
 def test_players_tournament_and_year_are_told():
-    """In each record, the tournament has the number 7, Black 300, and White 301, all counted from 0."""
-    whole = wthor(RECORDS, empties=EMPTIES)
+    """In the records of wrong scores, the tournament has the number 7, Black 300, and White 301, all counted from 0."""
+    whole = wthor([it if at in (2, 5) else bytes(6) + it[6:] for at, it in enumerate(RECORDS)], empties=EMPTIES)
     players, tournaments = [*["?"] * 300, "Ann Smith", "Andr\u00e9 \x01\u00a0B."], [*["?"] * 7, "Rome"]
     for name, content, title in (
         ("it.wtb", whole, " (2001)"),
@@ -203,7 +203,7 @@ def test_players_tournament_and_year_are_told():
         ("WTHOR.TRN", names(26, *tournaments)[:-30], ""),
         ("WTHOR.TRN", b"", ""),
         ("WTHOR.JOU", names(20, *players), " (Ann Smith - Andr\u00e9 B.)"),
-        ("other.jou", b"", ""),
+        ("other.jou", names(20, *players), ""),
     ):
         write(f"in/{name}", content)
         games("compare", "book", "in/it.wtb", status=1, out=both(name="in/it.wtb", title=title) + counts())
@@ -358,14 +358,14 @@ def test_check_solves_compares_and_fixes():
     write("it.wtb", wthor(RECORDS + RECORDS[2:3], empties=EMPTIES))
     write("other.wtb", wthor([record(PLAYED[1], exact + 1)], empties=6))
     os.mkdir("new")
-    games(*CHECK, "--fix=new", "--jobs", "2", "--lines=4", "other.wtb", status=1,
+    games(*CHECK, "--fix=new", "--jobs", "2", "--lines=5", "other.wtb", status=1,
           out="".join((both(), difference(COUNT + 1, EXACT[2], -2), difference(1, exact, 1, "other.wtb"),
                        counts(COUNT + 2, 4))),
           err=f"new/it.wtb: theoretical scores changed 3 of {COUNT + 1}, not compared 0\n"
               "new/other.wtb: theoretical scores changed 1 of 1, not compared 0")
     assert Path("new/it.wtb").read_bytes() == wthor(EXACT_RECORDS + EXACT_RECORDS[2:3], empties=EMPTIES)
     assert Path("new/other.wtb").read_bytes() == wthor([record(PLAYED[1], exact)], empties=6)
-    assert parts() == (COUNT + 4) // 4  # each position once
+    assert (COUNT, parts()) == (14, 3)  # each position once
     write("it.wtb", RIGHT)  # other scores of positions that are solved
     games("compare", "it.wtb.check/list.book", "it.wtb", out=counts(differ=0))
 
@@ -447,7 +447,7 @@ OPTIONS = ("--max-empties=4", "--lines=x", "--jobs=7", "--scheduler=h1:8786", "-
 ))
 def test_ffosolve_many_gets_the_options(alone, words, given, folder_named):
     write("22.wtb", wthor([record(PLAYED[0])], empties=22))
-    write("tools/ffosolve-many", '#!/bin/sh\necho "$*" >words\nread -r line || echo output && exit 3\n')
+    write("tools/ffosolve-many", '#!/bin/sh\necho "$*" >words\necho output\nexit 3\n')
     ran = alone("check", "it.wtb", *words)
     assert Path("words").read_text() == f"{given} --book-out={folder_named}/list.book -- {folder_named}/list.obf\n"
     assert ran.stdout == "output\n" * ("--cut" in words)

@@ -236,7 +236,7 @@ def solve_many(words: List[str]) -> None:
     words = ["setpriv", "--pdeathsig", "TERM", program, *words]  # so that it ends with this program
     output = None if "--cut" in words else subprocess.DEVNULL
     with refusing("run", SOLVER):
-        status = subprocess.run(words, stdin=subprocess.DEVNULL, stdout=output).returncode
+        status = subprocess.run(words, stdout=output).returncode
     if status:
         raise Refusal(f"{SOLVER} has not solved all, so no score is compared", status if status > 1 else UNREADABLE)
 
