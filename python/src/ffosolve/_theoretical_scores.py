@@ -11,7 +11,7 @@ from ._games import HEADER, RECORD
 from ._positions import Position
 
 FIRST_LINE = b"% ffobook 2 winner"
-ENTRY = re.compile(rb"([XO-]{64}) X;(?: (?:PS|--):([+-]\d\d);| [A-H][1-8]:([+-]\d\d);(?: [A-H][1-8]:\3;)*)")
+ENTRY = re.compile(rb"[XO-]{64} X;(?: (?:PS|--):([+-]\d\d);| [A-H][1-8]:([+-]\d\d);(?: [A-H][1-8]:\2;)*)")
 YEAR = struct.Struct("<10x H")  # in the header of a WTHOR file
 NUMBERS = struct.Struct("<HHH")  # in a game's record: the numbers, from 0, of the tournament, of Black and of White
 PLAYER, TOURNAMENT = 20, 26  # bytes of a name, with the NUL after it, in a file of players or tournaments
@@ -34,13 +34,13 @@ class Scored(NamedTuple):
 def exact_scores(book: Iterable[bytes], wanted: Iterable[Position]) -> Dict[Position, int]:
     """Returns {position: exact score for its mover} for each wanted position that a book has. `book` are the lines of
     the book's text. Raises BadBook."""
-    boards = dict(entries(book))
-    found = ((position, image) for position in wanted for image in images(position.to_obf("X")[:64].encode()))
-    return {position: boards[image] for position, image in found if image in boards}
+    scores = dict(entries(book))
+    found = ((position, position.canonical()) for position in wanted)
+    return {position: scores[canonical] for position, canonical in found if canonical in scores}
 
 
-def entries(book: Iterable[bytes]) -> Iterator[Tuple[bytes, int]]:
-    """Yields (board, score for the mover, X) for each entry of a book, which has one of a position's eight images."""
+def entries(book: Iterable[bytes]) -> Iterator[Tuple[Position, int]]:
+    """Yields (canonical position, score for the mover) for each entry of a book."""
     lines = (line.rstrip(b"\r\n") for line in book)
     if next(lines, b"") != FIRST_LINE:
         raise BadBook(f"it does not begin with `{FIRST_LINE.decode()}`, as what ffosolve-many --book-out writes")
@@ -48,19 +48,10 @@ def entries(book: Iterable[bytes]) -> Iterator[Tuple[bytes, int]]:
         match = ENTRY.fullmatch(line)
         if match is None:
             raise BadBook(f"its line {number} is not an entry of a book")
-        score = int(match[2] or match[3])
+        score = int(match[1] or match[2])
         if abs(score) > 64 or score % 2:
             raise BadBook(f"its line {number} has the score {score:+03}, with which no game ends")
-        yield match[1], score
-
-
-def images(board: bytes) -> Iterator[bytes]:
-    """Yields the eight turned and mirrored images of a board, which has 64 squares in the order A1, B1, .. H8."""
-    for squares in (board, b"".join(board[column::8] for column in range(8))):
-        rows = [squares[at:at + 8] for at in range(0, 64, 8)]
-        for upright in (rows, rows[::-1]):
-            yield b"".join(upright)
-            yield b"".join(row[::-1] for row in upright)
+        yield Position.from_obf(line), score
 
 
 def title(file: str, game: int) -> str:
