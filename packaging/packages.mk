@@ -1,20 +1,21 @@
 # Makes packages from a clean checkout, with programs and libraries for both levels of processors. They are put together
 # in a temporary folder, since rt refuses a checkout with links.
+PYTHON = python3
 
 # The version of a package: VERSION and, if commits came after its last change, their number and the last commit.
-later = $(shell git rev-list --count "$$(git log -1 --format=%H -- VERSION)..HEAD" 2>/dev/null)
-package = $(version)$(patsubst %,+%.g$(shell git rev-parse HEAD | cut -c 1-7),$(filter-out 0,$(later)))
+package = $(or $(shell $(PYTHON) python/src/ffosolve/_version.py 2>/dev/null),$(version))
 archive = ffosolve-$(package)-linux-x86-64
 clean = change=$$(git status --porcelain | head -n 1) || exit; [ -z "$$change" ] || { echo "not committed:$$change" >&2; exit 1; }
 room = room=$$(mktemp -d); trap 'rm -rf "$$room"' EXIT; umask 022
-seconds = $$(git log -1 --format=%ct)
+seconds = $$(git log -1 --format=%ct 2>/dev/null || stat -c %Y "$(CURDIR)/VERSION")
 
-# $(call stage,WORDS,PREFIX) installs into $$room. Each program in bin/ starts the one for the processor's level.
-stage = $(MAKE) -s install CPU=x86-64-v2 DESTDIR="$$room" PREFIX=$2 $1 >/dev/null; \
-    for program in $(programs); do \
-        for level in $(levels); do install -D "out/$$level/$$program" "$$room$2/libexec/ffosolve/$$level/$$program"; done; \
-        install packaging/start "$$room$2/bin/$$program"; \
-    done
+# $(call starters,FOLDER) writes programs into FOLDER/bin which start those for the processor's level, in FOLDER/libexec.
+starters = for program in $(programs); do \
+    install -D packaging/start "$1/bin/$$program"; \
+    for level in $(levels); do install -D "out/$$level/$$program" "$1/libexec/ffosolve/$$level/$$program"; done; done
+
+stage: install
+	$(call starters,$(DESTDIR)$(PREFIX))
 
 # $(call texts,KIND,OTHER KIND,BIN,DOC,FOLDER) writes README.md and PROVED into FOLDER.
 texts = sed -e '/^$2|/d; s/^$1|//; s|@BIN@|$3|g; s|@DOC@|$4|g; s/@PACKAGE@/$(package)/' packaging/README.md | $(call fill,/dev/stdin,"$5/README.md"); \
@@ -29,9 +30,9 @@ dist: levels ## makes out/ffosolve-VERSION-linux-x86-64.tar.gz, which runs where
 	$(clean)
 	$(room)
 	top="$$room/$(archive)"
-	$(call stage,,/$(archive))
-	rm "$$top/share/doc/ffosolve/README.md"
+	$(MAKE) -s stage CPU=x86-64-v2 DESTDIR="$$room" PREFIX=/$(archive) >/dev/null
 	ln -s share/doc/ffosolve/examples "$$top/examples"
+	rm "$$top/share/doc/ffosolve/README.md"
 	$(call texts,archive,deb,bin/,share/doc/ffosolve,$$top)
 	(cd "$$top" && find . -type f ! -name SHA256SUMS | LC_ALL=C sort | xargs -d '\n' sha256sum >SHA256SUMS)
 	tar -C "$$room" --sort=name --mtime="@$(seconds)" --owner=0 --group=0 --numeric-owner --format=ustar -c $(archive) | gzip -9n >out/$(archive).tar.gz.new
@@ -39,38 +40,31 @@ dist: levels ## makes out/ffosolve-VERSION-linux-x86-64.tar.gz, which runs where
 	(cd out && sha256sum $(archive).tar.gz >$(archive).tar.gz.sha256)
 	echo "made: $$PWD/out/$(archive).tar.gz"
 
-build_wheel = FFOSOLVE_WHEEL_VERSION='$(package)' \
-    python3 -Bc 'import sys, ffosolve_wheel; print(ffosolve_wheel.build_wheel(sys.argv[1]))'
-
-# The package for Python is where Debian's Python looks for it, as if pip had installed it; but pip can't remove it.
-deb: levels ## makes out/ffosolve_VERSION_amd64.deb, a package for Debian
+# dpkg-buildpackage runs debian/rules in a copy of the checkout, whose first lines are those that only make knows.
+deb: levels ## makes packages for Debian: out/ffosolve_VERSION_amd64.deb, out/libffosolve1_VERSION_amd64.deb, ..
 	$(clean)
 	$(room)
-	usr="$$room/usr" doc="$$room/usr/share/doc/ffosolve" python="$$room/usr/lib/python3/dist-packages"
-	$(call stage,LIBDIR=/usr/lib/x86_64-linux-gnu,/usr)
-	$(call texts,deb,archive,,/usr/share/doc/ffosolve,$$doc)
-	wheel=$$(cd python/backend && $(build_wheel) "$$room")
-	python3 -m zipfile -e "$$room/$$wheel" "$$python"
-	rm -r "$$room/$$wheel" "$$python"/*.dist-info/RECORD "$$doc/python"
-	echo debian >"$$python/ffosolve-$(package).dist-info/INSTALLER"
-	mv "$$doc/LICENSE" "$$doc/copyright"
-	printf '%s\n' 'ffosolve ($(package)) unstable; urgency=medium' '' '  * CHANGELOG.md, next to this file, says what is new.' '' \
-	    " -- Gimzolens <ffosolve@gimzolens.invalid>  $$(date -Rud "@$(seconds)")" >"$$doc/changelog"
-	gzip -9n "$$doc/changelog" "$$usr"/share/man/man1/*
-	strip --strip-unneeded -R .comment "$$usr"/libexec/ffosolve/*/* $$(find "$$usr/lib" -name 'libffosolve.so.$(version)')
-	install -D -m 644 packaging/lintian-overrides "$$usr/share/lintian/overrides/ffosolve"
-	sed 's/@PACKAGE@/$(package)/g' packaging/control.in | $(call fill,/dev/stdin,"$$room/DEBIAN/control")
-	install packaging/postinst packaging/prerm "$$room/DEBIAN"
-	echo 'activate-noawait ldconfig' >"$$room/DEBIAN/triggers"
-	echo 'libffosolve $(major) libffosolve$(major) (>= $(package))' >"$$room/DEBIAN/shlibs"
-	(cd "$$room" && find usr -type f | LC_ALL=C sort | xargs -d '\n' md5sum >DEBIAN/md5sums)
-	chmod -R u=rwX,go=rX "$$room"
-	SOURCE_DATE_EPOCH="$(seconds)" dpkg-deb --root-owner-group -Zxz --build "$$room" out/ffosolve_$(package)_amd64.deb >/dev/null
-	echo "made: $$PWD/out/ffosolve_$(package)_amd64.deb"
+	copy="$$room/ffosolve"
+	mkdir "$$copy"
+	git ls-files -z | xargs -0 cp -p --parents -t "$$copy"
+	cp -pr --parents $(levels:%=out/%) "$$copy"
+	$(call texts,deb,archive,,/usr/share/doc/ffosolve,$$copy)
+	printf '%s\n' 'ffosolve ($(package)) unstable; urgency=medium' '' '  * CHANGELOG.md, in the package ffosolve, says what is new.' '' \
+	    " -- Gimzolens <ffosolve@gimzolens.invalid>  $$(date -Rud "@$(seconds)")" >"$$copy/debian/changelog"
+	echo '$(package)' >"$$copy/VERSION"
+	touch -r LICENSE "$$copy/VERSION"
+	said=$$(cd "$$copy" && PATH=/usr/sbin:/usr/bin:/sbin:/bin dpkg-buildpackage --build=binary --unsigned-changes 2>&1) || { echo "$$said" | tail -n 20 >&2; exit 1; }
+	cp "$$room"/*.deb out
+	ls -d "$$room"/*.deb | sed "s|$$room|made: $$PWD/out|"
 
-wheel: levels ## makes out/ffosolve-VERSION-py3-none-manylinux_2_34_x86_64.whl, the package for Python with the library
+wheel: levels ## makes out/ffosolve-VERSION-py3-none-manylinux_2_34_x86_64.whl, the package for Python with programs and library
 	$(clean)
-	name=$$(cd python/backend && FFOSOLVE_WHEEL_LIBRARIES=../../out $(build_wheel) ../../out)
-	echo "made: $$PWD/out/$$name"
+	$(room)
+	$(call starters,$$room)
+	for level in $(levels); do install -D -m 644 out/$$level/libffosolve.so "$$room/lib/$$level/libffosolve.so.$(major)"; done
+	(cd python && FFOSOLVE_STAGE="$$room" SOURCE_DATE_EPOCH="$(seconds)" $(PYTHON) -Bm hatchling build --target wheel --directory ../out >/dev/null)
+	made="$$PWD/out/ffosolve-$(package)-py3-none-manylinux_2_34_x86_64.whl"
+	chmod 644 "$$made"
+	echo "made: $$made"
 
-.PHONY: dist deb wheel
+.PHONY: stage dist deb wheel

@@ -19,7 +19,7 @@ FIRST_OBF, FIRST = ROOT / "examples/first.obf", stored("examples", "first.report
 STRICT = ["-Wall", "-Wextra", "-Wpedantic", "-Wshadow", "-Wconversion", "-Werror"]
 C = ["cc", "-std=c11", *STRICT, "-O1"]
 CXX = ["c++", "-std=c++11", *STRICT, "-O1", "-x", "c++"]
-PIP = [sys.executable, "-m", "pip", "--disable-pip-version-check", "install", "--quiet", "--no-index"]
+PIP = [sys.executable, *"-m pip --disable-pip-version-check install --quiet --no-index --no-build-isolation".split()]
 LONGEST = 300  # seconds that a command may take, since compilers and solvers are slow on a busy machine
 WITHOUT_GIT = {name: text for name, text in os.environ.items() if not name.startswith("GIT_")}  # a git hook sets those
 
@@ -32,10 +32,11 @@ def names_of_files():
 
 
 def copied_checkout(folder):
-    """Builds everything, and copies the checkout's files and out/, but not out/tests, logs, archives and unfinished
+    """Builds everything, and copies the checkout's files and out/, but not out/tests, logs, packages and unfinished
     files, to `folder`; returns `folder`. The copies keep their modification times, and everybody may read them."""
     run("make", "-s", "-C", ROOT, "levels", stderr=None, timeout=None, check=True)
-    shutil.copytree(ROOT / "out", folder / "out", ignore=shutil.ignore_patterns("tests", "*.log", "*.tar.gz*", "*.new"))
+    others = shutil.ignore_patterns("tests", "*.log", "*.tar.gz*", "*.deb", "*.whl", "*.new")
+    shutil.copytree(ROOT / "out", folder / "out", ignore=others)
     run("cp", "--parents", "--preserve=mode,timestamps", *names_of_files(), folder, cwd=ROOT, check=True)
     run("chmod", "-R", "a+rX,u+w", folder, check=True)
     return folder
@@ -111,6 +112,7 @@ class Prefix:
     def site(self):
         """The folder into which pip has installed the package for Python, without a network."""
         need_module("pip")
+        need_module("hatchling")
         self.make(*PIP, "--target", self.work / "site", self.work / "python")
         return self.work / "site"
 

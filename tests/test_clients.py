@@ -158,7 +158,7 @@ class PythonPackage(unittest.TestCase):
 
     def test_pip_installs_its_program(self):
         program = PREFIX.site / "bin/ffosolve-games"
-        self.assertEqual(PREFIX.make(program, "--version").stdout, f"ffosolve-games {VERSION}\n")
+        self.assertEqual(PREFIX.make(program, "--version").stdout, f"ffosolve-games {ffosolve.__version__}\n")
         self.assertRegex(PREFIX.make(program, "--empties=59", text="f5").stdout, r"\A\S{64} O; % -, game 1\n\Z")
 
     def test_a_library_of_another_version_or_without_a_call_is_refused(self):
@@ -176,10 +176,10 @@ class PythonPackage(unittest.TestCase):
 
     def built(self, source, *kinds):
         """Builds archives of the package for Python in the folder `source`, one of each of `kinds`, such as "sdist", by
-        the build backend in source/backend. Returns the archives' paths."""
-        hooks = "import sys, ffosolve_wheel as made\n"
+        the build backend. Returns the archives' paths."""
+        hooks = "import sys, hatchling.build as made\n"
         hooks += "for kind in sys.argv[2:]: print(getattr(made, f'build_{kind}')(sys.argv[1]))"
-        names = PREFIX.make(sys.executable, "-Bc", hooks, PREFIX.work, *kinds, cwd=source / "backend").stdout.split()
+        names = PREFIX.make(sys.executable, "-Bc", hooks, PREFIX.work, *kinds, cwd=source).stdout.split()
         return [PREFIX.work / name for name in names]
 
     def test_pip_installs_its_source_archive_and_an_editable_wheel(self):
@@ -187,17 +187,17 @@ class PythonPackage(unittest.TestCase):
         for path, place in zip(self.built(PREFIX.work / "python", "sdist", "editable"), ("of-archive", "editable")):
             PREFIX.make(*PIP, "--target", PREFIX.work / place, path)
         self.assertEqual(sorted(os.listdir(PREFIX.work / "of-archive/ffosolve")), wanted)
-        self.assertEqual((PREFIX.work / "editable/ffosolve.pth").read_text(), f"{PREFIX.work / 'python/src'}\n")
+        self.assertEqual((PREFIX.work / "editable/ffosolve.pth").read_text(), str(PREFIX.work / "python/src"))
 
     def test_the_wheel_and_the_source_archive_are_fit_to_be_published(self):
-        head, paths = f"ffosolve-{VERSION}", self.built(ROOT / "python", "wheel", "sdist")
+        head, paths = f"ffosolve-{ffosolve.__version__}", self.built(ROOT / "python", "wheel", "sdist")
         self.assertEqual([path.name for path in paths], [f"{head}-py3-none-any.whl", f"{head}.tar.gz"])
         with zipfile.ZipFile(paths[0]) as wheel, tarfile.open(paths[1]) as archive:
             licence, metadata = (wheel.read(f"{head}.dist-info/{name}") for name in ("LICENSE", "METADATA"))
             of_archive = [archive.extractfile(f"{head}/{name}").read() for name in ("LICENSE", "PKG-INFO")]
         self.assertEqual((licence, of_archive), (stored("LICENSE"), [licence, metadata]))
         fields = email.message_from_string(metadata.decode())
-        for field in ("Summary", "Home-page", "Author", "Author-email", "License", "Project-URL", "Requires-Python"):
+        for field in ("Summary", "Author-email", "License", "Project-URL", "Requires-Python"):
             self.assertTrue(fields[field], field)
         self.assertEqual(fields["Version"], ffosolve.__version__)
         self.assertEqual(fields["Description-Content-Type"], "text/markdown")

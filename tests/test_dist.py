@@ -3,16 +3,23 @@ import hashlib
 import os
 import re
 import shutil
+import sys
 import tarfile
-import unittest
+from functools import partial
 from pathlib import Path
-from unittest import mock
+from tempfile import gettempdir
+from types import SimpleNamespace
+
+import pytest
 
 from tests.prefix import FIRST, FIRST_OBF, LEVELS, VERSION, WITHOUT_GIT, copied_checkout, files_below, path_without
-from tests.support import ROOT, InFolder, is_v3, lack, module_folder, need, run, stored, write
+from tests.support import ROOT, ends, is_v3, lack, module_folder, need, need_module, run, stored, write
+from tests.test_install import completed_by_zsh
 
 COMMIT = "GIT_COMMITTER_DATE='1700000000 +0000' git -c user.name=a -c user.email=a@b commit -q -m one"
 COMMIT_ALL = f"git init -q; git add -A; {COMMIT}"
+SCRIPTS = ["ffosolve-many", "ffosolve-games"]
+PACKAGES = ["ffosolve", "libffosolve-dev", "libffosolve1", "python3-ffosolve"]
 # A Python program: solves the position in its argument, and prints versions, best moves, and the files that it loaded.
 SOLVE = """
 import importlib.metadata, re, sys, ffosolve
@@ -21,285 +28,400 @@ best = solver.solve(ffosolve.Position.from_obf(sys.argv[1])).squares
 print(importlib.metadata.version("ffosolve"), ffosolve.__version__, solver.library_version, best)
 print(ffosolve.__file__, re.search("/.*/libffosolve.*", open("/proc/self/maps").read())[0])
 """
-SOLVES = ("-c", SOLVE, FIRST_OBF.read_text().splitlines()[1])
 
 
 def make(target, folder, **how):
-    return run("make", "-s", "-C", folder, target, text=True, timeout=300, **how)
+    return run("make", "-s", "-C", folder, target, f"PYTHON={sys.executable}", text=True, timeout=300, **how)
 
 
-def made(target, folder, name, **how):
-    """Runs make for a target in the checkout `folder`. Asserts that make prints only that it made out/NAME; returns the
-    path of this file."""
-    path, ran = folder / "out" / name, make(target, folder, **how)
-    if (ran.returncode, ran.stdout, ran.stderr) != (0, f"made: {path}\n", ""):
-        raise AssertionError(ran)
-    return path
+def made(target, folder, *names, **how):
+    """Runs make for a target in the checkout `folder`. Asserts that make prints only that it made the files `names` in
+    out; returns the first one's path."""
+    paths, ran = [folder / "out" / name for name in names], make(target, folder, **how)
+    assert (ran.returncode, ran.stdout, ran.stderr) == (0, "".join(f"made: {path}\n" for path in paths), "")
+    return paths[0]
 
 
-def setUpModule():
-    """Makes the archive in two checkouts that differ in path, times, umask, locale and time zone, and unpacks the first
-    archive."""
-    global CHECKOUTS, ARCHIVES, HEAD, PACKAGE, NAME, UNPACKED, WITHOUT_RT
+@pytest.fixture(scope="module")
+def dist():
+    """Archives of two checkouts that differ in path, times, umask, locale and time zone; the first archive, unpacked;
+    their versions and names; and an environment without rt. Commands of this module see no variables of git."""
     need("make", "git", "rt")
-    unittest.enterModuleContext(mock.patch.dict(os.environ, WITHOUT_GIT, clear=True))
-    work = module_folder()
-    first = copied_checkout(work / "a")
-    run("sh", "-euc", f"git init -q; git add VERSION; {COMMIT}; {COMMIT_ALL}", cwd=first, check=True)
-    CHECKOUTS = [first, shutil.copytree(first, work / "another place")]
-    HEAD = run("git", "rev-parse", "HEAD", cwd=first, text=True).stdout.strip()
-    PACKAGE = f"{VERSION}+1.g{HEAD[:7]}"
-    NAME = f"ffosolve-{PACKAGE}-linux-x86-64"
-    os.utime(CHECKOUTS[1] / "README.md", (0, 0))
-    other = {"umask": 0o077, "env": {**os.environ, "LC_ALL": "C", "TZ": "UTC+9"}}
-    ARCHIVES = [made("dist", checkout, f"{NAME}.tar.gz", **how) for checkout, how in zip(CHECKOUTS, ({}, other))]
-    UNPACKED = work / "a folder with blanks" / NAME
-    UNPACKED.parent.mkdir()
-    run("tar", "-xzf", ARCHIVES[0], "-C", UNPACKED.parent, check=True)
-    WITHOUT_RT = {"PATH": path_without("rt", work), "TMPDIR": str(work), "PYTHONDONTWRITEBYTECODE": "1"}
+    with pytest.MonkeyPatch.context() as patch:
+        for name in os.environ.keys() - WITHOUT_GIT:
+            patch.delenv(name)
+        work = module_folder()
+        first = copied_checkout(work / "a")
+        run("sh", "-euc", f"git init -q; git add VERSION; {COMMIT}; {COMMIT_ALL}", cwd=first, check=True)
+        second = shutil.copytree(first, work / "another place")
+        head = run("git", "rev-parse", "HEAD", cwd=first, text=True).stdout.strip()
+        version = f"{VERSION}+1.g{head[:7]}"
+        name = f"ffosolve-{version}-linux-x86-64"
+        os.utime(second / "README.md", (0, 0))
+        other = {"umask": 0o077, "env": {**os.environ, "LC_ALL": "C", "TZ": "UTC+9"}}
+        archives = [made("dist", place, f"{name}.tar.gz", **how) for place, how in ((first, {}), (second, other))]
+        unpacked = work / "a folder with blanks" / name
+        unpacked.parent.mkdir()
+        run("tar", "-xzf", archives[0], "-C", unpacked.parent, check=True)
+        yield SimpleNamespace(
+            first=first, second=second, archives=archives, head=head, version=version, name=name, unpacked=unpacked,
+            without_rt={"PATH": path_without("rt", work), "TMPDIR": str(work), "PYTHONDONTWRITEBYTECODE": "1"})
 
 
-class Case(InFolder):
-    def shows(self, readme, count, start):
-        """Asserts that a package's README has at most 400 words, no placeholder, and `count` commands that succeed
-        (ffoscores: status 1) and print the known results for first.obf and masks.txt. `start` runs a command."""
-        need("cc", "pkg-config", "man")
-        text = readme.read_text()
-        self.assertLessEqual(len(text.split()), 400)
-        self.assertEqual(re.findall(r"@\w+@|^\w+\|.*", text, re.M), [])
-        blocks = [re.sub("^    ", "", block, flags=re.M) for block in re.findall(r"(?:^    .*\n)+", text, re.M)]
-        commands = re.findall(r"^(?!\[1\]|\d \S|solved).+$", "".join(blocks), re.M)
-        self.assertIn(FIRST, blocks)
-        self.assertEqual(len(commands), count)
-        for command in commands:
-            ran = start("sh", "-c", command)
-            self.assertEqual((ran.stderr, ran.returncode), ("", int("ffoscores" in command)), ran)
-            if command.endswith("first.obf"):
-                self.assertEqual(ran.stdout, FIRST)
-            if "masks.txt" in command:
-                self.assertEqual(ran.stdout, stored("examples/answers.txt").decode())
+def shows(readme, count, start):
+    """Asserts that a package's README has at most 400 words, no placeholder, and `count` commands that succeed
+    (ffoscores: status 1) and print the known results for first.obf and masks.txt. `start` runs a command."""
+    need("cc", "pkg-config", "man")
+    text = readme.read_text()
+    assert len(text.split()) <= 400
+    assert re.findall(r"@\w+@|^\w+\|.*", text, re.M) == []
+    blocks = [re.sub("^    ", "", block, flags=re.M) for block in re.findall(r"(?:^    .*\n)+", text, re.M)]
+    commands = re.findall(r"^(?!\[1\]|\d \S|solved).+$", "".join(blocks), re.M)
+    assert FIRST in blocks
+    assert len(commands) == count
+    for command in commands:
+        ran = start("sh", "-c", command)
+        assert (ran.stderr, ran.returncode) == ("", int("ffoscores" in command)), ran
+        if command.endswith("first.obf"):
+            assert ran.stdout == FIRST
+        if "masks.txt" in command:
+            assert ran.stdout == stored("examples/answers.txt").decode()
 
 
-class Packages(Case):
-    def test_two_checkouts_make_the_same_bytes(self):
-        first, second = (hashlib.sha256(path.read_bytes()).hexdigest() for path in ARCHIVES)
-        self.assertEqual(first, second)
-        self.assertEqual(Path(f"{ARCHIVES[0]}.sha256").read_text(), f"{first}  {NAME}.tar.gz\n")
-
-    def test_entries_are_sorted_in_one_folder_with_the_time_of_the_commit_and_owner_0(self):
-        with tarfile.open(ARCHIVES[0]) as archive:
-            entries = archive.getmembers()
-        names = [entry.name.split("/") for entry in entries]
-        self.assertEqual((names, {top for top, *_ in names}), (sorted(names), {NAME}))
-        owners = {(entry.uid, entry.gid, entry.uname, entry.gname, entry.mtime) for entry in entries}
-        self.assertEqual(owners, {(0, 0, "", "", 1700000000)})
-        self.assertLessEqual({oct(entry.mode) for entry in entries}, {"0o644", "0o755", "0o777"})
-        self.ends((0, "", ""), "git", "-C", CHECKOUTS[0], "status", "--porcelain")
-
-    def test_archive_has_what_make_install_installs_except_readme(self):
-        stage, documents = UNPACKED.parent / "stage", "share/doc/ffosolve/"
-        run("make", "-s", "-C", CHECKOUTS[0], "install", "PREFIX=/p", f"DESTDIR={stage}", check=True)
-        self.assertEqual(files_below(stage / "p") - files_below(UNPACKED), {f"{documents}README.md"})
-        for name in ("docs", "CHANGELOG.md", "crates/othello_rules/specs", "examples"):
-            place = UNPACKED / name if name == "examples" else UNPACKED / documents / name
-            self.ends((0, "", ""), "diff", "-r", CHECKOUTS[0] / name, place)
-
-    def test_checksums_are_of_all_files(self):
-        names = re.findall(r"^[0-9a-f]{64}  \./(.*)$", (UNPACKED / "SHA256SUMS").read_text(), re.M)
-        files = {name for name in files_below(UNPACKED) if not (UNPACKED / name).is_symlink()}
-        self.assertEqual(set(names), files - {"SHA256SUMS"})
-
-    def test_the_file_proved_names_commit_kit_and_the_crates_of_each_program_lowest_first(self):
-        text = (UNPACKED / "PROVED").read_text()
-        kit = run("rt", "version", text=True).stdout.strip()
-        self.assertIn(f"ffosolve {PACKAGE}, commit {HEAD}, {kit}\n", text)
-        uses = dict(re.findall(r"^(\w+)[^:#\n]*:(.*)$", stored("crates.txt").decode(), re.M))
-        crates = {place: line.split() for place, line in re.findall(r"^(\S+/\S+): (.*)$", text, re.M)}
-        self.assertEqual({place: names[-1] for place, names in crates.items()}, {
-            "bin/ffosolve": "ffosolve", "bin/ffoscores": "ffoscores", "lib/libffosolve.*": "ffosolve_c"})
-        for names in crates.values():
-            self.assertEqual(len(set(names)), len(names))
-            for at, name in enumerate(names):
-                self.assertLessEqual({it for it in uses[name].split() if it in uses}, set(names[:at]))
-
-    def test_no_program_has_a_path_of_the_build(self):
-        for name in files_below(UNPACKED):
-            if name.startswith(("bin/", "lib/", "libexec/")):
-                for place in (ROOT, CHECKOUTS[0], UNPACKED, os.sep + "tmp."):
-                    self.assertNotIn(os.fsencode(place), (UNPACKED / name).read_bytes())
-
-    def test_files_that_texts_name_are_there(self):
-        """Documents, sources and manual pages may also name a reader's own files, in FOLDER/ or work/. Those in docs/
-        may name tests, benchmarks and proofs, which only the checkout has, but not in commands that they show."""
-        named = re.compile(r"(?<![\w/<}.-])((?:[\w-]+[\w.-]*/)+[\w-]+\.(?:md|py|rs|c|h|toml|txt|obf|antt|a|so))\b")
-        files = files_below(UNPACKED)
-        for path in [UNPACKED / name for name in files]:
-            if path.suffix not in (".md", ".py", ".c", ".rs", ".h", ".toml", ".pc") and path.parent.name != "man1":
-                continue
-            text = path.read_text()
-            elsewhere = ("FOLDER/", "work/") + ("tests/", "bench/", "proofs/") * (path.parent.name == "docs")
-            for name in named.findall(text):
-                is_there = any(f"/{file}".endswith(f"/{name.lstrip('./')}") for file in files)
-                self.assertTrue(is_there or name.startswith(elsewhere), (path, name))
-            if path.suffix == ".md":
-                words = re.findall(r"[\w./-]+", " ".join(re.findall(r"^(?:\$ |bin/).*$", text, re.M)))
-                missing = [word for word in words if (ROOT / word).is_file() and not (UNPACKED / word).is_file()]
-                self.assertEqual(missing, [], path)
-
-    def test_the_commands_of_readme_print_what_it_shows(self):
-        how = {"cwd": UNPACKED, "env": WITHOUT_RT, "text": True, "timeout": 300}
-        self.shows(UNPACKED / "README.md", 7, lambda *words: run(*words, **how))
-
-    def test_ffosolve_many_has_the_programs_of_both_levels(self):
-        words = (UNPACKED / "bin/ffosolve-many", "--quiet", "work", FIRST_OBF)
-        self.ends((0, FIRST, ""), *words, env=WITHOUT_RT)
-        programs = [path.read_bytes() for path in sorted(Path("work").glob("program-?"))]
-        wanted = [UNPACKED / "libexec/ffosolve" / level / "ffosolve" for level in LEVELS[::-1]]
-        self.assertEqual(programs, [path.read_bytes() for path in wanted])
-
-    def test_the_program_for_the_level_that_the_loader_reports_is_started(self):
-        top = self.folder / "top"
-        start = top / "bin/ffosolve"
-        text = (UNPACKED / "bin/ffosolve").read_text()
-        write(start, text.replace("/lib64/ld-linux-x86-64.so.2", str(self.folder / "loader")))
-        for level in LEVELS:
-            write(top / "libexec/ffosolve" / level / "ffosolve", f'#!/bin/sh\necho {level} "$#" "$@"\nexit 3\n')
-        os.symlink(start, "linked")
-        for line, level in (("  x86-64-v3 (supported, searched)", LEVELS[1]), ("  x86-64-v3", LEVELS[0])):
-            write("loader", f"#!/bin/sh\necho '{line}'\n")
-            for words in (start, "./linked"):
-                self.ends((3, f"{level} 1 a b\n", ""), words, "a b")
-
-    def needs_libc_alone(self, path):
-        """Asserts that a program or library needs no shared library but libc.so.6, and no glibc newer than 2.34."""
-        need("readelf")
-        printed = run("readelf", "-d", "-V", path, text=True).stdout
-        versions = re.findall(r"GLIBC_([\d.]+)", printed)
-        self.assertLessEqual(max(tuple(map(int, version.split("."))) for version in versions), (2, 34), path)
-        self.assertEqual(re.findall(r"Shared library: \[(.*)\]", printed), ["libc.so.6"], path)
-
-    def test_the_programs_need_only_the_c_library(self):
-        for program in (UNPACKED / "libexec/ffosolve").glob("*/*"):
-            self.needs_libc_alone(program)
-        empty = self.folder / "empty"
-        shutil.copytree(UNPACKED / "libexec", empty / "opt")
-        shutil.copy(FIRST_OBF, empty)
-        libraries = re.findall(r"(/\S+) \(0x", run("ldd", empty / "opt/ffosolve/x86-64-v2/ffosolve", text=True).stdout)
-        run("cp", "--dereference", "--parents", *libraries, empty, check=True)
-        words = ["/usr/sbin/chroot"] if os.getuid() == 0 else ["unshare", "-r", "/usr/sbin/chroot"]
-        if run(*words, "/", "/bin/true").returncode:
-            lack("a right to change the root")
-        for level in LEVELS[:1 + is_v3()]:
-            self.ends((0, FIRST, ""), *words, empty, f"/opt/ffosolve/{level}/ffosolve", "/first.obf", env={})
-
-    def test_an_empty_environment_needs_only_the_wheel(self):
-        wheel = made("wheel", CHECKOUTS[0], f"ffosolve-{PACKAGE}-py3-none-manylinux_2_34_x86_64.whl")
-        if run("/usr/bin/python3", "-m", "venv", "empty", timeout=300).returncode:
-            lack("venv for /usr/bin/python3 (Debian: python3-venv)")
-        install = ("empty/bin/pip", "--disable-pip-version-check", "install", "--no-index", "-q")
-        run(*install, wheel, timeout=300, check=True)
-        package, = self.folder.glob("empty/lib/*/site-packages/ffosolve")
-        libraries = [package / level / "libffosolve.so.1" for level in LEVELS]
-        for library in libraries:
-            self.needs_libc_alone(library)
-        for library in libraries[is_v3()::-1]:  # the other one, too, as if the processor were of the lower level
-            printed = f"{PACKAGE} {VERSION} {VERSION} ['H1']\n{package}/__init__.py {library}\n"
-            self.ends((0, printed, ""), "empty/bin/python", *SOLVES, env={})
-            library.unlink()
-
-    def test_without_git_and_at_the_release_the_version_is_plain(self):
-        checkout = copied_checkout(self.folder / "plain")
-        wheel = checkout / f"out/ffosolve-{VERSION}-py3-none-manylinux_2_34_x86_64.whl"
-        for prepare in ("true", COMMIT_ALL):
-            run("sh", "-euc", prepare, cwd=checkout, check=True)
-            ran = make("wheel", checkout)
-            self.assertEqual((ran.returncode, ran.stdout), (0, f"made: {wheel}\n"), ran)
-            wheel.unlink()
-
-    def test_a_change_that_is_not_committed_is_refused(self):
-        self.addCleanup(ARCHIVES[1].write_bytes, ARCHIVES[1].read_bytes())
-        ARCHIVES[1].unlink()
-        write(CHECKOUTS[1] / "README.md", "\n")
-        ran = make("dist", CHECKOUTS[1])
-        self.assertEqual((ran.returncode, ran.stdout), (2, ""))
-        self.assertTrue(ran.stderr.startswith("not committed: M README.md\n"), ran.stderr)
-        self.assertFalse(ARCHIVES[1].exists())
+def test_two_checkouts_make_the_same_bytes(dist):
+    first, second = (hashlib.sha256(path.read_bytes()).hexdigest() for path in dist.archives)
+    assert first == second
+    assert Path(f"{dist.archives[0]}.sha256").read_text() == f"{first}  {dist.name}.tar.gz\n"
 
 
-# Mounts an overlay over each folder into which packages are installed, and runs a command. The mounts end with it.
+def test_entries_are_sorted_in_one_folder_with_the_time_of_the_commit_and_owner_0(dist):
+    with tarfile.open(dist.archives[0]) as archive:
+        entries = archive.getmembers()
+    names = [entry.name.split("/") for entry in entries]
+    assert (names, {top for top, *_ in names}) == (sorted(names), {dist.name})
+    owners = {(entry.uid, entry.gid, entry.uname, entry.gname, entry.mtime) for entry in entries}
+    assert owners == {(0, 0, "", "", 1700000000)}
+    assert {oct(entry.mode) for entry in entries} <= {"0o644", "0o755", "0o777"}
+    ends((0, "", ""), "git", "-C", dist.first, "status", "--porcelain")
+
+
+def test_archive_has_what_make_install_installs_except_readme(dist):
+    stage, documents = dist.unpacked.parent / "stage", "share/doc/ffosolve/"
+    run("make", "-s", "-C", dist.first, "install", "PREFIX=/p", f"DESTDIR={stage}", check=True)
+    assert files_below(stage / "p") - files_below(dist.unpacked) == {f"{documents}README.md"}
+    for name in ("docs", "CHANGELOG.md", "crates/othello_rules/specs", "examples"):
+        place = dist.unpacked / name if name == "examples" else dist.unpacked / documents / name
+        ends((0, "", ""), "diff", "-r", dist.first / name, place)
+
+
+def test_scripts_and_package_say_the_version_of_the_build(dist):
+    for place, package in ((dist.first, "python/src"), (dist.unpacked, "share/doc/ffosolve/python/src")):
+        for name in SCRIPTS:
+            ends((0, f"{name} {dist.version}\n", ""), place / "bin" / name, "--version")
+        printed = run(sys.executable, "-Bc", "import ffosolve; print(ffosolve.__version__)", cwd=place / package)
+        assert printed.stdout.decode() == f"{dist.version}\n"
+
+
+def test_checksums_are_of_all_files(dist):
+    names = re.findall(r"^[0-9a-f]{64}  \./(.*)$", (dist.unpacked / "SHA256SUMS").read_text(), re.M)
+    files = {name for name in files_below(dist.unpacked) if not (dist.unpacked / name).is_symlink()}
+    assert set(names) == files - {"SHA256SUMS"}
+
+
+def test_the_file_proved_names_commit_kit_and_the_crates_of_each_program_lowest_first(dist):
+    text = (dist.unpacked / "PROVED").read_text()
+    kit = run("rt", "version", text=True).stdout.strip()
+    assert f"ffosolve {dist.version}, commit {dist.head}, {kit}\n" in text
+    uses = dict(re.findall(r"^(\w+)[^:#\n]*:(.*)$", stored("crates.txt").decode(), re.M))
+    crates = {place: line.split() for place, line in re.findall(r"^(\S+/\S+): (.*)$", text, re.M)}
+    assert {place: names[-1] for place, names in crates.items()} == {
+        "bin/ffosolve": "ffosolve", "bin/ffoscores": "ffoscores", "lib/libffosolve.*": "ffosolve_c"}
+    for names in crates.values():
+        assert len(set(names)) == len(names)
+        for at, name in enumerate(names):
+            assert {it for it in uses[name].split() if it in uses} <= set(names[:at])
+
+
+def test_no_program_has_a_path_of_the_build(dist):
+    for name in files_below(dist.unpacked):
+        if name.startswith(("bin/", "lib/", "libexec/")):
+            for place in (ROOT, dist.first, dist.unpacked, os.sep + "tmp."):
+                assert os.fsencode(place) not in (dist.unpacked / name).read_bytes()
+
+
+def test_files_that_texts_name_are_there(dist):
+    """Documents, sources and manual pages may also name a reader's own files, in FOLDER/ or work/. Those in docs/ may
+    name tests, benchmarks and proofs, which only the checkout has, but not in commands that they show."""
+    named = re.compile(r"(?<![\w/<}.-])((?:[\w-]+[\w.-]*/)+[\w-]+\.(?:md|py|rs|c|h|toml|txt|obf|antt|a|so))\b")
+    files = files_below(dist.unpacked)
+    for path in [dist.unpacked / name for name in files]:
+        if path.suffix not in (".md", ".py", ".c", ".rs", ".h", ".toml", ".pc") and path.parent.name != "man1":
+            continue
+        text = path.read_text()
+        elsewhere = ("FOLDER/", "work/") + ("tests/", "bench/", "proofs/") * (path.parent.name == "docs")
+        for name in named.findall(text):
+            is_there = any(f"/{file}".endswith(f"/{name.lstrip('./')}") for file in files)
+            assert is_there or name.startswith(elsewhere), (path, name)
+        if path.suffix == ".md":
+            words = re.findall(r"[\w./-]+", " ".join(re.findall(r"^(?:\$ |bin/).*$", text, re.M)))
+            assert [word for word in words if (ROOT / word).is_file() and not (dist.unpacked / word).is_file()] == []
+
+
+def test_the_commands_of_readme_print_what_it_shows(dist):
+    how = {"cwd": dist.unpacked, "env": dist.without_rt, "text": True, "timeout": 300}
+    shows(dist.unpacked / "README.md", 7, lambda *words: run(*words, **how))
+
+
+def test_ffosolve_many_has_the_programs_of_both_levels(dist, folder):
+    ends((0, FIRST, ""), dist.unpacked / "bin/ffosolve-many", "--quiet", "work", FIRST_OBF, env=dist.without_rt)
+    programs = [path.read_bytes() for path in sorted(Path("work").glob("program-?"))]
+    wanted = [dist.unpacked / "libexec/ffosolve" / level / "ffosolve" for level in LEVELS[::-1]]
+    assert programs == [path.read_bytes() for path in wanted]
+
+
+def test_the_program_for_the_level_that_the_loader_reports_is_started(dist, folder):
+    start = folder / "top/bin/ffosolve"
+    text = (dist.unpacked / "bin/ffosolve").read_text()
+    write(start, text.replace("/lib64/ld-linux-x86-64.so.2", str(folder / "loader")))
+    for level in LEVELS:
+        write(folder / f"top/libexec/ffosolve/{level}/ffosolve", f'#!/bin/sh\necho {level} "$#" "$@"\nexit 3\n')
+    os.symlink(start, "linked")
+    for line, level in (("  x86-64-v3 (supported, searched)", LEVELS[1]), ("  x86-64-v3", LEVELS[0])):
+        write("loader", f"#!/bin/sh\necho '{line}'\n")
+        for words in (start, "./linked"):
+            ends((3, f"{level} 1 a b\n", ""), words, "a b")
+
+
+def needs_libc_alone(path):
+    """Asserts that a program or library needs no shared library but libc.so.6, and no glibc newer than 2.34."""
+    need("readelf")
+    printed = run("readelf", "-d", "-V", path, text=True).stdout
+    versions = re.findall(r"GLIBC_([\d.]+)", printed)
+    assert max(tuple(map(int, version.split("."))) for version in versions) <= (2, 34), path
+    assert re.findall(r"Shared library: \[(.*)\]", printed) == ["libc.so.6"], path
+
+
+def test_the_programs_need_only_the_c_library(dist, folder):
+    for program in (dist.unpacked / "libexec/ffosolve").glob("*/*"):
+        needs_libc_alone(program)
+    empty = folder / "empty"
+    shutil.copytree(dist.unpacked / "libexec", empty / "opt")
+    shutil.copy(FIRST_OBF, empty)
+    libraries = re.findall(r"(/\S+) \(0x", run("ldd", empty / "opt/ffosolve/x86-64-v2/ffosolve", text=True).stdout)
+    run("cp", "--dereference", "--parents", *libraries, empty, check=True)
+    words = ["/usr/sbin/chroot"] if os.getuid() == 0 else ["unshare", "-r", "/usr/sbin/chroot"]
+    if run(*words, "/", "/bin/true").returncode:
+        lack("a right to change the root")
+    for level in LEVELS[:1 + is_v3()]:
+        ends((0, FIRST, ""), *words, empty, f"/opt/ffosolve/{level}/ffosolve", "/first.obf", env={})
+
+
+def is_used(start, version, place):
+    """Asserts that the four programs, found on the path, run and have the right versions, and that Python finds the
+    package in the folder `place`. `start` runs a command. Returns the path of the library that the package loads."""
+    lines = FIRST_OBF.read_text()
+    for name, of, words, text, wanted in (
+        ("ffosolve", VERSION, [], lines, FIRST), ("ffoscores", VERSION, [], lines, lines),
+        ("ffosolve-many", version, ["--quiet", "work", "-"], lines, FIRST),
+        ("ffosolve-games", version, ["--empties=60"], "f5", f"{'-' * 27}OX------XO{'-' * 27} X; % -, game 1\n"),
+    ):
+        assert start(name, "--version").stdout == f"{name} {of}\n"
+        ran = start(name, *words, input=text)
+        assert (ran.returncode, ran.stderr, ran.stdout) == (0, "", wanted)
+    assert len(list(Path("work").glob("program-?"))) == len(LEVELS)
+    shutil.rmtree("work")
+    versions, files = start("python3", "-c", SOLVE, lines.splitlines()[1]).stdout.splitlines()
+    package, library = files.split()
+    assert (versions, package) == (f"{version} {version} {VERSION} ['H1']", f"{place}/ffosolve/__init__.py")
+    return library
+
+
+@pytest.fixture(scope="module")
+def wheel(dist):
+    need_module("hatchling")
+    return made("wheel", dist.first, f"ffosolve-{dist.version}-py3-none-manylinux_2_34_x86_64.whl")
+
+
+def test_the_wheel_has_the_same_bytes_again(dist, wheel):
+    first = wheel.read_bytes()
+    again = made("wheel", dist.first, wheel.name, umask=0o077, env={**os.environ, "TZ": "UTC+9"})
+    assert (again.read_bytes(), again.stat().st_mode & 0o777) == (first, 0o644)
+
+
+def test_an_empty_environment_needs_only_the_wheel(dist, wheel, folder):
+    if run("/usr/bin/python3", "-m", "venv", "empty", timeout=300).returncode:
+        lack("venv for /usr/bin/python3 (Debian: python3-venv)")
+    pip, before = ("empty/bin/pip", "--disable-pip-version-check", "-q"), files_below("empty")
+    run(*pip, "install", "--no-index", wheel, timeout=300, check=True)
+    package, = folder.glob("empty/lib/*/site-packages/ffosolve")
+    libraries = [package / level / "libffosolve.so.1" for level in LEVELS]
+    for path in (*libraries, *folder.glob("empty/libexec/ffosolve/*/*")):
+        needs_libc_alone(path)
+    for library in libraries[is_v3()::-1]:  # the other one, too, as if the processor were of the lower level
+        env = {"PATH": f"{folder}/empty/bin:/usr/bin:/bin"}
+        assert is_used(partial(run, env=env, text=True), dist.version, package.parent) == str(library)
+        library.unlink()
+    run(*pip, "uninstall", "-y", "ffosolve", check=True)
+    assert files_below("empty") == before
+
+
+def test_without_git_and_at_the_release_the_version_is_plain(folder):
+    checkout = copied_checkout(folder / "plain")
+    wheel = checkout / f"out/ffosolve-{VERSION}-py3-none-manylinux_2_34_x86_64.whl"
+    for prepare in ("true", COMMIT_ALL):
+        run("sh", "-euc", prepare, cwd=checkout, check=True)
+        ran = make("wheel", checkout)
+        assert (ran.returncode, ran.stdout) == (0, f"made: {wheel}\n"), ran
+        wheel.unlink()
+
+
+def test_a_change_that_is_not_committed_is_refused(dist):
+    archive = dist.archives[1]
+    content = archive.read_bytes()
+    archive.unlink()
+    write(dist.second / "README.md", "\n")
+    ran = make("dist", dist.second)
+    assert (ran.returncode, ran.stdout) == (2, "")
+    assert ran.stderr.startswith("not committed: M README.md\n"), ran.stderr
+    assert not archive.exists()
+    archive.write_bytes(content)
+
+
+@pytest.fixture(scope="module")
+def packages(dist):
+    """Returns the paths of the packages for Debian, by their names."""
+    need("dpkg-checkbuilddeps")
+    missing = run("dpkg-checkbuilddeps", ROOT / "debian/control", text=True)
+    if missing.returncode:
+        lack(missing.stderr)
+    names = {name: f"{name}_{dist.version}_{'all' if name.startswith('python3') else 'amd64'}.deb" for name in PACKAGES}
+    made("deb", dist.first, *names.values())
+    return {name: dist.first / "out" / names[name] for name in PACKAGES}
+
+
+def test_lintian_finds_nothing_but_functions_that_gcc_would_guard(packages):
+    need("lintian")
+    words = ("lintian", "--display-info", "--pedantic", "--tag-display-limit", "0", "--allow-root")
+    ran = run(*words, *packages.values(), text=True, timeout=300)
+    tags = set(re.findall("^(.: .*?: .*?)(?: .*)?$", ran.stdout, re.M))
+    assert (ran.returncode, tags) == (0, {"I: ffosolve: hardening-no-fortify-functions"}), ran
+
+
+def test_versions_are_later_than_the_release(dist, packages):
+    for package in packages.values():
+        ends((0, f"{dist.version}\n", ""), "dpkg-deb", "-f", package, "Version")
+    for less, greater in ((VERSION, dist.version), (f"{VERSION}+9.gfffffff", f"{VERSION}+10.g0000000")):
+        assert run("dpkg", "--compare-versions", less, "lt", greater).returncode == 0
+
+
+def test_they_have_what_the_archive_has_and_run_when_unpacked(dist, packages, folder):
+    for package in packages.values():
+        run("dpkg-deb", "-x", package, "root", check=True)
+    documents, wanted = "share/doc/ffosolve", set()
+    for name in files_below(dist.unpacked):
+        if "/" in name and not name.startswith((f"{documents}/python", f"{documents}/LICENSE", f"{documents}/VERSION",
+                                                "share/ffosolve")):
+            name = name.replace("zsh/site-functions", "zsh/vendor-completions") + ".gz" * ("/man1/" in name)
+            wanted.add(re.sub("^lib/", "lib/x86_64-linux-gnu/", name))
+    for name in files_below(dist.unpacked / "share/ffosolve/python/src"):
+        wanted.add(f"lib/python3/dist-packages/{name}")
+    wanted |= {f"{documents}/{name}" for name in ("README.md", "PROVED")}
+    wanted |= {f"share/doc/{name}/{file}" for name in PACKAGES for file in ("copyright", "changelog.gz")}
+    found = {name for name in files_below("root/usr") if ".dist-info/" not in name}
+    assert found == wanted
+    ends((0, FIRST, ""), "root/usr/bin/ffosolve", f"root/usr/{documents}/examples/first.obf", env=dist.without_rt)
+
+
+# Mounts an overlay over each folder of the system `top` into which packages are installed, and runs a command there, in
+# the same working folder. The mounts end with it.
 APART = """
-room=$1; shift
+top=$1 room=$2 shared=$3; shift 3
 for folder in usr etc var; do
     mkdir -p "$room/$folder" "$room/work/$folder"
-    mount -t overlay overlay -o "lowerdir=/$folder,upperdir=$room/$folder,workdir=$room/work/$folder" "/$folder"
+    mount -t overlay overlay -o "lowerdir=$top/$folder,upperdir=$room/$folder,workdir=$room/work/$folder" "$top/$folder"
 done
-exec "$@"
+[ -z "$top" ] || {
+    mkdir -p "$top$shared"; mount --bind "$shared" "$top$shared"
+    mount -t proc proc "$top/proc"; mount --rbind /dev "$top/dev"
+}
+exec chroot "$top/" sh -c 'cd "$0" && exec "$@"' "$PWD" "$@"
 """
+APT = ("apt-get", "-q", "-y", "--allow-downgrades", "--no-install-recommends")
+PYTHON = "/usr/lib/python3/dist-packages"
 
 
-class Debian(Case):
-    @classmethod
-    def setUpClass(cls):
-        need("dpkg-deb")
-        cls.package = made("deb", CHECKOUTS[0], f"ffosolve_{PACKAGE}_amd64.deb")
+class System:
+    """A Debian below the folder `top`; "" is this machine's. Commands of one object alone see what it writes."""
 
-    def test_lintian_finds_no_error_no_warning_and_no_unused_override(self):
-        need("lintian")
-        words = ("lintian", "--display-info", "--tag-display-limit", "0", "--allow-root", self.package)
-        ran = run(*words, text=True, timeout=300)
-        self.assertEqual((ran.returncode, re.findall("^(?:[EW]|.*override).*", ran.stdout, re.M)), (0, []), ran)
-        self.assertIn("no-symbols-control-file", ran.stdout)
-
-    def test_its_version_is_later_than_the_release(self):
-        provided = [f"{name} (= {PACKAGE})" for name in ("libffosolve1", "libffosolve-dev", "python3-ffosolve")]
-        fields = f"Version: {PACKAGE}\nProvides: {', '.join(provided)}\n"
-        self.ends((0, fields, ""), "dpkg-deb", "-f", self.package, "Version", "Provides")
-        for less, greater in ((VERSION, PACKAGE), (f"{VERSION}+9.gfffffff", f"{VERSION}+10.g0000000")):
-            self.assertEqual(run("dpkg", "--compare-versions", less, "lt", greater).returncode, 0)
-
-    def test_it_has_what_the_archive_has_and_runs_when_unpacked(self):
-        run("dpkg-deb", "-x", self.package, "root", check=True)
-        documents = "share/doc/ffosolve"
-        wanted = {f"{documents}/{name}" for name in ("copyright", "changelog.gz", "README.md", "PROVED")}
-        for name in files_below(UNPACKED):
-            if "/" in name and not name.startswith((f"{documents}/python", f"{documents}/LICENSE")):
-                wanted.add(re.sub("^lib/", "lib/x86_64-linux-gnu/", name) + ".gz" * ("/man1/" in name))
-        self.assertLessEqual(wanted, files_below("root/usr"))
-        words = ("usr/bin/ffosolve", "usr/share/doc/ffosolve/examples/first.obf")
-        self.ends((0, FIRST, ""), *(Path("root", word) for word in words), env=WITHOUT_RT)
-
-    def apart(self, *words, check=True):
-        """Runs a command with an overlay over each of /usr, /etc and /var, and returns its CompletedProcess. Later
-        commands of the same test alone see what it writes there. If `check` is true, asserts that it succeeds."""
-        how = {"env": {"PATH": "/usr/sbin:/usr/bin:/sbin:/bin", "DEBIAN_FRONTEND": "noninteractive"}, "timeout": None}
-        ran = run("unshare", "--mount", "sh", "-euc", APART, "sh", self.folder / "layers", *words, text=True, **how)
-        self.assertFalse(check and ran.returncode, ran)
-        return ran
-
-    def test_apt_installs_it_and_removes_all_of_it(self):
-        need("dpkg-shlibdeps")
+    def __init__(self, top):
         if os.getuid() != 0:
-            self.skipTest("layers over the system's folders are for root")
-        apt = ("apt-get", "-q", "-y")
-        self.apart(*apt, "install", "--no-install-recommends", self.package)
-        self.apart("test", "-d", "/usr/lib/python3/dist-packages/ffosolve/__pycache__")
-        for name in ("ffosolve", "ffoscores", "ffosolve-many", "ffosolve-games"):
-            self.assertEqual(self.apart(name, "--version").stdout, f"{name} {VERSION}\n")
-        run("dpkg-deb", "-x", self.package, "root", check=True)
-        readme = self.folder / "root/usr/share/doc/ffosolve/README.md"
-        self.shows(readme, 6, lambda *words: self.apart(*words, check=False))
-        printed = f"{PACKAGE} {VERSION} {VERSION} ['H1']\n/usr/lib/python3/dist-packages/ffosolve/__init__.py "
-        self.assertTrue(self.apart("/usr/bin/python3", *SOLVES).stdout.startswith(printed))
-        # Debian's tools find that a program needs the library, and a package that depends on the library is installed.
-        needs = f"libffosolve1 (>= {PACKAGE})"
-        write("debian/control", "Source: one\n\nPackage: one\nArchitecture: any\n")
-        fields = "Package: one\nVersion: 1\nArchitecture: all\nMaintainer: A <a@b>\nDescription: a\n"
-        write("one/DEBIAN/control", f"{fields}Depends: {needs}, libffosolve-dev, python3-ffosolve\n")
-        self.assertIn(needs, self.apart("dpkg-shlibdeps", "-O", "-eanswers").stdout)
-        run("dpkg-deb", "--build", "one", check=True)
-        self.apart("dpkg", "-i", self.folder / "one.deb")
-        self.apart("dpkg", "-P", "one")
-        self.apart(*apt, "purge", "ffosolve")
-        left = "find /usr /etc /var/lib/dpkg/info -iname '*ffosolve*' | grep -v '^/usr/share/doc/ffosolve$' || :"
-        self.assertEqual(self.apart("sh", "-c", left).stdout, "")
-        self.assertFalse(Path("/usr/bin/ffosolve").exists())
+            pytest.skip("layers over the system's folders are for root")
+        self.words = ("unshare", "--mount", "sh", "-euc", APART, "sh", top, Path("layers").absolute(), gettempdir())
+        self.env = {"PATH": "/usr/sbin:/usr/bin:/sbin:/bin", "DEBIAN_FRONTEND": "noninteractive", "HOME": os.getcwd()}
+
+    def run(self, *words, **how):
+        return run(*self.words, *words, env=self.env, timeout=600, text=True, **how)
+
+    def make(self, *words):
+        """Runs a command, which has to succeed, and returns what it prints."""
+        ran = self.run(*words)
+        assert ran.returncode == 0, ran
+        return ran.stdout
+
+    def has_nothing_left(self):
+        """Asserts that of removed packages nothing is left. Some systems keep an empty folder of documents."""
+        assert self.run("dpkg-query", "-W", "*ffosolve*").stdout == ""
+        found = self.make("find", "/usr", "/etc", "/var/lib/dpkg/info", "-iname", "*ffosolve*")
+        assert found in ("", "/usr/share/doc/ffosolve\n")
+
+
+def test_apt_installs_them_and_removes_all_of_them(dist, packages, folder):
+    need("dpkg-shlibdeps", "zsh", "fish")
+    system = System("")
+    system.make(*APT, "install", *packages.values())
+    system.make("test", "-d", f"{PYTHON}/ffosolve/__pycache__")
+    assert is_used(system.run, dist.version, PYTHON).startswith("/usr/lib/x86_64-linux-gnu/")
+    run("dpkg-deb", "-x", packages["ffosolve"], "root", check=True)
+    shows(folder / "root/usr/share/doc/ffosolve/README.md", 6, system.run)
+    # Shells find the completions by themselves.
+    assert completed_by_zsh(["ffosolve --sco", "ffosolve-games che"], start=system.run) == [
+        "ffosolve --scoring", "ffosolve-games check"]
+    loads = ". /usr/share/bash-completion/bash_completion; _completion_loader ffosolve-many; complete -p ffosolve-many"
+    assert system.run("bash", "-c", loads).stdout == "complete -F _ffosolve ffosolve-many\n"
+    assert system.make("fish", "-c", "complete -C 'ffoscores --sco'").startswith("--scoring\t")
+    # Debian's tools find the version that a program needs, and a package that depends on the library is installed.
+    needs = "libffosolve1 (>= 1.0.0)"
+    write("debian/control", "Source: one\n\nPackage: one\nArchitecture: any\n")
+    fields = "Package: one\nVersion: 1\nArchitecture: all\nMaintainer: A <a@b>\nDescription: a\n"
+    write("one/DEBIAN/control", f"{fields}Depends: {needs}, libffosolve-dev, python3-ffosolve\n")
+    assert needs in system.make("dpkg-shlibdeps", "-O", "-eanswers")
+    run("dpkg-deb", "--build", "one", check=True)
+    system.make("dpkg", "-i", folder / "one.deb")
+    system.make("dpkg", "-P", "one")
+    system.make(*APT, "purge", *PACKAGES)
+    system.has_nothing_left()
+    assert not Path("/usr/bin/ffosolve").exists()
+
+
+def test_an_empty_debian_upgrades_the_single_package_of_before_and_goes_back(dist, packages, folder):
+    """Version 1.1.0 had one package with the files of all."""
+    need("debootstrap")
+    system, empty = System(str(folder / "empty")), folder / "empty"
+    if run("debootstrap", "--variant=minbase", "bookworm", empty, timeout=800).returncode:
+        lack("a mirror of Debian, or a right that debootstrap needs,")
+    for package in packages.values():
+        run("dpkg-deb", "-x", package, "one", check=True)
+    fields = "Package: ffosolve\nVersion: 1.1.0\nArchitecture: amd64\nMaintainer: A <a@b>\nDescription: a\n"
+    provided = ", ".join(f"{name} (= 1.1.0)" for name in PACKAGES[1:])
+    write("one/DEBIAN/control", f"{fields}Depends: python3\nProvides: {provided}\n")
+    run("dpkg-deb", "--root-owner-group", "--build", "one", check=True)
+    single = {"ffosolve": folder / "one.deb"}
+    system.make("apt-get", "-q", "update")
+    for installed in (single, packages, single, {name: packages[name] for name in PACKAGES if "dev" not in name}):
+        system.make(*APT, "install", *installed.values())
+        listed = system.make("dpkg-query", "-W", "-f", "${Package} ${Status}\n", "*ffosolve*")
+        assert re.findall("(.*) install ok installed", listed) == [*installed]
+        assert system.make("dpkg", "-V", *installed) == ""
+        is_used(system.run, dist.version, PYTHON)
+    system.make(*APT, "remove", "libffosolve1")
+    system.has_nothing_left()

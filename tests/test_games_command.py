@@ -6,7 +6,8 @@ import sys
 import pytest
 
 from tests.games import AT, GAME, GAME_RECORD, PROGRAM, games, line_of, reads, transcript, wthor
-from tests.support import MOST_BYTES, cannot_write, ends, limited, run, stored, write
+from tests.support import MOST_BYTES, cannot_write, ends, limited, run, write
+import ffosolve
 
 TEXT, WTHOR = transcript(GAME), wthor([GAME_RECORD], empties=20)
 LINE = line_of(AT[20], "{}, game 1")
@@ -124,7 +125,7 @@ def test_wrong_words_are_refused(words, why):
 
 
 def test_help_has_all_uses_in_80_columns():
-    games("--version", out=f"ffosolve-games {stored('VERSION').decode()}")
+    games("--version", out=f"ffosolve-games {ffosolve.__version__}\n")
     how = {"env": {**os.environ, "COLUMNS": "80"}, "check": True, "text": True}
     printed = run(PROGRAM, "--help", **how).stdout
     for task in ("compare", "check"):

@@ -44,7 +44,7 @@ once, and so may the processes of a pool, since a Solver can be pickled.
 The wheel that `make wheel` builds contains the shared library. Without that wheel, install the library, or name its
 path: `Solver("FOLDER/libffosolve.so")` or FFOSOLVE_LIBRARY. Reading, writing and showing positions needs no library.
 """
-import os
+from typing import TYPE_CHECKING
 
 from . import _refusals
 from ._answers import Answer, Kind, Scoring
@@ -59,10 +59,15 @@ from ._solvers import NO_SCORE, Solver, table_entries
 from ._squares import square_name, square_number, square_names
 from ._symmetries import Symmetry
 
-_FOLDER = os.path.dirname(os.path.abspath(__file__))
-_PLACES = [os.path.join(_FOLDER, place, "VERSION") for place in ("", "../../..")]  # installed, and in a checkout
-with open(next(filter(os.path.exists, _PLACES)), encoding="utf-8") as _file:
-    __version__ = _file.read().strip()
+if TYPE_CHECKING:
+    __version__: str
+else:
+    def __getattr__(name):
+        """Finds `__version__` when it is first asked for, since that takes a while."""
+        if name != "__version__":
+            raise AttributeError(f"module {__name__!r} has no attribute {name!r}")
+        from ._version import version
+        return version()
 
 __all__ = [
     "MOST_EMPTIES", "MOST_ENTRIES", "NO_SCORE", "START", "Answer", "Board", "Discs", "Game", "GameRefused", "Kind",

@@ -8,7 +8,6 @@ import sys
 from types import FrameType
 from typing import IO, Any, Callable, Dict, Iterable, Iterator, Mapping, NoReturn, Optional, Set, Tuple, Type, Union
 
-from . import __version__
 from ._text import shown
 
 DONE, REMARKED, MISUSED, UNREADABLE, MISSING = range(5)
@@ -46,8 +45,14 @@ class Parser(argparse.ArgumentParser):
 
     def add_common(self, group: Any, version: str = "print the version", usage: str = "print this help") -> None:
         """Adds --version and --help, explained by these texts, to a group of options or to the parser itself."""
-        group.add_argument("--version", "-V", action="version", version=f"{name} {__version__}", help=version)
+        group.add_argument("--version", "-V", action="version", help=version)
         group.add_argument("--help", "-h", action="help", help=usage)
+
+    @property
+    def version(self) -> str:
+        """What --version prints."""
+        from . import __version__
+        return f"{name} {__version__}"
 
     def error(self, message: str) -> NoReturn:
         raise Refusal(f"{re.sub('^argument ', '', message)}. Try '{name} --help'", MISUSED)

@@ -186,11 +186,10 @@ def solve_list(command: argparse.Namespace, programs: str) -> int:
     return max(run.statuses, default=DONE)
 
 
-def main(programs: Optional[str] = None, words: Optional[List[str]] = None) -> None:
-    """Runs ffosolve-many with arguments, by default those of this process, and ends this process. `programs` is the
-    folder with ffosolve and ffoscores, by default that of this process's script."""
+def main() -> None:
+    """Runs ffosolve-many, and ends this process. ffosolve and ffoscores are next to the script that runs."""
     def carry_out() -> int:
-        command = parse(sys.argv[1:] if words is None else words)
-        return (merge_books if command.merge_books else solve_list)(
-            command, programs or os.path.dirname(os.path.abspath(sys.argv[0])))
+        command = parse(sys.argv[1:])
+        programs = os.path.dirname(os.path.realpath(sys.argv[0]))
+        return (merge_books if command.merge_books else solve_list)(command, programs)
     run_program(NAME, carry_out, "interrupted; the same command goes on with what is solved")
