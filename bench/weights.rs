@@ -3,9 +3,9 @@
 //!     rustc -Copt-level=3 -Ctarget-cpu=native -o weights bench/weights.rs
 //!     ./weights 800000 >crates/endgame_search/src/weights.rt
 //!
-//! It takes a position of each of so many games, in MINUTES minutes of processors. All have 10 to 13 empty squares, and none
-//! is of the FFO endgame test. Their values are exact, by the search in bench/peer.rs. The weights are the least squares
-//! fit of what the rest of the evaluation lacks to them.
+//! It takes a position of each of so many games, in 10 minutes of one processor. All have 10 to 13 empty squares, and
+//! none is of the FFO endgame test. Their values are exact, by the search in bench/peer.rs. The weights are the least
+//! squares fit of what the rest of the evaluation lacks to them.
 #[allow(dead_code)]
 #[path = "peer.rs"]
 mod peer;
@@ -15,6 +15,11 @@ use peer::{Pos, Scoring, Table, order, search_window, simple_worth, squares, sta
 const STATES: usize = 6561;
 const LOTS: u64 = 16; // of games, each with a thread
 const ROUNDS: u32 = 300;
+const HEAD: &str = "//! What the squares at a corner are worth, in eighths of a disc: made by bench/weights.rs, of";
+const COMMENT: &str = "
+// By the state of four squares of an edge, the corner first, and of the four beside them: the sum of
+// 3^i for a disc of the mover on square i, and of twice that for one of the opponent.
+";
 const SHRINK: f64 = 8.0; // a weight is as if it were 0 in so many positions more
 
 /// A sequence of numbers (xorshift64*).
@@ -54,7 +59,8 @@ fn position(numbers: &mut Numbers, empties: u32) -> Option<Pos> {
 
 /// The states of so many positions, and what their values are above the rest of the evaluation.
 fn rows(lot: u64, number: u32) -> Vec<([usize; 8], f64)> {
-    let (mut numbers, table) = (Numbers(0x9e37_79b9_7f4a_7c15_u64.wrapping_mul(2 * lot + 1)), Table::new(65_536, Scoring::Winner));
+    let mut numbers = Numbers(0x9e37_79b9_7f4a_7c15_u64.wrapping_mul(2 * lot + 1));
+    let table = Table::new(65_536, Scoring::Winner);
     let mut row = || loop {
         let empties = 10 + numbers.below(4);
         if let Some(p) = position(&mut numbers, empties) {
@@ -79,9 +85,7 @@ fn main() {
         }
         (0..STATES).for_each(|state| weights[state] += errors[state] / (8.0 * counts[state] + SHRINK));
     }
-    println!("//! What the squares at a corner are worth, in eighths of a disc: made by bench/weights.rs, of {number} games.\n");
-    println!("// By the state of four squares of an edge, the corner first, and of the four beside them: the sum of\n// 3^i for a disc of the mover on square i, and of twice that for one of the opponent.");
-    println!("pub(crate) static WEIGHTS: [i8; {STATES}] = [");
+    println!("{HEAD} {number} games.\n{COMMENT}pub(crate) static WEIGHTS: [i8; {STATES}] = [");
     let mut line = String::from("   ");
     for word in weights.map(|weight| format!(" {},", weight.round() as i8)) {
         if line.len() + word.len() > 99 {
