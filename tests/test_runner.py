@@ -9,24 +9,17 @@ import pytest
 from tests.support import ROOT, ends, need, run, write
 
 NO_CI = {name: text for name, text in os.environ.items() if name != "CI"}
-FAULTS = """import os, subprocess, time, unittest, pytest
-from pathlib import Path
-
+FAULTS = """import os, pathlib, pytest, subprocess, time, unittest
 def test_good():
     assert os.system("kill -INT $$") == 2  # an interrupt is not ignored
-
 def test_wrong():
     assert 1 + 1 == 3
-
 def test_hangs():
     time.sleep(100)
-
 def test_changes():
-    (Path(__file__).parent.parent / "new").touch()
-
+    pathlib.Path(__file__).parents[1].joinpath("new").touch()
 def test_skips():
     pytest.skip("no-such is missing")
-
 class Some(unittest.TestCase):
     def test_leaves(self):
         subprocess.run(["sh", "-c", "setsid sleep 1000 &"])
