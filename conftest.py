@@ -54,13 +54,22 @@ def ends_its_programs():
     assert not left, f"programs that the module's tests left running: {left}"
 
 
-@pytest.fixture
-def folder():
-    """A new working folder that everybody may read, with umask 022. It is removed after the test."""
-    umask = os.umask(0o022)
-    with tempfile.TemporaryDirectory(prefix="ffosolve-test-") as name, contextlib.chdir(name):
+def new_folder():
+    """A new folder that everybody may read. It is removed after the test or, for `shared_folder`, after the module."""
+    with tempfile.TemporaryDirectory(prefix="ffosolve-test-") as name:
         os.chmod(name, 0o755)
         yield Path(name)
+
+
+own_folder, shared_folder = pytest.fixture(new_folder), pytest.fixture(scope="module")(new_folder)
+
+
+@pytest.fixture
+def folder(own_folder):
+    """A new folder in which the test runs, with umask 022."""
+    umask = os.umask(0o022)
+    with contextlib.chdir(own_folder):
+        yield own_folder
     os.umask(umask)
 
 
