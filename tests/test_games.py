@@ -80,14 +80,11 @@ def test_wrong_moves_of_transcripts_are_reported():
     reads("games", content, "--empties=58", out=line_of(f5d6[58], "games, game 1"), err=err)
 
 
-@pytest.mark.parametrize("more", (GAME[:1], GAME[-1:]))
-def test_no_move_may_follow_the_end_of_a_game(more):
+def test_only_a_pass_may_follow_the_end_of_a_game():
     end = player.line(*AT[60 - len(GAME)])
-    why = f"move {len(GAME) + 1}: {NAMES[more[0]]} is not a legal move: the game is over in {end}"
-    reads("long", transcript(GAME + more), "--empties=30", err=f"long, game 1, {why}")
-
-
-def test_a_pass_may_follow_the_end_of_a_game():
+    for more in (GAME[:1], GAME[-1:]):
+        why = f"move {len(GAME) + 1}: {NAMES[more[0]]} is not a legal move: the game is over in {end}"
+        reads("long", transcript(GAME + more), "--empties=30", err=f"long, game 1, {why}")
     reads("passes", transcript(GAME) + "--pass", "--empties=30", out=line_of(AT[30], "passes, game 1"))
 
 
@@ -146,11 +143,6 @@ def test_wrong_scores_of_records_are_reported_and_the_line_is_printed(squares, t
     reads("it.wtb", content, f"--empties={empties}", out=line_of(positions_of(WHOLE)[empties], comment), err=err)
 
 
-@pytest.mark.parametrize("board, kind", ((0, 0), (8, 0), (8, 1)))
-def test_files_of_games_are_read(board, kind):
-    reads("it.wtb", wthor([GAME_RECORD], board=board, kind=kind), out=LINE)
-
-
 @pytest.mark.parametrize("content, why", (
     (b"", "it is empty"),
     (wthor([])[:15], "it ends within its header of 16 bytes"),
@@ -162,19 +154,19 @@ def test_files_of_games_are_read(board, kind):
     (b"f5d6c3d3c4f4c5b3c2\n", "it begins like a text"),
 ))
 def test_a_file_of_another_kind_is_refused(content, why):
+    for board, kind in ((0, 0), (8, 0), (8, 1)):
+        reads("it.wtb", wthor([GAME_RECORD], board=board, kind=kind), out=LINE)
     for name in ("NONE.WTB", "none.wtb"):
         reads(name, content, status=3, err=f"{name} is not a WTHOR file of games: {why}")
-    write("it.wtb", wthor([GAME_RECORD]))
     games("none.wtb", "it.wtb", status=3, out=LINE, err=f"none.wtb is not a WTHOR file of games: {why}")
 
 
-@pytest.mark.parametrize("name", ("it.wtb", "it", "it.zip"))
-def test_an_archive_is_told_as_what_it_is(name):
-    """Of the first kind of .zip, the first line has no NUL byte."""
-    for content in (b"PK\3\4\n\0\r\0", b"PK\3\4\24\0\r\0", gzip.compress(wthor([GAME_RECORD]))):
-        for words in (["--empties=20"], [], ["check"], ["compare", "none"]):
-            err = f"cannot read {name}: it is an archive (.zip or .gz), so unpack it first"
-            reads(name, content, *words, status=3, err=err)
+@pytest.mark.parametrize("content", (b"PK\3\4\n\0\r\0", b"PK\3\4\24\0\r\0", gzip.compress(b"f5", mtime=0)))
+def test_an_archive_is_told_as_what_it_is(content):
+    """Of the first archive, the first line has no NUL byte."""
+    for words, name in (("check", "it"), ("check", "it.wtb"), ("compare book", "it.zip"), ("--empties=20", "it.gz")):
+        err = f"cannot read {name}: it is an archive (.zip or .gz), so unpack it first"
+        reads(name, content, *words.split(), status=3, err=err)
 
 
 PLAIN = {empties: line_of(position, "it.wtb, game 1") for empties, position in AT.items()}
@@ -298,9 +290,6 @@ def test_a_wrong_transcript_is_refused_with_the_move_and_the_reason(text, move, 
         Solver().positions(ffosolve.Game.of_text(text, 7))
     for it in (refused.value, pickle.loads(pickle.dumps(refused.value))):
         assert (it.game, it.move, it.reason, isinstance(it, ValueError)) == (7, move, why, True)
-
-
-def test_what_is_no_game_is_refused():
     with pytest.raises(TypeError, match="^a game is a Game or the text of a transcript, not "):
         Solver().positions(5)
 
@@ -324,9 +313,6 @@ def test_texts_and_wthor_files_are_read_by_path_and_from_files_of_each_kind(fold
             for it, game in zip(found, PLAYED):
                 has_positions(it, game)
         assert (inside.read(), file.closed, raw.closed) == (b"", False, False)
-
-
-def test_python_has_no_number_of_empty_squares_if_the_header_has_none():
     write("it.wtb", wthor([record(PLAYED[0])], empties=0))
     assert [it.empties for it in ffosolve.read_games("it.wtb")] == [None]
 

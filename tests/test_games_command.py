@@ -26,12 +26,9 @@ def test_a_hyphen_or_no_file_means_standard_input():
     games("-", input=WTHOR, out=LINE.format("-").rstrip() + ", theoretical score 33\n")
 
 
-@pytest.mark.parametrize("name, shown", (("a b%c, game 7", "a b%c, game 7"), ("new\nline", "$'new\\nline'")))
-def test_names_of_files_are_in_the_list_as_they_are(name, shown):
-    reads(name, TEXT, "--empties=20", out=LINE.format(shown))
-
-
-def test_a_name_that_is_no_text_is_in_the_list_as_it_is():
+def test_names_of_files_are_in_the_list_as_they_are():
+    for name, shown in (("a b%c, game 7", "a b%c, game 7"), ("new\nline", "$'new\\nline'")):
+        reads(name, TEXT, "--empties=20", out=LINE.format(shown))
     name = b"\xff.WTB"
     write(os.fsdecode(name), WTHOR)
     assert b"% \xff.WTB, game 1, theoretical score 33\n" in run(sys.executable, PROGRAM, name).stdout
@@ -43,11 +40,8 @@ def test_names_in_messages_can_be_typed(name):
     shown = err.removeprefix("ffosolve-games: cannot read ").removesuffix(": No such file or directory\n")
     assert shown.isprintable() and shown.startswith("$'"), err
     assert run("bash", "-c", f"printf %s {shown}").stdout == name
-
-
-@pytest.mark.parametrize("name, shown", (("", "''"), ("it's \u00e9", "it's \u00e9")))
-def test_printable_names_in_messages_are_as_they_are(name, shown):
-    games("--empties=20", name, status=3, err=f"cannot read {shown}: No such file or directory")
+    for printable, shown in (("", "''"), ("it's \u00e9", "it's \u00e9")):
+        games("--empties=20", printable, status=3, err=f"cannot read {shown}: No such file or directory")
 
 
 def test_the_status_is_the_highest_that_a_refused_file_causes():
@@ -65,7 +59,6 @@ def test_the_status_is_the_highest_that_a_refused_file_causes():
     (b"\r" + TEXT.encode(), "its lines end with CR alone"),
     (b"f5\0d6\n" + TEXT.encode(), "its line 1 has a NUL byte, so it is not a text"),
     (b"PK\3\4\24\0\r\0", "it is an archive (.zip or .gz), so unpack it first"),
-    (b"PK\3\4\n\0\r\0", "it is an archive (.zip or .gz), so unpack it first"),  # its first line has no NUL byte
 ))
 def test_files_that_are_not_texts_are_refused_and_the_next_is_read(content, why):
     write("bad", content)
@@ -87,9 +80,6 @@ def test_a_long_line_is_refused_without_reading_it_all(words, before, out):
     with open("long", "rb") as file:
         games(*words, stdin=file, status=3, out=out, err=err, preexec_fn=limited(RLIMIT_AS=500_000_000))
         assert os.lseek(file.fileno(), 0, os.SEEK_CUR) < 2 * MOST_BYTES
-
-
-def test_a_line_of_the_greatest_length_is_read():
     longest = (TEXT + "%").ljust(MOST_BYTES - 1, "x") + "\n"
     reads("longest", longest, "--empties=20", out=LINE.format("longest"))
 
@@ -99,26 +89,18 @@ BY_NAME = "takes WTHOR files by their names, not standard input"
 
 
 @pytest.mark.parametrize("words, why", (
-    ("--empties 61", "--empties: takes a number from 0 to 60, not '61'"),
-    ("--empties -1", "--empties: takes a number from 0 to 60, not '-1'"),
-    ("--empties x", "--empties: takes a number from 0 to 60, not 'x'"),
-    ("--empties", "--empties: expected one argument"),
-    ("--emp 3", "unrecognized arguments: --emp"),
-    ("--no", "unrecognized arguments: --no"),
-    ("compare", "compare takes a BOOK and WTHOR files"),
-    ("compare text", "compare takes a BOOK and WTHOR files"),
-    ("compare text it.wtb -", f"compare {BY_NAME}"),
-    ("compare text it.wtb --fix", "--fix: expected one argument"),
-    ("--fix new.wtb compare text it.wtb", f"--fix and --real go with check or compare, {FIRST}"),
-    ("--real text", f"--fix and --real go with check or compare, {FIRST}"),
+    *((f"--empties {it}", f"--empties: takes a number from 0 to 60, not '{it}'") for it in ("61", "-1", "x")),
+    *((it, f"{it.split()[-1]}: expected one argument") for it in ("--empties", "compare text it.wtb --fix")),
+    *((it, f"unrecognized arguments: {it.split()[-1]}") for it in ("--no", "check it.wtb --scores", "3 --emp")),
+    *((it, "compare takes a BOOK and WTHOR files") for it in ("compare", "compare text")),
+    *((it, f"--fix and --real go with check or compare, {FIRST}") for it in ("--fix a compare b it.wtb", "--real a")),
+    ("compare text it.wtb -", f"compare {BY_NAME}"), ("check it.wtb -", f"check {BY_NAME}"),
     ("compare text it.wtb --fix=-", "--fix takes a file or a folder, not standard output"),
     ("compare text it.wtb --real", "--real goes with --fix"),
     ("compare text it.wtb --jobs=2", f"--jobs goes with check, {FIRST}"),
     ("it.wtb --folder=new", f"--folder goes with check, {FIRST}"),
     ("check", "check takes WTHOR files"),
-    ("check it.wtb -", f"check {BY_NAME}"),
     ("check it.wtb --cut --fix new.wtb", "--fix does not go with --cut"),
-    ("check it.wtb --scores", "unrecognized arguments: --scores"),
 ))
 def test_wrong_words_are_refused(words, why):
     games(*words.split(), status=2, err=f"{why}. Try 'ffosolve-games --help'")
