@@ -1,6 +1,7 @@
 """A Position can't be changed, its copies and subclasses keep what they should, and it knows its discs and images."""
 import copy
 import itertools
+import os
 import pickle
 import xml.etree.ElementTree
 
@@ -35,6 +36,17 @@ def test_no_attribute_can_be_assigned(position, name, value):
         delattr(position, name)
     assert all_of(position) == before
     assert all_of(Position.start())[1:3] == ((0x0000000810000000, 0x0000001008000000), "X")
+
+
+def test_mypy_sees_each_assignment(tmp_path, monkeypatch):
+    mypy = pytest.importorskip("mypy.api")
+    monkeypatch.setenv("MYPYPATH", os.path.dirname(os.path.dirname(ffosolve.__file__)))
+    names = ("own", "opp", "side", "last_move", "listed", "number")
+    text = "from ffosolve import *\nposition = Position.start().play('F5')\ntotal: int = position.discs.black\n"
+    (tmp_path / "it.py").write_text(text + "".join(f"position.{name} = position.{name}\n" for name in names))
+    found, _, status = mypy.run(["--strict", f"--cache-dir={tmp_path}", str(tmp_path / "it.py")])
+    refused = [line.split(":")[1] for line in found.splitlines() if "is read-only" in line]
+    assert (status, refused) == (1, ["4", "5", "6", "7", "8", "9"]), found
 
 
 @pytest.mark.parametrize("copied", [

@@ -140,8 +140,10 @@ def test_a_call_that_asyncio_cancels_stops(solver, call):
         with pytest.raises(asyncio.TimeoutError):
             await asyncio.wait_for(asyncio.to_thread(call, solver, HOPELESS), 0.3)
 
-    begun = time.monotonic()
+    begun, timer = time.monotonic(), threading.Timer(10, lambda: [os.kill(process, 9) for process in children()])
+    timer.start()  # otherwise a call that goes on would keep asyncio from ending
     asyncio.run(main())
+    timer.cancel()
     assert time.monotonic() - begun < 1
     assert_no_processor_works()
 
@@ -182,6 +184,15 @@ def test_an_iterator_yields_what_is_finished_before_the_timeout(threads, solver)
         for answer in solver.solve_iter(positions, threads=threads, timeout=2):
             found.append(answer)
     assert found == solver.solve_all(positions[:4])
+    assert_no_processor_works()
+
+
+@pytest.mark.parametrize("call", [
+    lambda *given, **how: list(Solver.solve_iter(*given, **how)), Solver.solve_all, Solver.move_scores_all])
+@pytest.mark.parametrize("threads", [1, 3])
+def test_a_timeout_is_for_all_positions_together(call, threads, solver):
+    with pytest.raises(TimeoutError):
+        call(solver, [HARD] * 1000, threads=threads, timeout=0.5)
     assert_no_processor_works()
 
 
@@ -382,14 +393,21 @@ def test_the_processes_end_with_the_program(code):
 
 
 def test_ctrl_c_is_for_the_program_alone():
-    """A terminal sends SIGINT to all processes of the program. Here it has a handler, so the call goes on."""
-    code = """
+    """A terminal sends SIGINT to all processes of the program. Here it has a handler, so that a call goes on. The first
+    signal comes between two calls, the second one in a call."""
+    code = f"""
     signal.signal(signal.SIGINT, lambda *_: print("interrupted"))
+    solver.solve(Position({HARD.own}, {HARD.opp}))
+    before = set(_processes.PROCESSES)
+    os.killpg(os.getpgrp(), signal.SIGINT)
+    time.sleep(0.5)
     threading.Timer(0.5, os.killpg, (os.getpgrp(), signal.SIGINT)).start()
     try:
+        print(solver.solve(Position({HARD.own}, {HARD.opp})).score, _processes.PROCESSES == before)
         solver.solve(START, timeout=1.5)
     except TimeoutError as error:
         print(error)
 """
     found = ran(code, start_new_session=True)
-    assert (found.stdout, found.stderr) == ("interrupted\nnot finished within 1.5 seconds\n", "")
+    wanted = f"interrupted\n{Solver().solve(HARD).score} True\ninterrupted\nnot finished within 1.5 seconds\n"
+    assert (found.stdout, found.stderr) == (wanted, "")

@@ -46,18 +46,21 @@ path: `Solver("FOLDER/libffosolve.so")` or FFOSOLVE_LIBRARY. Reading, writing an
 """
 from typing import TYPE_CHECKING
 
-from . import _refusals
 from ._answers import Answer, Kind, Scoring
 from ._boards import Board
 from ._games import Game, GameRefused, read_games
 from ._library import MOST_EMPTIES, MOST_ENTRIES, LibraryNotFound
 from ._masks import masks_of, positions_from
-from ._positions import START, Discs, Line as Line, Position, parse_lines, read_lines
-from ._refusals import *
+from ._positions import START, Discs, Position, parse_lines, read_lines
+from ._refusals import (
+    BadSide, BadSquare, LineRefused, NoMemory, NoMove, NoPosition, OtherRefusal, Refused, SharedSquare, ShortBoard,
+    Status, TooManyEmpties, TooManyEntries, UnequalLengths, UnknownScoring, UnknownSymmetry)
 from ._score_comparison import ScoreComparison, WrongScore, compare_scores
 from ._solvers import NO_SCORE, Solver, table_entries
 from ._squares import square_name, square_number, square_names
 from ._symmetries import Symmetry
+
+Line = Position  # what read_lines yields had this name in earlier versions
 
 if TYPE_CHECKING:
     __version__: str
@@ -70,9 +73,10 @@ else:
         return version()
 
 __all__ = [
-    "MOST_EMPTIES", "MOST_ENTRIES", "NO_SCORE", "START", "Answer", "Board", "Discs", "Game", "GameRefused", "Kind",
-    "LibraryNotFound", "Position", "ScoreComparison", "Scoring", "Solver", "Symmetry", "WrongScore", "compare_scores",
-    "masks_of", "parse_lines", "positions_from", "read_games", "read_lines", "square_name", "square_names",
-    "square_number", "table_entries",
+    "MOST_EMPTIES", "MOST_ENTRIES", "NO_SCORE", "START", "Answer", "BadSide", "BadSquare", "Board", "Discs", "Game",
+    "GameRefused", "Kind", "LibraryNotFound", "LineRefused", "NoMemory", "NoMove", "NoPosition", "OtherRefusal",
+    "Position", "Refused", "ScoreComparison", "Scoring", "SharedSquare", "ShortBoard", "Solver", "Status", "Symmetry",
+    "TooManyEmpties", "TooManyEntries", "UnequalLengths", "UnknownScoring", "UnknownSymmetry", "WrongScore",
+    "compare_scores", "masks_of", "parse_lines", "positions_from", "read_games", "read_lines", "square_name",
+    "square_names", "square_number", "table_entries",
 ]
-__all__ += _refusals.__all__

@@ -239,7 +239,6 @@ class Position(NamedTuple("Masks", [("own", int), ("opp", int)])):
         return self.show()._repr_svg_()
 
 
-Line = Position  # its name in earlier versions, if a line of text held the position
 START = Position(0x0000000810000000, 0x0000001008000000)  # Black, on E4 and D5, is to move
 
 

@@ -6,12 +6,6 @@ from typing import Any, Dict, Optional, Tuple, Type
 
 from ._library import MOST_EMPTIES, MOST_ENTRIES
 
-__all__ = [
-    "BadSide", "BadSquare", "LineRefused", "NoMemory", "NoMove", "NoPosition", "OtherRefusal", "Refused",
-    "SharedSquare", "ShortBoard", "Status", "TooManyEmpties", "TooManyEntries", "UnequalLengths", "UnknownScoring",
-    "UnknownSymmetry",
-]
-
 
 class Status(enum.IntEnum):
     """The statuses that calls of the library return. In ffosolve.h, each name begins with FFOSOLVE_."""
