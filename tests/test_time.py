@@ -6,7 +6,7 @@ import timeit
 import pytest
 
 from .prefix import PREFIX, TESTS, C, setUpModule
-from .support import InFolder, built, limited, run, stored
+from .support import InFolder, built, limited, run, stored, write
 from ffosolve import MOST_ENTRIES, Position
 from ffosolve._library import CAnswer, CMoveScores, load
 from ffosolve._rules import c_positions
@@ -38,9 +38,11 @@ class Runs(InFolder):
             self.ends((usual.returncode, usual.stdout, ""), *words, input=KINDS, preexec_fn=little)
             self.ends(refused, *words, "--table", MOST_ENTRIES, input=KINDS, preexec_fn=little)
 
-    def test_a_right_book_saves_time_with_workers_and_with_progress(self):
+    def test_a_right_book_saves_time_with_workers_with_progress_and_of_several_files(self):
         run(built(), "--book-out", "right.book", input=ADVISED, check=True)
-        for options, lines in (("--workers 0", 1), ("--workers 0 --progress", 1), ("--workers 8 --table 0", 8)):
+        write("it.obf", ADVISED)
+        for options, lines in (("--workers 0", 1), ("--workers 0 --progress", 1), ("--workers 8 --table 0", 8),
+                               ("--table 0 it.obf it.obf", 0)):
             with self.subTest(options=options):
                 words, how = (built(), *options.split()), {"input": ADVISED * lines, "check": True}
                 books = (), ("--book-in", "right.book")
