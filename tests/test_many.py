@@ -232,6 +232,14 @@ def test_wrong_command_lines_are_refused(case, status, message, words):
     case.refused(status, message, *words)
 
 
+def test_a_book_of_another_scoring_is_a_list_if_a_scoring_is_named(case):
+    for scoring in ("discs", "sign"):
+        write("it.book", f"% ffobook 2 {scoring}\n")
+        case.refused(2, f"it.book is a book of the scoring {scoring}: use --scoring {scoring}", "it.book")
+        for named in (scoring, "winner"):
+            case.many(f"--scoring={named}", f"{scoring}-{named}", "it.book", output=b"[1]\nsolved 0 refused 0\n")
+
+
 def test_files_that_may_not_be_read_or_written_are_named(case):
     write("secret", case.SMALL, 0o600)
     case.refused(3, "cannot read secret: Permission denied\n", "work", "secret", **NOBODY)

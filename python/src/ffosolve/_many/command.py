@@ -131,8 +131,13 @@ def run_of(command: argparse.Namespace, programs: str) -> Run:
         raise misused(f"'{shown(command.list)}' has no folder of its own: name a FOLDER before it")
     if is_same(path, 1):
         raise misused(f"standard output is the list {shown(command.list)}: name another file")
-    command.lines, command.scoring = command.lines or 1000, command.scoring or "winner"
     source = regular(command.list)
+    with source.open("rb") as file:
+        book = re.match(rb"% ffobook 2 (discs|sign)\s", file.readline(99))
+    if book and not command.scoring:
+        scoring = book[1].decode()
+        raise misused(f"{shown(command.list)} is a book of the scoring {scoring}: use --scoring {scoring}")
+    command.lines, command.scoring = command.lines or 1000, command.scoring or "winner"
     book_in = regular(command.book_in) if command.book_in else None
     program = program_in(programs, "ffoscores" if command.scores else "ffosolve")
     words = words_of(options_of(command, None), str(book_in) if book_in else None)
