@@ -16,8 +16,8 @@ DENIED, IN_THE_WAY = "permission denied", "another file is in the way"
 
 
 def unwritten(cause, name="it.book", report=b""):
-    """Returns the (status, output, error) of a run that can't write the book `name`. Its error is a line that
-    names the book and, unless `cause` is empty, a line with the cause. Its output is `report`, by default empty."""
+    """Makes the (status, output, error) that a run has to end with if it can't write the book `name`: the error is a
+    line with the name and, unless `cause` is empty, one with the cause; the output is `report`."""
     return 3, report, "".join(f"ffosolve: {line}\n" for line in (f"cannot write {name}", cause) if line).encode()
 
 
