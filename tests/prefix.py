@@ -59,9 +59,9 @@ def path_without(tool, folder):
 
 
 class Prefix:
-    """The installed files, and the folder `work`, in which tests build programs that use them. A test module that
-    imports `setUpModule` calls `install` once: this makes `work`, installs under a prefix in `work` if TEST_PREFIX is
-    not set, and copies the installed documents, which include the packages for Python and Rust, into `work`."""
+    """The installed files, and the folder `work`, in which tests build programs that use them. A test module with
+    `setup_module = PREFIX.install` makes `work` first, installs under a prefix in `work` if TEST_PREFIX is not set, and
+    copies the installed documents, which include the packages for Python and Rust, into `work`."""
 
     def install(self):
         vars(self).clear()
@@ -133,6 +133,13 @@ class Prefix:
         self.cargo("build", self.work / name, "--quiet", env={**self.environment, **places})
         return self.work / "target/debug" / name
 
+    def rust_client_of(self, name, source, calls):
+        """Builds a Rust program that uses the crate with a made-up library; `calls` is the library's source in C."""
+        folder = self.write(f"{name}-library/calls.c", calls).parent
+        self.make("cc", "-c", "calls.c", cwd=folder)
+        self.make("ar", "rcs", "libffosolve.a", "calls.o", cwd=folder)
+        return self.rust_client(name, source, FFOSOLVE_LIB_DIR=str(folder))
+
     def called(self, calls, **how):
         """Returns the lines that tests/library_calls.c prints, one for each of `calls`. The comment at the top of that
         file says how calls are written."""
@@ -141,4 +148,3 @@ class Prefix:
 
 
 PREFIX = Prefix()
-setUpModule = PREFIX.install

@@ -7,13 +7,16 @@ import shlex
 import shutil
 import sys
 import tarfile
-import unittest
 import zipfile
 
-from .prefix import CXX, PIP, PREFIX, VERSION, C, setUpModule
-from .support import ROOT, built, lack, need, need_module, run, stored
-import ffosolve
+import pytest
 
+import ffosolve
+from tests.prefix import CXX, PIP, PREFIX, VERSION, C
+from tests.support import ROOT, built, lack, need, need_module, run, stored
+
+setup_module = PREFIX.install
+PAGE = "docs/check-evaluation.md"  # its program reads a list of positions, and their scores
 SMALL, LARGE = 9, 10  # how many positions of examples/masks.txt an example solves; only the last has 20 empty squares
 CMAKE = """cmake_minimum_required(VERSION 3.16)
 project(clients C CXX)
@@ -75,181 +78,186 @@ def shown(language, *names):
     return block, "".join(f"{line}\n" for line in re.findall(r"(?:  # |// )(.*)$", block, re.MULTILINE))
 
 
-class Examples(unittest.TestCase):
-    def answers(self, *command, count=LARGE):
-        """Runs an example program three times: for the first `count` lines of examples/masks.txt, for two positions of
-        which the first has two best moves, and for two of which the second is refused. Asserts what it prints."""
-        masks, answers = (stored("examples", f"{name}.txt").decode().splitlines(True) for name in ("masks", "answers"))
-        ran = PREFIX.run(*command, text="".join(masks[:count]))
-        self.assertEqual((ran.returncode, ran.stdout), (0, "".join(answers[:count] + answers[LARGE:])), ran.stderr)
-        ran = PREFIX.run(*command, text=masks[2] + "fffffff8 7fffffff00000007\n")
-        self.assertEqual(ran.stdout, answers[2] + "+08 H8\nA1 of A1,H1\nPS\nH1 of H1\n", ran.stderr)
-        ran = PREFIX.run(*command, text=masks[0] + "3 2\n")
-        self.assertEqual((ran.returncode, ran.stdout), (1, ""))
-        self.assertIn("position 2: the masks share a square", ran.stderr)
-
-    def test_examples_in_c_and_cxx_are_built_by_pkg_config(self):
-        need("pkg-config")
-        self.assertEqual(PREFIX.make("pkg-config", "--modversion", "ffosolve").stdout.strip(), VERSION)
-        flags = shlex.split(PREFIX.make("pkg-config", "--cflags", "--libs", "ffosolve").stdout)
-        source = PREFIX.shipped / "examples/c/answers.c"
-        for compiler, count, words in ((C, LARGE, ()), (C, SMALL, ("-static",)), (CXX, SMALL, ())):
-            with self.subTest(compiler=compiler[0], words=words):
-                program = PREFIX.compile(compiler, "by-pkg-config", [*words, source], "-x", "none", *flags)
-                self.answers(program, count=count)
-
-    def test_examples_in_c_and_cxx_are_built_by_cmake(self):
-        """The CMake code of docs/library.md links one program with the static library; CMAKE, the text around it, links
-        two with the shared library. If the code asks for a newer version than is installed, the command cmake fails."""
-        need("cmake")
-        (first, second, _), (block, _) = VERSION.split("."), shown("cmake")
-        for name in ("answers.c", "answers.cpp"):
-            PREFIX.write(f"cmake/{name}", (PREFIX.shipped / "examples/c/answers.c").read_text())
-        configure = ("cmake", "-S", "cmake", "-B", "cmake-built", f"-DCMAKE_PREFIX_PATH={PREFIX.folder}")
-        PREFIX.write("cmake/CMakeLists.txt", CMAKE.format(block))
-        PREFIX.make(*configure)
-        PREFIX.make("cmake", "--build", "cmake-built")
-        for name in ("program", "shared", "in_cxx"):
-            with self.subTest(name=name):
-                self.answers(PREFIX.work / "cmake-built" / name, count=SMALL)
-        PREFIX.write("cmake/CMakeLists.txt", CMAKE.format(block.replace(" 1.0 ", f" {first}.{int(second) + 1} ")))
-        ran = PREFIX.run(*configure)
-        self.assertNotEqual(ran.returncode, 0)
-        self.assertIn(VERSION, ran.stderr)
-
-    def test_the_example_in_python_runs(self):
-        script = [PREFIX.site and sys.executable, PREFIX.shipped / "examples/python/answers.py"]
-        self.answers(*script)
-        self.answers(*script, PREFIX.shared, count=SMALL)
-
-    def test_the_example_in_rust_runs(self):
-        self.assertTrue(PREFIX.crate)
-        PREFIX.cargo("build", PREFIX.work / "rust", "--quiet", "--example", "answers")
-        self.answers(PREFIX.work / "target/debug/examples/answers")
-
-    def command(self, language, block):
-        """Builds a block of code, unless it is in Python; returns the words of a command that runs the block."""
-        if language == "python":
-            return PREFIX.site and sys.executable, "-c", block
-        if language == "rust":
-            program = f"fn main() -> Result<(), Box<dyn std::error::Error>> {{\n{block}Ok(())\n}}\n"
-            return [PREFIX.rust_client("readme", program)]
-        return [PREFIX.compile(C if language == "c" else CXX, "shown", [PREFIX.write(f"shown.{language}", block)])]
-
-    def test_each_program_of_the_documents_prints_what_is_shown(self):
-        page = "docs/check-evaluation.md"  # its program reads a list of positions, and their scores
-        listed = re.search(r"^> (\S{64} X; .*\n)", (ROOT / page).read_text(), re.MULTILINE)[1]
-        PREFIX.write("list.obf", listed)
-        PREFIX.write("list.scores", run(built("ffoscores"), input=listed.encode()).stdout)
-        pages = "README.md", "docs/library.md", page
-        for language, *names in (["c"], ["cpp"], *(["python", name] for name in pages), ["rust"]):
-            with self.subTest(language=language, names=names):
-                block, wanted = shown(language, *names)
-                self.assertNotEqual(wanted, "")
-                self.assertEqual(PREFIX.make(*self.command(language, block)).stdout, wanted)
+def answers_of(*command, count=LARGE):
+    """Runs an example program three times: for the first `count` lines of examples/masks.txt, for two positions of
+    which the first has two best moves, and for two of which the second is refused. Asserts what it prints."""
+    masks, answers = (stored("examples", f"{name}.txt").decode().splitlines(True) for name in ("masks", "answers"))
+    ran = PREFIX.run(*command, text="".join(masks[:count]))
+    assert (ran.returncode, ran.stdout) == (0, "".join(answers[:count] + answers[LARGE:])), ran.stderr
+    ran = PREFIX.run(*command, text=masks[2] + "fffffff8 7fffffff00000007\n")
+    assert ran.stdout == answers[2] + "+08 H8\nA1 of A1,H1\nPS\nH1 of H1\n", ran.stderr
+    ran = PREFIX.run(*command, text=masks[0] + "3 2\n")
+    assert (ran.returncode, ran.stdout) == (1, "")
+    assert "position 2: the masks share a square" in ran.stderr
 
 
-class PythonPackage(unittest.TestCase):
-    def test_its_own_tests_pass(self):
-        self.assertTrue((PREFIX.site / "ffosolve/py.typed").exists())
-        need_module("pytest")
-        words = (sys.executable, "-m", "pytest", "-q", "-p", "no:cacheprovider", PREFIX.work / "python/tests")
-        self.assertRegex(PREFIX.make(*words).stdout, r"(?m)^[1-9]\d* passed")
-
-    def test_pip_installs_its_program(self):
-        program = PREFIX.site / "bin/ffosolve-games"
-        self.assertEqual(PREFIX.make(program, "--version").stdout, f"ffosolve-games {ffosolve.__version__}\n")
-        self.assertRegex(PREFIX.make(program, "--empties=59", text="f5").stdout, r"\A\S{64} O; % -, game 1\n\Z")
-
-    def test_a_library_of_another_version_or_without_a_call_is_refused(self):
-        need("cc")
-        older, lacking = "has version 20000, not 1.x.y", "is not this package's library"
-        for missing, number, why in (("", 10203, ""), ("", 20000, older), ("ffosolve_play", 10203, lacking)):
-            calls = PREFIX.calls - {missing}
-            source = PREFIX.write("other.c", "".join(f"int {name}(void) {{ return {number}; }}\n" for name in calls))
-            other = PREFIX.work / f"other-{len(calls)}-{number}.so"
-            PREFIX.make("cc", "-shared", "-fPIC", "-o", other, source)
-            env = {**PREFIX.environment, "FFOSOLVE_LIBRARY": str(other)}
-            ran = PREFIX.run(PREFIX.site and sys.executable, "-c", "import ffosolve; ffosolve.Solver()", env=env)
-            is_refused = why in ran.stderr and str(other) in ran.stderr
-            self.assertTrue(is_refused if why else ran.returncode == 0, ran)
-
-    def built(self, source, *kinds):
-        """Builds archives of the package for Python in the folder `source`, one of each of `kinds`, such as "sdist", by
-        the build backend. Returns the archives' paths."""
-        hooks = "import sys, hatchling.build as made\n"
-        hooks += "for kind in sys.argv[2:]: print(getattr(made, f'build_{kind}')(sys.argv[1]))"
-        names = PREFIX.make(sys.executable, "-Bc", hooks, PREFIX.work, *kinds, cwd=source).stdout.split()
-        return [PREFIX.work / name for name in names]
-
-    def test_pip_installs_its_source_archive_and_an_editable_wheel(self):
-        wanted = sorted(os.listdir(PREFIX.site / "ffosolve"))
-        for path, place in zip(self.built(PREFIX.work / "python", "sdist", "editable"), ("of-archive", "editable")):
-            PREFIX.make(*PIP, "--target", PREFIX.work / place, path)
-        self.assertEqual(sorted(os.listdir(PREFIX.work / "of-archive/ffosolve")), wanted)
-        self.assertEqual((PREFIX.work / "editable/ffosolve.pth").read_text(), str(PREFIX.work / "python/src"))
-
-    def test_the_wheel_and_the_source_archive_are_fit_to_be_published(self):
-        head, paths = f"ffosolve-{ffosolve.__version__}", self.built(ROOT / "python", "wheel", "sdist")
-        self.assertEqual([path.name for path in paths], [f"{head}-py3-none-any.whl", f"{head}.tar.gz"])
-        with zipfile.ZipFile(paths[0]) as wheel, tarfile.open(paths[1]) as archive:
-            licence, metadata = (wheel.read(f"{head}.dist-info/{name}") for name in ("LICENSE", "METADATA"))
-            of_archive = [archive.extractfile(f"{head}/{name}").read() for name in ("LICENSE", "PKG-INFO")]
-        self.assertEqual((licence, of_archive), (stored("LICENSE"), [licence, metadata]))
-        fields = email.message_from_string(metadata.decode())
-        for field in ("Summary", "Author-email", "License", "Project-URL", "Requires-Python"):
-            self.assertTrue(fields[field], field)
-        self.assertEqual(fields["Version"], ffosolve.__version__)
-        self.assertEqual(fields["Description-Content-Type"], "text/markdown")
-        self.assertEqual(fields.get_payload(), inspect.getdoc(ffosolve) + "\n")
-        need("twine")
-        ran = run("twine", "check", "--strict", *paths)
-        self.assertEqual((ran.returncode, ran.stdout.count(b"PASSED")), (0, 2), ran)
+def test_examples_in_c_and_cxx_are_built_by_pkg_config():
+    need("pkg-config")
+    assert PREFIX.make("pkg-config", "--modversion", "ffosolve").stdout.strip() == VERSION
+    flags = shlex.split(PREFIX.make("pkg-config", "--cflags", "--libs", "ffosolve").stdout)
+    source = PREFIX.shipped / "examples/c/answers.c"
+    for compiler, count, words in ((C, LARGE, ()), (C, SMALL, ("-static",)), (CXX, SMALL, ())):
+        program = PREFIX.compile(compiler, "by-pkg-config", [*words, source], "-x", "none", *flags)
+        answers_of(program, count=count)
 
 
-class RustCrate(unittest.TestCase):
-    def test_it_declares_the_calls_of_the_header(self):
-        declared = re.findall(r"pub fn (ffosolve_\w+)", (ROOT / "rust/src/raw.rs").read_text())
-        self.assertEqual(sorted(declared), sorted(PREFIX.calls))
+def test_examples_in_c_and_cxx_are_built_by_cmake():
+    """The CMake code of docs/library.md links one program with the static library; CMAKE, the text around it, links
+    two with the shared library. If the code asks for a newer version than is installed, the command cmake fails."""
+    need("cmake")
+    (first, second, _), (block, _) = VERSION.split("."), shown("cmake")
+    for name in ("answers.c", "answers.cpp"):
+        PREFIX.write(f"cmake/{name}", (PREFIX.shipped / "examples/c/answers.c").read_text())
+    configure = ("cmake", "-S", "cmake", "-B", "cmake-built", f"-DCMAKE_PREFIX_PATH={PREFIX.folder}")
+    PREFIX.write("cmake/CMakeLists.txt", CMAKE.format(block))
+    PREFIX.make(*configure)
+    PREFIX.make("cmake", "--build", "cmake-built")
+    for name in ("program", "shared", "in_cxx"):
+        answers_of(PREFIX.work / "cmake-built" / name, count=SMALL)
+    PREFIX.write("cmake/CMakeLists.txt", CMAKE.format(block.replace(" 1.0 ", f" {first}.{int(second) + 1} ")))
+    ran = PREFIX.run(*configure)
+    assert ran.returncode != 0
+    assert VERSION in ran.stderr
 
-    def test_its_own_tests_pass_with_either_library(self):
-        need("readelf")
-        for features in ((), ("--features", "shared")):
-            with self.subTest(features=features):
-                ran = PREFIX.cargo("test", PREFIX.crate, "--no-run", *features)
-                self.assertNotIn("warning", ran.stderr)
-                program = re.search(r"Executable tests/calls.rs \((.*)\)", ran.stderr)[1]
-                needed = PREFIX.make("readelf", "-d", PREFIX.work / program).stdout
-                self.assertEqual("[libffosolve.so.1]" in needed, bool(features), needed)
-                ran = PREFIX.cargo("test", PREFIX.crate, *features)
-                passed = re.findall(r"^test result: ok. (\d+) passed", ran.stdout, re.MULTILINE)
-                self.assertGreater(len(passed), 2, ran.stdout)
 
-    def test_the_compiler_that_the_manifest_names_takes_crate_and_example(self):
-        crate = shutil.copytree(PREFIX.shipped / "rust", PREFIX.work / "oldest/rust")  # without what another cargo made
-        oldest = re.search(r'^rust-version = "(.+)"$', (crate / "Cargo.toml").read_text(), re.MULTILINE)[1]
-        folders = [folder for folder in os.get_exec_path() if os.path.exists(f"{folder}/rustc")
-                   and run(f"{folder}/rustc", "--version", text=True).stdout.startswith(f"rustc {oldest}.")]
-        folder = folders[0] if folders else lack(f"rustc {oldest}")
-        places = {"RUSTC": f"{folder}/rustc", "CARGO_TARGET_DIR": str(PREFIX.work / "oldest/target")}
-        words = "check", "--quiet", "--lib", "--examples"
-        PREFIX.make(f"{folder}/cargo", *words, cwd=crate, env={**PREFIX.environment, **places})
+def test_the_example_in_python_runs():
+    script = [PREFIX.site and sys.executable, PREFIX.shipped / "examples/python/answers.py"]
+    answers_of(*script)
+    answers_of(*script, PREFIX.shared, count=SMALL)
 
-    def test_the_library_gets_the_scoring_the_table_and_the_claim_that_were_asked_for(self):
-        """Builds ASKED_IN_RUST with a made-up library, PRINTED_IN_C, whose functions print what they get."""
-        folder = PREFIX.write("that-prints/calls.c", PRINTED_IN_C).parent
-        PREFIX.make("cc", "-c", "-I", PREFIX.header.parent, "calls.c", cwd=folder)
-        PREFIX.make("ar", "rcs", "libffosolve.a", "calls.o", cwd=folder)
-        program = PREFIX.rust_client("asked", ASKED_IN_RUST, FFOSOLVE_LIB_DIR=str(folder))
-        wanted = [*asked(0, 0, 4096, 65536), *asked(2, 5, 5, 5)]  # by default the tables that ffosolve.h suggests
-        self.assertEqual(sorted(PREFIX.make(program).stdout.splitlines()), sorted(wanted))
 
-    def test_ffosolve_lib_dir_names_the_folder_of_the_library(self):
-        shutil.copytree(PREFIX.libraries, PREFIX.work / "libraries", symlinks=True)
-        places = {**PREFIX.environment, "PKG_CONFIG_PATH": "", "FFOSOLVE_LIB_DIR": str(PREFIX.work / "libraries")}
-        PREFIX.cargo("test", PREFIX.crate, "--quiet", "--test", "calls", env=places)
-        nowhere = {**PREFIX.environment, "FFOSOLVE_LIB_DIR": "/nowhere"}  # has precedence over pkg-config
-        ran = PREFIX.run("cargo", "check", "--manifest-path", PREFIX.crate / "Cargo.toml", env=nowhere)
-        self.assertNotEqual(ran.returncode, 0)
-        why = "/nowhere/libffosolve.a is missing: install ffosolve, or set FFOSOLVE_LIB_DIR to its folder"
-        self.assertIn(why, ran.stderr)
+def test_the_example_in_rust_runs():
+    assert PREFIX.crate
+    PREFIX.cargo("build", PREFIX.work / "rust", "--quiet", "--example", "answers")
+    answers_of(PREFIX.work / "target/debug/examples/answers")
+
+
+def command_of(language, block):
+    """Builds a block of code, unless it is in Python; returns the words of a command that runs the block."""
+    if language == "python":
+        return PREFIX.site and sys.executable, "-c", block
+    if language == "rust":
+        program = f"fn main() -> Result<(), Box<dyn std::error::Error>> {{\n{block}Ok(())\n}}\n"
+        return [PREFIX.rust_client("readme", program)]
+    return [PREFIX.compile(C if language == "c" else CXX, "shown", [PREFIX.write(f"shown.{language}", block)])]
+
+
+@pytest.mark.parametrize("language, names", [
+    ("c", []), ("cpp", []), *(("python", [name]) for name in ("README.md", "docs/library.md", PAGE)), ("rust", []),
+])
+def test_each_program_of_the_documents_prints_what_is_shown(language, names):
+    listed = re.search(r"^> (\S{64} X; .*\n)", (ROOT / PAGE).read_text(), re.MULTILINE)[1]
+    PREFIX.write("list.obf", listed)
+    PREFIX.write("list.scores", run(built("ffoscores"), input=listed.encode()).stdout)
+    block, wanted = shown(language, *names)
+    assert wanted != ""
+    assert PREFIX.make(*command_of(language, block)).stdout == wanted
+
+
+def test_the_packages_own_tests_pass():
+    assert (PREFIX.site / "ffosolve/py.typed").exists()
+    need_module("pytest")
+    words = (sys.executable, "-m", "pytest", "-q", "-p", "no:cacheprovider", PREFIX.work / "python/tests")
+    assert re.search(r"(?m)^[1-9]\d* passed", PREFIX.make(*words).stdout)
+
+
+def test_pip_installs_the_packages_program():
+    program = PREFIX.site / "bin/ffosolve-games"
+    assert PREFIX.make(program, "--version").stdout == f"ffosolve-games {ffosolve.__version__}\n"
+    assert re.search(r"\A\S{64} O; % -, game 1\n\Z", PREFIX.make(program, "--empties=59", text="f5").stdout)
+
+
+def test_a_library_of_another_version_or_without_a_call_is_refused():
+    need("cc")
+    older, lacking = "has version 20000, not 1.x.y", "is not this package's library"
+    for missing, number, why in (("", 10203, ""), ("", 20000, older), ("ffosolve_play", 10203, lacking)):
+        calls = PREFIX.calls - {missing}
+        source = PREFIX.write("other.c", "".join(f"int {name}(void) {{ return {number}; }}\n" for name in calls))
+        other = PREFIX.work / f"other-{len(calls)}-{number}.so"
+        PREFIX.make("cc", "-shared", "-fPIC", "-o", other, source)
+        env = {**PREFIX.environment, "FFOSOLVE_LIBRARY": str(other)}
+        ran = PREFIX.run(PREFIX.site and sys.executable, "-c", "import ffosolve; ffosolve.Solver()", env=env)
+        is_refused = why in ran.stderr and str(other) in ran.stderr
+        assert (is_refused if why else ran.returncode == 0), ran
+
+
+def archives(source, *kinds):
+    """Builds archives of the package for Python in the folder `source`, one of each of `kinds`, such as "sdist", by
+    the build backend. Returns the archives' paths."""
+    hooks = "import sys, hatchling.build as made\n"
+    hooks += "for kind in sys.argv[2:]: print(getattr(made, f'build_{kind}')(sys.argv[1]))"
+    names = PREFIX.make(sys.executable, "-Bc", hooks, PREFIX.work, *kinds, cwd=source).stdout.split()
+    return [PREFIX.work / name for name in names]
+
+
+def test_pip_installs_the_packages_source_archive_and_an_editable_wheel():
+    wanted = sorted(os.listdir(PREFIX.site / "ffosolve"))
+    for path, place in zip(archives(PREFIX.work / "python", "sdist", "editable"), ("of-archive", "editable")):
+        PREFIX.make(*PIP, "--target", PREFIX.work / place, path)
+    assert sorted(os.listdir(PREFIX.work / "of-archive/ffosolve")) == wanted
+    assert (PREFIX.work / "editable/ffosolve.pth").read_text() == str(PREFIX.work / "python/src")
+
+
+def test_the_wheel_and_the_source_archive_are_fit_to_be_published():
+    head, paths = f"ffosolve-{ffosolve.__version__}", archives(ROOT / "python", "wheel", "sdist")
+    assert ([path.name for path in paths]) == [f"{head}-py3-none-any.whl", f"{head}.tar.gz"]
+    with zipfile.ZipFile(paths[0]) as wheel, tarfile.open(paths[1]) as archive:
+        licence, metadata = (wheel.read(f"{head}.dist-info/{name}") for name in ("LICENSE", "METADATA"))
+        of_archive = [archive.extractfile(f"{head}/{name}").read() for name in ("LICENSE", "PKG-INFO")]
+    assert (licence, of_archive) == (stored("LICENSE"), [licence, metadata])
+    fields = email.message_from_string(metadata.decode())
+    for field in ("Summary", "Author-email", "License", "Project-URL", "Requires-Python"):
+        assert fields[field], field
+    assert fields["Version"] == ffosolve.__version__
+    assert fields["Description-Content-Type"] == "text/markdown"
+    assert fields.get_payload() == inspect.getdoc(ffosolve) + "\n"
+    need("twine")
+    ran = run("twine", "check", "--strict", *paths)
+    assert (ran.returncode, ran.stdout.count(b"PASSED")) == (0, 2), ran
+
+
+def test_the_crate_declares_the_calls_of_the_header():
+    declared = re.findall(r"pub fn (ffosolve_\w+)", (ROOT / "rust/src/raw.rs").read_text())
+    assert sorted(declared) == sorted(PREFIX.calls)
+
+
+@pytest.mark.parametrize("features", [(), ("--features", "shared")])
+def test_the_crates_own_tests_pass_with_either_library(features):
+    need("readelf")
+    ran = PREFIX.cargo("test", PREFIX.crate, "--no-run", *features)
+    assert "warning" not in ran.stderr
+    program = re.search(r"Executable tests/calls.rs \((.*)\)", ran.stderr)[1]
+    needed = PREFIX.make("readelf", "-d", PREFIX.work / program).stdout
+    assert ("[libffosolve.so.1]" in needed) == bool(features), needed
+    ran = PREFIX.cargo("test", PREFIX.crate, *features)
+    passed = re.findall(r"^test result: ok. (\d+) passed", ran.stdout, re.MULTILINE)
+    assert len(passed) > 2, ran.stdout
+
+
+def test_the_compiler_that_the_manifest_names_takes_crate_and_example():
+    crate = shutil.copytree(PREFIX.shipped / "rust", PREFIX.work / "oldest/rust")  # without what another cargo made
+    oldest = re.search(r'^rust-version = "(.+)"$', (crate / "Cargo.toml").read_text(), re.MULTILINE)[1]
+    folders = [folder for folder in os.get_exec_path() if os.path.exists(f"{folder}/rustc")
+               and run(f"{folder}/rustc", "--version", text=True).stdout.startswith(f"rustc {oldest}.")]
+    folder = folders[0] if folders else lack(f"rustc {oldest}")
+    places = {"RUSTC": f"{folder}/rustc", "CARGO_TARGET_DIR": str(PREFIX.work / "oldest/target")}
+    words = "check", "--quiet", "--lib", "--examples"
+    PREFIX.make(f"{folder}/cargo", *words, cwd=crate, env={**PREFIX.environment, **places})
+
+
+def test_the_library_gets_the_scoring_the_table_and_the_claim_that_were_asked_for():
+    """Builds ASKED_IN_RUST with a made-up library, PRINTED_IN_C, whose functions print what they get."""
+    program = PREFIX.rust_client_of("asked", ASKED_IN_RUST, PRINTED_IN_C)
+    wanted = [*asked(0, 0, 4096, 65536), *asked(2, 5, 5, 5)]  # by default the tables that ffosolve.h suggests
+    assert sorted(PREFIX.make(program).stdout.splitlines()) == sorted(wanted)
+
+
+def test_ffosolve_lib_dir_names_the_folder_of_the_library():
+    shutil.copytree(PREFIX.libraries, PREFIX.work / "libraries", symlinks=True)
+    places = {**PREFIX.environment, "PKG_CONFIG_PATH": "", "FFOSOLVE_LIB_DIR": str(PREFIX.work / "libraries")}
+    PREFIX.cargo("test", PREFIX.crate, "--quiet", "--test", "calls", env=places)
+    nowhere = {**PREFIX.environment, "FFOSOLVE_LIB_DIR": "/nowhere"}  # has precedence over pkg-config
+    ran = PREFIX.run("cargo", "check", "--manifest-path", PREFIX.crate / "Cargo.toml", env=nowhere)
+    assert ran.returncode != 0
+    why = "/nowhere/libffosolve.a is missing: install ffosolve, or set FFOSOLVE_LIB_DIR to its folder"
+    assert why in ran.stderr

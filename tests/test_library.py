@@ -1,17 +1,20 @@
 """The library for C and C++: its files, header and calls, and the statuses in C, C++, Python and Rust."""
+import functools
 import itertools
 import os
 import re
 import subprocess
-import unittest
 from concurrent.futures import ThreadPoolExecutor
 
-from .prefix import CXX, NUMBER, PREFIX, STRICT, TESTS, VERSION, C, setUpModule
-from .support import limited, need, need_module
-from .positions import random_positions
+import pytest
+
 import ffosolve
 from ffosolve._refusals import refusal_of
+from tests.positions import random_positions
+from tests.prefix import CXX, NUMBER, PREFIX, STRICT, TESTS, VERSION, C
+from tests.support import limited, need, need_module
 
+setup_module = PREFIX.install
 COMPILERS = [*itertools.product(("cc", "clang"), ("c90", "c99", "c11", "c17", "c2x"), ("c",)),
              *itertools.product(("c++", "clang++"), ("c++11", "c++14", "c++17", "c++20"), ("cpp",))]
 PROGRAM = """#include "ffosolve.h"
@@ -47,158 +50,162 @@ fn main() {
 """
 
 
-class Library(unittest.TestCase):
-    def test_it_exports_exactly_the_calls_of_the_header(self):
-        need("nm")
-        for words in (["-D", PREFIX.shared], ["-g", PREFIX.archive]):
-            printed = PREFIX.make("nm", "--defined-only", *words).stdout
-            exported = {line.split()[2].split("@")[0] for line in printed.splitlines() if " T " in line}
-            self.assertEqual(exported, PREFIX.calls)
-            self.assertIn("ffosolve_solve", exported)
-
-    def test_the_shared_object_has_its_names_and_needs_only_the_c_library(self):
-        need("readelf")
-        major = VERSION.split(".")[0]
-        for end in ("", f".{major}"):
-            link = PREFIX.libraries / f"libffosolve.so{end}"
-            self.assertEqual(link.resolve().name, f"libffosolve.so.{VERSION}")
-        printed = PREFIX.make("readelf", "-d", "-l", "-V", "-W", PREFIX.shared).stdout
-        self.assertEqual(re.findall(r"\(NEEDED\).*\[(.*)\]", printed), ["libc.so.6"])
-        self.assertEqual(re.findall(r"GNU_STACK.*\b(RWE?)\b", printed), ["RW"])
-        for part in (f"soname: [libffosolve.so.{major}]", "GNU_RELRO", "BIND_NOW", f"Name: FFOSOLVE_{major}"):
-            self.assertIn(part, printed)
+def test_it_exports_exactly_the_calls_of_the_header():
+    need("nm")
+    for words in (["-D", PREFIX.shared], ["-g", PREFIX.archive]):
+        printed = PREFIX.make("nm", "--defined-only", *words).stdout
+        exported = {line.split()[2].split("@")[0] for line in printed.splitlines() if " T " in line}
+        assert exported == PREFIX.calls
+        assert "ffosolve_solve" in exported
 
 
-class Header(unittest.TestCase):
-    def test_each_compiler_takes_it_in_each_standard(self):
-        for compiler, standard, language in COMPILERS:
-            with self.subTest(compiler=compiler, standard=standard):
-                source = PREFIX.write(f"header.{language}", PROGRAM)
-                PREFIX.make(PREFIX.compile([compiler, f"-std={standard}", *STRICT], "header", [source]))
-
-    def test_swig_wraps_it(self):
-        need("swig")
-        include = '%include "stdint.i"\n%include "ffosolve.h"\n'
-        PREFIX.write("wrap.i", '%module wrap\n%{\n#include "ffosolve.h"\n%}\n' + include)
-        PREFIX.make("swig", "-Wall", "-Werror", "-python", f"-I{PREFIX.header.parent}", "wrap.i")
-        made = (PREFIX.work / "wrap.py").read_text()
-        for name in [f"def {name}(" for name in PREFIX.calls] + ["class ffosolve_position(", "class ffosolve_answer("]:
-            self.assertIn(name, made)
-
-    def test_cffi_reads_its_declarations(self):
-        cffi = need_module("cffi")
-        head, end = 'extern "C" {\n#endif\n', "/* end of the declarations */"
-        declarations = PREFIX.text.split(head)[1].split(end)[0].replace("FFOSOLVE_MUST_USE", "")
-        reader = cffi.FFI()
-        reader.cdef(declarations)
-        library = reader.dlopen(str(PREFIX.shared))
-        self.assertEqual(library.ffosolve_limit(library.FFOSOLVE_LIMIT_ENTRIES), library.FFOSOLVE_MOST_ENTRIES)
-
-    def test_a_compiler_warns_if_a_status_is_ignored(self):
-        """Tries every function that returns a status, whether it is in the library or inline in the header."""
-        declared = re.findall(r"^(?:static __inline__ )?int32_t (ffosolve_\w+)\(([^)]*)\)", PREFIX.text, re.MULTILINE)
-        names = {name for name, _ in declared}
-        self.assertLessEqual({"ffosolve_solve", "ffosolve_solve_all_or_null", "ffosolve_read_line_or_null"}, names)
-        source = '#include "ffosolve.h"\n' + "".join(f"#undef {name}\n" for name in names)
-        for name, parameters in declared:
-            arguments = re.findall(r"(\w+)(?:\[\d+\])?(?:,|$)", parameters)
-            source += f"void {name}_unused({parameters}) {{ {name}({', '.join(arguments)}); }}\n"
-        for compiler, standard, language in COMPILERS:
-            with self.subTest(compiler=compiler, standard=standard):
-                need(compiler)
-                file = PREFIX.write(f"unused.{language}", source)
-                command = (compiler, f"-std={standard}", "-c", "-o", os.devnull, "-I", PREFIX.header.parent, file)
-                self.assertEqual(PREFIX.run(*command, "-Wno-unused-result").returncode, 0)
-                errors = PREFIX.run(*command, "-Werror=unused-result").stderr
-                self.assertEqual(len(re.findall(r"\[-Werror[=,](?:-W)?unused-result\]", errors)), len(names), errors)
-
-    def test_a_status_has_one_name_number_and_text_in_each_language(self):
-        """STATUSES_IN_RUST calls a made-up library: each function returns 1 at its first call, then 2, 3 and so on."""
-        listed = re.findall(r"FFOSOLVE_(\w+) = (\d+)", PREFIX.text.split("enum ffosolve_status {")[1].split("}")[0])
-        self.assertEqual(listed, [(it.name, str(it.value)) for it in ffosolve.Status])
-        source = "".join(f"int {name}(void) {{ static int status; return ++status; }}\n" for name in PREFIX.calls)
-        folder = PREFIX.write("of-statuses/calls.c", source).parent
-        PREFIX.make("cc", "-c", "calls.c", cwd=folder)
-        PREFIX.make("ar", "rcs", "libffosolve.a", "calls.o", cwd=folder)
-        program = PREFIX.rust_client("statuses", STATUSES_IN_RUST, FFOSOLVE_LIB_DIR=str(folder))
-        for number, in_rust in enumerate(PREFIX.make(program).stdout.splitlines(), 1):
-            refusal, other = refusal_of(number), f"refused with status {number}"
-            text, is_of_line = refusal.reason, isinstance(refusal, ffosolve.LineRefused)
-            # The crate has no text for 3, another for 5, and reports 7, out of memory, from both calls.
-            special = {3: (other, other), 5: ("position at index 0: " + IN_RUST, other), 7: (text, text)}
-            solved, read = special.get(number, (other, text) if is_of_line else (text, other))
-            self.assertEqual(in_rust, f"{solved}; {read}")
+def test_the_shared_object_has_its_names_and_needs_only_the_c_library():
+    need("readelf")
+    major = VERSION.split(".")[0]
+    for end in ("", f".{major}"):
+        link = PREFIX.libraries / f"libffosolve.so{end}"
+        assert link.resolve().name == f"libffosolve.so.{VERSION}"
+    printed = PREFIX.make("readelf", "-d", "-l", "-V", "-W", PREFIX.shared).stdout
+    assert re.findall(r"\(NEEDED\).*\[(.*)\]", printed) == ["libc.so.6"]
+    assert re.findall(r"GNU_STACK.*\b(RWE?)\b", printed) == ["RW"]
+    for part in (f"soname: [libffosolve.so.{major}]", "GNU_RELRO", "BIND_NOW", f"Name: FFOSOLVE_{major}"):
+        assert part in printed
 
 
-class Calls(unittest.TestCase):
-    def setUp(self):
-        """Reads tests/library_calls.txt. A row is a call, ` = `, and what library_calls.c has to print for the call
-        according to the header. Words with `|` between them are alternatives: each combination is a call."""
-        self.calls, self.wanted = [], ""
-        for row in (TESTS / "library_calls.txt").read_text().splitlines():
-            call, wanted = row.rsplit(" = ", 1)
-            for words in itertools.product(*(word.split("|") for word in call.split(" "))):
-                call = " ".join(words).format_map(NAMES)
-                if call.startswith("read_line"):
-                    call = call[:12] + call[12:].encode().decode("unicode_escape").encode().hex()
-                self.calls.append(call)
-                self.wanted += wanted.format_map(NAMES) + "\n"
+@pytest.mark.parametrize(("compiler", "standard", "language"), COMPILERS)
+def test_each_compiler_takes_the_header_in_each_standard(compiler, standard, language):
+    source = PREFIX.write(f"header.{language}", PROGRAM)
+    PREFIX.make(PREFIX.compile([compiler, f"-std={standard}", *STRICT], "header", [source]))
 
-    def printed(self, compiler, header, folder):
-        """Compiles library_nulls.c and library_calls.c with `header` into `folder`; returns the outputs of both."""
-        words = ("-I", header.parent, "-x", "none", PREFIX.archive)
-        nulls, calls = (PREFIX.compile(compiler, folder / name, [TESTS / f"library_{name}.c"], *words)
-                        for name in ("nulls", "calls"))
-        return PREFIX.make(nulls).stdout, PREFIX.make(calls, text="\n".join(self.calls)).stdout
 
-    def test_c_and_cxx_get_what_the_header_says(self):
-        for compiler in (C, CXX):
-            with self.subTest(compiler=compiler[0]):
-                self.assertEqual(self.printed(compiler, PREFIX.header, PREFIX.work), (NULLS, self.wanted))
+def test_swig_wraps_the_header():
+    need("swig")
+    include = '%include "stdint.i"\n%include "ffosolve.h"\n'
+    PREFIX.write("wrap.i", '%module wrap\n%{\n#include "ffosolve.h"\n%}\n' + include)
+    PREFIX.make("swig", "-Wall", "-Werror", "-python", f"-I{PREFIX.header.parent}", "wrap.i")
+    made = (PREFIX.work / "wrap.py").read_text()
+    for name in [f"def {name}(" for name in PREFIX.calls] + ["class ffosolve_position(", "class ffosolve_answer("]:
+        assert name in made
 
-    def test_each_wrong_header_is_noticed(self):
-        """Each wrong header has one fault: a number that is too great by 1, two members or parameters exchanged, or a
-        function that passes a null pointer on to the library."""
-        wrong = [
-            PREFIX.text[:found.start()] + found.expand(new) + PREFIX.text[found.end():]
-            for pattern, new in (
-                (r"(?<=[A-Z] = )\d+|(?<=MOST_\w{7} )\d+|(?<=NO_SCORE )\d+", r"\g<0> + 1"),
-                (r"(    \w+ \w+(?:\[64\])?;\n)(    \w+ \w+;\n)(?=.*\n?} ffosolve)", r"\2\1"),
-                (r"(size_t room),(\s+)(size_t \*at)\);", r"\3,\2\1);"),
-                (r"(\w+)(?: \|\| \w+)? \? \1 : (?:&\w+|\"\")", r"\1"),
-            )
-            for found in re.finditer(pattern, PREFIX.text)
-        ]
-        self.assertGreater(len(wrong), 40)
 
-        def is_noticed(number):
-            header = PREFIX.write(f"wrong-{number}/ffosolve.h", wrong[number])
-            try:
-                printed = self.printed([*C, "-Wno-unused-variable", "-Wno-unused-parameter"], header, header.parent)
-            except AssertionError:  # it can't be compiled
-                return True
-            return printed != (NULLS, self.wanted)
+def test_cffi_reads_the_declarations_of_the_header():
+    cffi = need_module("cffi")
+    head, end = 'extern "C" {\n#endif\n', "/* end of the declarations */"
+    declarations = PREFIX.text.split(head)[1].split(end)[0].replace("FFOSOLVE_MUST_USE", "")
+    reader = cffi.FFI()
+    reader.cdef(declarations)
+    library = reader.dlopen(str(PREFIX.shared))
+    assert library.ffosolve_limit(library.FFOSOLVE_LIMIT_ENTRIES) == library.FFOSOLVE_MOST_ENTRIES
 
-        with ThreadPoolExecutor() as pool:
-            for number, noticed in enumerate(pool.map(is_noticed, range(len(wrong)))):
-                self.assertTrue(noticed, wrong[number])
 
-    def test_a_call_without_memory_returns_its_status(self):
-        calls = ("solve {CORNERS} 0 {ENTRIES}", "confirm {CORNERS} 0 {ENTRIES} 62 0 0x80",
-                 "move_scores {CORNERS} 0 {ENTRIES}", "solve_all 0 {ENTRIES} 1 {CORNERS}",
-                 "move_scores_all 0 {ENTRIES} 1 {CORNERS}", "long_line", "solve {CORNERS} 0 0")
-        calls = [call.format_map(NAMES) for call in calls]
-        printed = PREFIX.called(calls, preexec_fn=limited(RLIMIT_AS=60_000_000))
-        self.assertEqual(printed, ["7"] * 6 + ["0 62/0/80"])
+@pytest.mark.parametrize(("compiler", "standard", "language"), COMPILERS)
+def test_a_compiler_warns_if_a_status_is_ignored(compiler, standard, language):
+    """Tries every function that returns a status, whether it is in the library or inline in the header."""
+    declared = re.findall(r"^(?:static __inline__ )?int32_t (ffosolve_\w+)\(([^)]*)\)", PREFIX.text, re.MULTILINE)
+    names = {name for name, _ in declared}
+    assert names >= {"ffosolve_solve", "ffosolve_solve_all_or_null", "ffosolve_read_line_or_null"}
+    source = '#include "ffosolve.h"\n' + "".join(f"#undef {name}\n" for name in names)
+    for name, parameters in declared:
+        arguments = re.findall(r"(\w+)(?:\[\d+\])?(?:,|$)", parameters)
+        source += f"void {name}_unused({parameters}) {{ {name}({', '.join(arguments)}); }}\n"
+    need(compiler)
+    file = PREFIX.write(f"unused.{language}", source)
+    command = (compiler, f"-std={standard}", "-c", "-o", os.devnull, "-I", PREFIX.header.parent, file)
+    assert PREFIX.run(*command, "-Wno-unused-result").returncode == 0
+    errors = PREFIX.run(*command, "-Werror=unused-result").stderr
+    assert len(re.findall(r"\[-Werror[=,](?:-W)?unused-result\]", errors)) == len(names)
 
-    def test_the_stack_that_the_header_names_is_enough(self):
-        """Calls for 14 empty squares return on a stack of 32 KiB. On one of 128 KiB, a call for the first position of
-        a game does not crash within two seconds."""
-        self.assertTrue("32 KiB are enough for 14 empty squares and 128 KiB for 60" in re.sub(r"\s+", " ", PREFIX.text))
-        calls = "solve {} {} 0 1024", "confirm {} {} 1 0 0 0 1", "move_scores {} {} 2 1024", "solve_all 0 1024 1 {} {}"
-        calls = [call.format(*position) for position in random_positions(20, [14]) for call in calls]
-        printed = PREFIX.called(calls, env={}, preexec_fn=limited(RLIMIT_STACK=32 << 10))
-        self.assertEqual([line[:2] for line in printed], ["0 "] * len(calls))
-        with self.assertRaises(subprocess.TimeoutExpired):
-            call = "solve {START} 0 1024".format_map(NAMES)
-            PREFIX.called([call], env={}, preexec_fn=limited(RLIMIT_STACK=128 << 10), timeout=2)
+
+def test_a_status_has_one_name_number_and_text_in_each_language():
+    """STATUSES_IN_RUST calls a made-up library: each function returns 1 at its first call, then 2, 3 and so on."""
+    listed = re.findall(r"FFOSOLVE_(\w+) = (\d+)", PREFIX.text.split("enum ffosolve_status {")[1].split("}")[0])
+    assert listed == [(it.name, str(it.value)) for it in ffosolve.Status]
+    source = "".join(f"int {name}(void) {{ static int status; return ++status; }}\n" for name in PREFIX.calls)
+    program = PREFIX.rust_client_of("statuses", STATUSES_IN_RUST, source)
+    for number, in_rust in enumerate(PREFIX.make(program).stdout.splitlines(), 1):
+        refusal, other = refusal_of(number), f"refused with status {number}"
+        text, is_of_line = refusal.reason, isinstance(refusal, ffosolve.LineRefused)
+        # The crate has no text for 3, another for 5, and reports 7, out of memory, from both calls.
+        special = {3: (other, other), 5: ("position at index 0: " + IN_RUST, other), 7: (text, text)}
+        solved, read = special.get(number, (other, text) if is_of_line else (text, other))
+        assert in_rust == f"{solved}; {read}"
+
+
+@functools.cache
+def worked_calls():
+    """Returns the calls of tests/library_calls.txt, and the text that library_calls.c has to print for them according
+    to the header. A row is a call, ` = `, and what is printed; words with `|` between them are alternatives: each
+    combination is a call."""
+    calls, wanted = [], ""
+    for row in (TESTS / "library_calls.txt").read_text().splitlines():
+        template, printed = row.rsplit(" = ", 1)
+        for words in itertools.product(*(word.split("|") for word in template.split(" "))):
+            call = " ".join(words).format_map(NAMES)
+            if call.startswith("read_line"):
+                call = call[:12] + call[12:].encode().decode("unicode_escape").encode().hex()
+            calls.append(call)
+            wanted += printed.format_map(NAMES) + "\n"
+    return calls, wanted
+
+
+def printed_with(compiler, header, folder):
+    """Compiles library_nulls.c and library_calls.c with `header` into `folder`; returns the outputs of both."""
+    words = ("-I", header.parent, "-x", "none", PREFIX.archive)
+    nulls, calls = (PREFIX.compile(compiler, folder / name, [TESTS / f"library_{name}.c"], *words)
+                    for name in ("nulls", "calls"))
+    return PREFIX.make(nulls).stdout, PREFIX.make(calls, text="\n".join(worked_calls()[0])).stdout
+
+
+@pytest.mark.parametrize("compiler", [C, CXX], ids=["C", "C++"])
+def test_calls_do_what_the_header_says(compiler):
+    assert printed_with(compiler, PREFIX.header, PREFIX.work) == (NULLS, worked_calls()[1])
+
+
+def test_each_wrong_header_is_noticed():
+    """Each wrong header has one fault: a number that is too great by 1, two members or parameters exchanged, or a
+    function that passes a null pointer on to the library."""
+    wrong = [
+        PREFIX.text[:found.start()] + found.expand(new) + PREFIX.text[found.end():]
+        for pattern, new in (
+            (r"(?<=[A-Z] = )\d+|(?<=MOST_\w{7} )\d+|(?<=NO_SCORE )\d+", r"\g<0> + 1"),
+            (r"(    \w+ \w+(?:\[64\])?;\n)(    \w+ \w+;\n)(?=.*\n?} ffosolve)", r"\2\1"),
+            (r"(size_t room),(\s+)(size_t \*at)\);", r"\3,\2\1);"),
+            (r"(\w+)(?: \|\| \w+)? \? \1 : (?:&\w+|\"\")", r"\1"),
+        )
+        for found in re.finditer(pattern, PREFIX.text)
+    ]
+    assert len(wrong) > 40
+
+    def is_noticed(number):
+        header = PREFIX.write(f"wrong-{number}/ffosolve.h", wrong[number])
+        try:
+            printed = printed_with([*C, "-Wno-unused-variable", "-Wno-unused-parameter"], header, header.parent)
+        except AssertionError:  # it can't be compiled
+            return True
+        return printed != (NULLS, worked_calls()[1])
+
+    with ThreadPoolExecutor() as pool:
+        for number, noticed in enumerate(pool.map(is_noticed, range(len(wrong)))):
+            assert noticed, wrong[number]
+
+
+def test_a_call_without_memory_returns_its_status():
+    calls = ("solve {CORNERS} 0 {ENTRIES}", "confirm {CORNERS} 0 {ENTRIES} 62 0 0x80",
+             "move_scores {CORNERS} 0 {ENTRIES}", "solve_all 0 {ENTRIES} 1 {CORNERS}",
+             "move_scores_all 0 {ENTRIES} 1 {CORNERS}", "long_line", "solve {CORNERS} 0 0")
+    calls = [call.format_map(NAMES) for call in calls]
+    printed = PREFIX.called(calls, preexec_fn=limited(RLIMIT_AS=60_000_000))
+    assert printed == ["7"] * 6 + ["0 62/0/80"]
+
+
+def test_the_stack_that_the_header_names_is_enough():
+    """Calls for 14 empty squares return on a stack of 32 KiB. On one of 128 KiB, a call for the first position of a
+    game does not crash within two seconds."""
+    assert "32 KiB are enough for 14 empty squares and 128 KiB for 60" in re.sub(r"\s+", " ", PREFIX.text)
+    calls = "solve {} {} 0 1024", "confirm {} {} 1 0 0 0 1", "move_scores {} {} 2 1024", "solve_all 0 1024 1 {} {}"
+    calls = [call.format(*position) for position in random_positions(20, [14]) for call in calls]
+    printed = PREFIX.called(calls, env={}, preexec_fn=limited(RLIMIT_STACK=32 << 10))
+    assert [line[:2] for line in printed] == ["0 "] * len(calls)
+    with pytest.raises(subprocess.TimeoutExpired):
+        call = "solve {START} 0 1024".format_map(NAMES)
+        PREFIX.called([call], env={}, preexec_fn=limited(RLIMIT_STACK=128 << 10), timeout=2)

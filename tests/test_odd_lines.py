@@ -1,13 +1,16 @@
 """Python, C and ffosolve read lines with random faults alike; Python and C read tests/rows/ffosolve/lines.tsv, too."""
 import random
 import re
-import unittest
 
-from .prefix import PREFIX, setUpModule
-from .support import built, run, worked_rows
+import pytest
+
 import ffosolve
 from ffosolve._refusals import REFUSALS
+from tests.prefix import PREFIX
+from tests.support import built, run, worked_rows
 
+setup_module = PREFIX.install
+LINES, COLUMNS = worked_rows("ffosolve/lines")
 PIECES = b"| w|ps:-4;|--:0;|I1:+1|h8:64 ;|B2:+65;| |\t|%|;|:|?|-|X|O|b|\r|\0|\x80|\xff".split(b"|")
 
 
@@ -44,41 +47,41 @@ def read_in_c(text):
     return rows
 
 
-class OddLines(unittest.TestCase):
-    @classmethod
-    def setUpClass(cls):
-        chance, (cls.lines, cls.columns) = random.Random(5), worked_rows("ffosolve/lines")
-        cls.text = b"\n".join(odd_line(chance, cls.lines) for _ in range(10_000))
-        cls.rows = read(cls.text)
+@pytest.fixture(scope="module")
+def text():
+    chance = random.Random(5)
+    return b"\n".join(odd_line(chance, LINES) for _ in range(10_000))
 
-    def test_python_and_c_read_worked_and_odd_lines_alike(self):
-        rows = {number: cell.decode() for number, cell in enumerate(self.columns["read"], 1) if cell}
-        for text, wanted in ((b"\n".join(self.lines), rows), (self.text, self.rows)):
-            self.assertEqual(read(text), wanted)
-            self.assertEqual(read((line + b"\n" for line in text.split(b"\n")), ffosolve.read_lines), wanted)
-            self.assertEqual(read_in_c(text), wanted)
 
-    def test_the_report_of_odd_lines_is_what_python_finds(self):
-        report = run(built(), "--max-empties=20", input=self.text, check=True).stdout.decode().splitlines()[1:-1]
-        solver = ffosolve.Solver(str(PREFIX.shared))
-        rows = [f"{number} {self.reported(solver, row)}" for number, row in sorted(self.rows.items())]
-        self.assertEqual(report, rows)
-        kinds = {re.sub(r"\d+", "N", row.partition(" ")[2]) if "refused" in row else row.split()[-1] for row in report}
-        refused = ("N empties, limit N", "board has N of N squares", "bad square at column N", "bad side at column N")
-        self.assertLessEqual({"agree", "differ", "unlisted", *(f"refused: {why}" for why in refused)}, kinds)
+def test_python_and_c_read_worked_and_odd_lines_alike(text):
+    rows = {number: cell.decode() for number, cell in enumerate(COLUMNS["read"], 1) if cell}
+    for lines, wanted in ((b"\n".join(LINES), rows), (text, read(text))):
+        assert read(lines) == wanted
+        assert read((line + b"\n" for line in lines.split(b"\n")), ffosolve.read_lines) == wanted
+        assert read_in_c(lines) == wanted
 
-    def reported(self, solver, row):
-        """Returns what ffosolve --max-empties=20 prints after the number of a line for which `read` returns `row`."""
-        if "refused" in row:
-            return row
-        own, opp, _, *listed = row.split()
-        position = ffosolve.Position(int(own, 16), int(opp, 16))
-        if position.empties > 20:
-            return f"refused: {position.empties} empties, limit 20"
-        answer = solver.solve(position)
-        best = str(answer).split()[1].split(",")
-        claims = [(int(score), move) for move, score in (word.split(":") for word in listed)]
-        most, _ = max(claims, default=(None, None))
-        is_right = most == answer.score and all(move in best for score, move in claims if score == most)
-        check = "unlisted" if not claims else "agree" if is_right else "differ"
-        return f"{answer} {check}"
+
+def test_the_report_of_odd_lines_is_what_python_finds(text):
+    report = run(built(), "--max-empties=20", input=text, check=True).stdout.decode().splitlines()[1:-1]
+    solver = ffosolve.Solver(str(PREFIX.shared))
+    assert report == [f"{number} {reported(solver, row)}" for number, row in sorted(read(text).items())]
+    kinds = {re.sub(r"\d+", "N", row.partition(" ")[2]) if "refused" in row else row.split()[-1] for row in report}
+    refused = ("N empties, limit N", "board has N of N squares", "bad square at column N", "bad side at column N")
+    assert kinds >= {"agree", "differ", "unlisted", *(f"refused: {why}" for why in refused)}
+
+
+def reported(solver, row):
+    """Returns what ffosolve --max-empties=20 prints after the number of a line for which `read` returns `row`."""
+    if "refused" in row:
+        return row
+    own, opp, _, *listed = row.split()
+    position = ffosolve.Position(int(own, 16), int(opp, 16))
+    if position.empties > 20:
+        return f"refused: {position.empties} empties, limit 20"
+    answer = solver.solve(position)
+    best = str(answer).split()[1].split(",")
+    claims = [(int(score), move) for move, score in (word.split(":") for word in listed)]
+    most, _ = max(claims, default=(None, None))
+    is_right = most == answer.score and all(move in best for score, move in claims if score == most)
+    check = "unlisted" if not claims else "agree" if is_right else "differ"
+    return f"{answer} {check}"

@@ -5,12 +5,13 @@ import timeit
 
 import pytest
 
-from .prefix import PREFIX, TESTS, C, setUpModule
-from .support import InFolder, built, limited, run, stored, write
 from ffosolve import MOST_ENTRIES, Position
 from ffosolve._library import CAnswer, CMoveScores, load
 from ffosolve._rules import c_positions
+from tests.prefix import PREFIX, TESTS, C
+from tests.support import built, ends, limited, run, stored, write
 
+setup_module = PREFIX.install
 KINDS = stored("examples", "kinds.obf").decode()
 HARD = b"-XXXXX----XOOX--XXXXOOOO-OXOOOO-OOXOOX--OOX-OOOOOXXXXXX-X----XXX O\n"  # 17 empty squares
 ADVISED = b"-XOOOO-X-XOOOOX--OOXOOXX-OOXXOXO-OXOXXO-OOOXOOX-OOXOOO--OX--O--- X\n"  # a third of the time with a book
@@ -30,44 +31,42 @@ def seconds(call):
     return min(timeit.repeat(call, timer=spent, repeat=3, number=1))
 
 
-class Runs(InFolder):
-    def test_the_greatest_table_takes_more_memory(self):
-        for name, refused in OUT_OF_MEMORY.items():
-            words, little = (built(name), "--workers", "0"), limited(RLIMIT_AS=LIMIT)
-            usual = run(*words, input=KINDS, text=True)
-            self.ends((usual.returncode, usual.stdout, ""), *words, input=KINDS, preexec_fn=little)
-            self.ends(refused, *words, "--table", MOST_ENTRIES, input=KINDS, preexec_fn=little)
+@pytest.mark.parametrize("name", OUT_OF_MEMORY)
+def test_the_greatest_table_takes_more_memory(folder, name):
+    words, little = (built(name), "--workers", "0"), limited(RLIMIT_AS=LIMIT)
+    usual = run(*words, input=KINDS, text=True)
+    ends((usual.returncode, usual.stdout, ""), *words, input=KINDS, preexec_fn=little)
+    ends(OUT_OF_MEMORY[name], *words, "--table", MOST_ENTRIES, input=KINDS, preexec_fn=little)
 
-    def test_a_right_book_saves_time_with_workers_with_progress_and_of_several_files(self):
-        run(built(), "--book-out", "right.book", input=ADVISED, check=True)
-        write("it.obf", ADVISED)
-        for options, lines in (("--workers 0", 1), ("--workers 0 --progress", 1), ("--workers 8 --table 0", 8),
-                               ("--table 0 it.obf it.obf", 0)):
-            with self.subTest(options=options):
-                words, how = (built(), *options.split()), {"input": ADVISED * lines, "check": True}
-                books = (), ("--book-in", "right.book")
-                usual, advised = (seconds(lambda: run(*words, *book, **how)) for book in books)
-                self.assertGreater(usual, 1.5 * advised)
 
-    def test_a_run_takes_a_quarter_of_the_time_without_a_table(self):
-        for name in OUT_OF_MEMORY:
-            for workers in (0, 3):
-                with self.subTest(name=name, workers=workers):
-                    words, how = (built(name), "--workers", workers), {"input": (HARD + ADVISED) * AGAIN, "check": True}
-                    without, usual = (seconds(lambda: run(*words, "--table", size, **how)) for size in (0, 65_536))
-                    self.assertLess(usual, without / 4)
+@pytest.mark.parametrize(("options", "lines"), [("--workers 0", 1), ("--workers 0 --progress", 1),
+                                                ("--workers 8 --table 0", 8), ("--table 0 it.obf it.obf", 0)])
+def test_a_right_book_saves_time_with_workers_with_progress_and_of_several_files(folder, options, lines):
+    run(built(), "--book-out", "right.book", input=ADVISED, check=True)
+    write("it.obf", ADVISED)
+    words, how = (built(), *options.split()), {"input": ADVISED * lines, "check": True}
+    usual, advised = (seconds(lambda: run(*words, *book, **how)) for book in ((), ("--book-in", "right.book")))
+    assert usual > 1.5 * advised
 
-    def test_a_call_takes_a_quarter_of_the_time_of_a_call_for_each_position(self):
-        library, asked = load(str(PREFIX.shared)), c_positions([Position.from_obf(HARD.decode())] * AGAIN)
 
-        def solve(call, record, count):
-            self.assertEqual(call(asked, count, 0, 65_536, (record * count)(), count, ctypes.c_size_t()), 0)
+@pytest.mark.parametrize("name", OUT_OF_MEMORY)
+@pytest.mark.parametrize("workers", [0, 3])
+def test_a_run_takes_a_quarter_of_the_time_without_a_table(name, workers):
+    words, how = (built(name), "--workers", workers), {"input": (HARD + ADVISED) * AGAIN, "check": True}
+    without, usual = (seconds(lambda: run(*words, "--table", size, **how)) for size in (0, 65_536))
+    assert usual < without / 4
 
-        for call, record in ((library.ffosolve_solve_all, CAnswer), (library.ffosolve_move_scores_all, CMoveScores)):
-            with self.subTest(call=call.__name__):
-                apart = seconds(lambda: [solve(call, record, 1) for _ in range(AGAIN)])
-                together = seconds(lambda: solve(call, record, AGAIN))
-                self.assertLess(together, apart / 4)
+
+@pytest.mark.parametrize(("name", "record"), [("solve_all", CAnswer), ("move_scores_all", CMoveScores)])
+def test_a_call_takes_a_quarter_of_the_time_of_a_call_for_each_position(name, record):
+    call = getattr(load(str(PREFIX.shared)), f"ffosolve_{name}")
+    asked = c_positions([Position.from_obf(HARD.decode())] * AGAIN)
+
+    def solve(count):
+        assert call(asked, count, 0, 65_536, (record * count)(), count, ctypes.c_size_t()) == 0
+
+    apart, together = (seconds(lambda: [solve(count) for _ in range(AGAIN // count)]) for count in (1, AGAIN))
+    assert together < apart / 4
 
 
 def masks(line):
@@ -84,7 +83,7 @@ def spent_by(*calls):
     f"solve {masks(HARD)} 0 {{}}",
     f"confirm {masks(HARD)} 0 {{}} -16 0 0",  # it is worth -18
     f"move_scores {masks(MOVES)} 0 {{}}",
-])
+], ids=["solve", "confirm", "move_scores"])
 def test_a_call_for_one_position_uses_its_table(call):
     usual, without = spent_by(call.format(65_536), call.format(0))
     assert usual < without / 1.3
