@@ -82,7 +82,7 @@ def test_scores_are_discs_of_black_and_the_winner_gets_the_empty_squares(empties
     write("it.wtb", wthor([record(game, score + 1) for (game, _), score in zip(played, exact)], empties=empties))
     write("book", book_of([at for _, at in played]))
     out = "".join(difference(number, score, 1) for number, score in enumerate(exact, 1))
-    err = "".join(f"it.wtb, game {number}: its theoretical score is 65, more than 64 discs\n"
+    err = "".join(f"it.wtb, game {number} (2001): its theoretical score is 65, more than 64 discs\n"
                   for number, score in enumerate(exact, 1) if score == 64)
     games(*COMPARE, status=1, out=out + counts(len(played), len(played)), err=err)
 
@@ -240,10 +240,10 @@ def test_real_scores_are_changed_only_if_asked():
     write("it.wtb", wthor(records, empties=EMPTIES) + more)
     write("book", "".join([HEADER, *LINES[:4], *LINES[5:]]))
     said = "".join(f"it.wtb, {it}\n" for it in (
-        "game 1: its real score is 70, more than 64 discs",
-        "game 2: its moves stop before the end of the game, so its real score 1 is not checked",
+        "game 1 (2001): its real score is 70, more than 64 discs",
+        "game 2 (2001): its moves stop before the end of the game, so its real score 1 is not checked",
         "game 3, move 60: 99 is not a square",
-        f"game 5: its real score is 0, but its moves give {RECORDS[4][6]}", GOES_ON[8:-1]))
+        f"game 5 (2001): its real score is 0, but its moves give {RECORDS[4][6]}", GOES_ON[8:-1]))
     changed = f"theoretical scores changed 1 of {COUNT}, not compared 2"
     records[5] = EXACT_RECORDS[5]
     fix(1, f"{said}new.wtb: {changed}", written={"new.wtb": wthor(records, empties=EMPTIES) + more})

@@ -138,7 +138,7 @@ WRONG = f"its real score is {REAL + 1}, but its moves give {REAL}"
 ))
 def test_wrong_scores_of_records_are_reported_and_the_line_is_printed(squares, theoretical, written, empties, why):
     comment = "it.wtb, game 1" + f", theoretical score {theoretical}" * (empties == 22)
-    err = "".join(f"it.wtb, game 1: {it}\n" for it in why)
+    err = "".join(f"it.wtb, game 1 (2001): {it}\n" for it in why)
     content = wthor([record(squares, theoretical, written)])
     reads("it.wtb", content, f"--empties={empties}", out=line_of(positions_of(WHOLE)[empties], comment), err=err)
 

@@ -196,7 +196,7 @@ def with_positions(
             game = game._replace(score=None)
         yield game, position
         for wrong in wrong_scores(game, final_discs(found)):
-            messages.report(f"{shown(name)}, game {game.number}: {wrong}", REMARKED)
+            messages.report(f"{shown(name)}, game {game.number}{title(name, game.number)}: {wrong}", REMARKED)
 
 
 def wrong_scores(game: Game, discs: Optional[int]) -> Iterator[str]:

@@ -59,7 +59,7 @@ def title(file: str, game: int) -> str:
     files do not say: players are in the one file .jou of its folder, and tournaments in the one file .trn."""
     parts: List[str] = []
     with contextlib.suppress(OSError, struct.error):
-        with open(file, "rb") as games:
+        with open(file if os.path.isfile(file) else os.devnull, "rb") as games:  # a pipe would wait for a writer
             parts += [str(year) for year in YEAR.unpack(games.read(YEAR.size)) if year]
             games.seek(HEADER.size + RECORD * (game - 1))
             tournament, *players = NUMBERS.unpack(games.read(NUMBERS.size))
