@@ -18,51 +18,44 @@ HOPELESS = START  # would take years
 HARD = Position.from_obf("XXX--OXOOXOOOOOO-XXXXXOO-XXXXOOO---XOXOO--OOOOOO---OOXOO----OOOO X;")  # 16 empty squares
 EASY = Position.from_obf("-OXXXXX-XXXXXXXOXXXXXXXXXXXXXXXXXXXOXXXXXXXXXXXXXXXXXXXXXXXXXXXX X;")
 ANSWER = Answer(62, Kind.MOVES, 0x80)
-PACKAGE = os.path.dirname(os.path.dirname(ffosolve.__file__))
+ENVIRONMENT = {**os.environ, "PYTHONPATH": os.path.dirname(os.path.dirname(ffosolve.__file__))}
 
 
-def arrays_of(positions):
-    return ffosolve.masks_of(positions)
+def listing(call):
+    return lambda *given, **how: list(call(*given, **how))
 
 
-ONE = {
-    "solve": Solver.solve,
-    "confirm": lambda solver, position, **how: solver.confirm(position, ANSWER, **how),
-    "move_scores": Solver.move_scores,
-    "best_line": Solver.best_line,
-    "scored_line": Solver.scored_line,
+def of_arrays(call):
+    return lambda solver, positions, **how: call(solver, *ffosolve.masks_of(positions), **how)
+
+
+def of_three(call, threads):
+    return lambda solver, position, **how: call(solver, [EASY, position, position], threads=threads, **how)
+
+
+LISTS = {
+    "solve_all": Solver.solve_all, "solve_iter": listing(Solver.solve_iter),
+    "move_scores_all": Solver.move_scores_all, "move_scores_iter": listing(Solver.move_scores_iter),
+    "solve_arrays": of_arrays(Solver.solve_arrays), "move_scores_arrays": of_arrays(Solver.move_scores_arrays),
 }
-MANY = {
-    f"{name}, threads={threads}": lambda solver, position, call=call, threads=threads, **how:
-        call(solver, [EASY, position, position], threads=threads, **how)
-    for threads in (1, 3) for name, call in {
-        "solve_all": Solver.solve_all,
-        "solve_iter": lambda *given, **how: list(Solver.solve_iter(*given, **how)),
-        "move_scores_all": Solver.move_scores_all,
-        "move_scores_iter": lambda *given, **how: list(Solver.move_scores_iter(*given, **how)),
-        "solve_arrays": lambda solver, positions, **how: solver.solve_arrays(*arrays_of(positions), **how),
-        "move_scores_arrays": lambda solver, positions, **how: solver.move_scores_arrays(*arrays_of(positions), **how),
-        }.items()
+CALLS = {
+    "solve": Solver.solve, "confirm": lambda solver, position, **how: solver.confirm(position, ANSWER, **how),
+    "move_scores": Solver.move_scores, "best_line": Solver.best_line, "scored_line": Solver.scored_line,
+    **{f"{name}, threads={threads}": of_three(call, threads) for threads in (1, 3) for name, call in LISTS.items()},
 }
-CALLS = [pytest.param(call, id=name) for name, call in {**ONE, **MANY}.items()]
 
 
 @pytest.fixture(autouse=True)
-def needs(request):
-    if "arrays" in request.node.name:
-        pytest.importorskip("numpy")
-
-
-@pytest.fixture
 def solver():
+    pytest.importorskip("numpy")
     return Solver(max_empties=60)
 
 
-def stat(process):
-    """Returns what the system says of a process (proc(5)), from its state on: Z if it has ended, but nobody waited."""
-    with contextlib.suppress(FileNotFoundError, ProcessLookupError), open(f"/proc/{process}/stat") as text:
+def stat(task):
+    """Returns what the system says of a process or thread (proc(5)), beginning with its state, such as R or Z."""
+    with contextlib.suppress(FileNotFoundError, ProcessLookupError), open(f"/proc/{task}/stat") as text:
         return text.read().rpartition(")")[2].split()
-    return ["gone"] + ["0"] * 20
+    return ["gone"]
 
 
 def children(dead=False):
@@ -71,7 +64,11 @@ def children(dead=False):
     for task in os.listdir("/proc/self/task"):
         with contextlib.suppress(FileNotFoundError), open(f"/proc/self/task/{task}/children") as listed:
             found += map(int, listed.read().split())
-    return [process for process in found if (stat(process)[0] == "Z") == dead]
+    return sorted(process for process in found if (stat(process)[0] == "Z") == dead)
+
+
+def kept():
+    return sorted(process.process.pid for idle in _processes.IDLE.values() for process in idle)
 
 
 def working():
@@ -86,65 +83,55 @@ def working():
 def assert_no_processor_works():
     """Asserts that, at the latest a second from now, nothing of this process works and only kept processes are left."""
     end = time.monotonic() + 1
-    while any(working() or sorted(children()) != sorted(kept()) or time.sleep(0.01) for _ in range(5)):
+    while any(working() or children() != kept() or time.sleep(0.01) for _ in range(5)):
         assert time.monotonic() < end, (working(), children(), kept())
         time.sleep(0.01)
 
 
-def kept():
-    return [process.process.pid for idle in _processes.IDLE.values() for process in idle]
+def by_timeout(call):
+    with pytest.raises(TimeoutError, match="^not finished within 0.3 seconds$"):
+        call(timeout=0.3)
 
 
 class Left(Exception):
-    pass
+    """What the handler of a signal raises."""
+
+    @classmethod
+    def leave(cls, *_):
+        raise cls
 
 
-def leave(*_):
-    raise Left
+def by_signal(call):
+    before = signal.signal(signal.SIGALRM, Left.leave)
+    signal.setitimer(signal.ITIMER_REAL, 0.3)
+    with pytest.raises(Left):
+        call()
+    signal.signal(signal.SIGALRM, before)
 
 
-@contextlib.contextmanager
-def left_after(seconds):
-    """A signal, whose handler raises Left, comes after some seconds."""
-    before = signal.signal(signal.SIGALRM, leave)
-    signal.setitimer(signal.ITIMER_REAL, seconds)
-    try:
-        with pytest.raises(Left):
-            yield
-    finally:
-        signal.setitimer(signal.ITIMER_REAL, 0)
-        signal.signal(signal.SIGALRM, before)
+def by_ctrl_c(call):
+    threading.Timer(0.3, signal.raise_signal, [signal.SIGINT]).start()
+    with pytest.raises(KeyboardInterrupt):
+        call()
 
 
-@pytest.mark.parametrize("call", CALLS)
-def test_a_call_ends_after_its_timeout_and_stops(solver, call):
-    begun = time.monotonic()
-    with pytest.raises(TimeoutError, match="^not finished within 0.3 seconds$"):
-        call(solver, HOPELESS, timeout=0.3)
-    assert 0.3 <= time.monotonic() - begun < 1
-    assert_no_processor_works()
-
-
-@pytest.mark.parametrize("call", CALLS)
-def test_a_call_that_a_signal_leaves_stops(solver, call):
-    begun = time.monotonic()
-    with left_after(0.3):
-        call(solver, HOPELESS)
-    assert time.monotonic() - begun < 1
-    assert_no_processor_works()
-
-
-@pytest.mark.parametrize("call", CALLS)
-def test_a_call_that_asyncio_cancels_stops(solver, call):
+def by_asyncio(call):
     async def main():
         with pytest.raises(asyncio.TimeoutError):
-            await asyncio.wait_for(asyncio.to_thread(call, solver, HOPELESS), 0.3)
+            await asyncio.wait_for(asyncio.to_thread(call), 0.3)
 
-    begun, timer = time.monotonic(), threading.Timer(10, lambda: [os.kill(process, 9) for process in children()])
+    timer = threading.Timer(10, lambda: [os.kill(process, signal.SIGKILL) for process in children()])
     timer.start()  # otherwise a call that goes on would keep asyncio from ending
     asyncio.run(main())
     timer.cancel()
-    assert time.monotonic() - begun < 1
+
+
+@pytest.mark.parametrize("leave", [by_timeout, by_signal, by_ctrl_c, by_asyncio])
+@pytest.mark.parametrize("name", CALLS)
+def test_a_call_that_is_left_ends_at_once_and_stops(name, leave, solver):
+    begun = time.monotonic()
+    leave(lambda **how: CALLS[name](solver, HOPELESS, **how))
+    assert 0.3 <= time.monotonic() - begun < 1.3
     assert_no_processor_works()
 
 
@@ -153,18 +140,17 @@ def with_empties(empties):
     return Position(discs & 0x5555555555555555, discs & 0xAAAAAAAAAAAAAAAA)
 
 
+def test_a_long_list_of_easy_positions_stops():
+    """Without a table, each of these positions takes some milliseconds."""
+    by_signal(lambda: Solver(entries=0).solve_all([with_empties(12)] * 100_000))
+    assert_no_processor_works()
+
+
 @pytest.mark.parametrize("count, empties, is_brief", [
     (1, 14, True), (1, 15, False), (2, 14, False), (16, 12, True), (17, 12, False), (4096, 8, True), (4097, 2, False)])
 def test_only_a_brief_call_is_made_without_another_process(count, empties, is_brief, solver):
     solver.solve_all([with_empties(empties)] * count)
     assert len(kept()) == (0 if is_brief else 1)
-
-
-def test_a_long_list_of_easy_positions_stops():
-    """Without a table, each of these positions takes some milliseconds."""
-    with left_after(1):
-        Solver(entries=0).solve_all([with_empties(12)] * 100_000)
-    assert_no_processor_works()
 
 
 @pytest.mark.parametrize("threads", [1, 3])
@@ -181,52 +167,42 @@ def test_an_iterator_that_is_left_stops(threads, leave, solver):
 def test_an_iterator_yields_what_is_finished_before_the_timeout(threads, solver):
     found, positions = [], [EASY, HARD, EASY, HARD, HOPELESS, EASY]
     with pytest.raises(TimeoutError):
-        for answer in solver.solve_iter(positions, threads=threads, timeout=2):
+        for answer in solver.solve_iter(positions, threads=threads, timeout=8):
             found.append(answer)
     assert found == solver.solve_all(positions[:4])
     assert_no_processor_works()
 
 
-@pytest.mark.parametrize("call", [
-    lambda *given, **how: list(Solver.solve_iter(*given, **how)), Solver.solve_all, Solver.move_scores_all])
 @pytest.mark.parametrize("threads", [1, 3])
-def test_a_timeout_is_for_all_positions_together(call, threads, solver):
+@pytest.mark.parametrize("name", LISTS)
+def test_a_timeout_is_for_all_positions_together(name, threads, solver):
     with pytest.raises(TimeoutError):
-        call(solver, [HARD] * 1000, threads=threads, timeout=0.5)
+        LISTS[name](solver, [HARD] * 1000, threads=threads, timeout=0.3)
     assert_no_processor_works()
 
 
-def test_a_timeout_that_is_not_reached_changes_nothing(solver):
-    for call in (*ONE.values(), *MANY.values()):
-        for position in (EASY, HARD):
-            assert str(call(solver, position, timeout=100)) == str(call(solver, position))
-
-
-@pytest.mark.parametrize("timeout, error, why", [
-    (-1, ValueError, "timeout is at least 0, not -1"), (float("nan"), ValueError, "timeout is at least 0, not nan"),
-    ("1", TypeError, "timeout is a number of seconds, not '1'"),
-])
-def test_a_wrong_timeout_is_refused(timeout, error, why, solver):
-    for call in (*ONE.values(), *MANY.values()):
+@pytest.mark.parametrize("name", CALLS)
+def test_a_timeout_that_is_not_reached_changes_nothing_and_a_wrong_one_is_refused(name, solver):
+    for position in (EASY, HARD):
+        assert str(CALLS[name](solver, position, timeout=100)) == str(CALLS[name](solver, position))
+    for timeout, error, why in (
+        (-1, ValueError, "timeout is at least 0, not -1"), (float("nan"), ValueError, "timeout is at least 0, not nan"),
+        ("1", TypeError, "timeout is a number of seconds, not '1'"),
+    ):
         with pytest.raises(error, match=f"^{why}$"):
-            call(solver, EASY, timeout=timeout)
+            CALLS[name](solver, EASY, timeout=timeout)
 
 
 @pytest.mark.parametrize("scoring", ffosolve.Scoring)
 def test_another_process_finds_what_this_one_finds(scoring, monkeypatch):
     solver = Solver(scoring=scoring)
-    calls = [*ONE.values(), *MANY.values()]
-    found = [str(call(solver, HARD)) for call in calls]
+    found = [str(call(solver, HARD)) for call in CALLS.values()]
     assert kept()
     monkeypatch.setattr("ffosolve._solvers.is_brief", lambda *_: True)
-    assert [str(call(solver, HARD)) for call in calls] == found
+    assert [str(call(solver, HARD)) for call in CALLS.values()] == found
 
 
-def test_another_process_gets_each_argument_and_returns_each_status(tmp_path):
-    """A made-up library answers with the arguments that it gets, and refuses 77 entries."""
-    if shutil.which("cc") is None:
-        pytest.skip("cc is missing")
-    (tmp_path / "it.c").write_text("""
+LIBRARY = """
 #include <stddef.h>
 #include <stdint.h>
 struct position { uint64_t own, opp; };
@@ -241,26 +217,29 @@ int ffosolve_confirm(struct position at, uint32_t scoring, size_t entries, struc
     return entries == 77 ? 7 : 0;
 }
 int ffosolve_solve_all(const struct position *at, size_t count, uint32_t scoring, size_t entries, struct answer *found,
-                       size_t room, size_t *index) {
+                       size_t room) {
     for (size_t n = 0; n < count && n < room; n++) ffosolve_solve(at[n], scoring, entries, found + n);
     return entries == 77 ? 7 : 0;
 }
 int ffosolve_move_scores_all(const struct position *at, size_t count, uint32_t scoring, size_t entries,
-                             struct scores *found, size_t room, size_t *index) {
+                             struct scores *found, size_t room) {
     for (size_t n = 0; n < count && n < room; n++)
         for (int m = 0; m < 64; m++) found[n].scores[m] = m < 60 ? 127 : (at[n].own % 50 + scoring + entries) % 100;
     return entries == 77 ? 7 : 0;
 }
-int ffosolve_moves(void) { return 0; }
-int ffosolve_play(void) { return 0; }
-int ffosolve_canonical(void) { return 0; }
-int ffosolve_image(void) { return 0; }
-int ffosolve_limit(void) { return 0; }
+int ffosolve_moves(void) { return 0; } int ffosolve_play(void) { return 0; } int ffosolve_limit(void) { return 0; }
+int ffosolve_image(void) { return 0; } int ffosolve_canonical(void) { return 0; }
 int ffosolve_version(void) { return 10000; }
-""")
-    library = tmp_path / "it.so"
-    subprocess.run(["cc", "-shared", "-fPIC", "-o", library, tmp_path / "it.c"], check=True)
-    solver = Solver(library, scoring=2, entries=5, max_empties=60)
+"""
+
+
+def test_another_process_gets_each_argument_and_returns_each_status(tmp_path):
+    """A made-up library answers with the arguments that it gets, and refuses 77 entries."""
+    if shutil.which("cc") is None:
+        pytest.skip("cc is missing")
+    (tmp_path / "it.c").write_text(LIBRARY)
+    subprocess.run(["cc", "-shared", "-fPIC", "-o", tmp_path / "it.so", tmp_path / "it.c"], check=True)
+    solver = Solver(tmp_path / "it.so", scoring=2, entries=5, max_empties=60)
     at, other, claim = Position(2**63 + 9, 6), Position(12, 3), Answer(30, Kind.PASS, 2**62)
     best = 2**63 + 15 ^ 5
     assert solver.solve(at) == Answer(2, Kind.MOVES, best)
@@ -269,12 +248,12 @@ int ffosolve_version(void) { return 10000; }
     scores = [dict.fromkeys(("E8", "F8", "G8", "H8"), score) for score in ((2**63 + 9) % 50 + 7, 19)]
     assert solver.move_scores_all([at, other]) == scores
     assert len(kept()) == 1
-    for call in (*ONE.values(), *MANY.values()):
+    for call in CALLS.values():
         with pytest.raises(ffosolve.NoMemory):
-            call(Solver(library, entries=77, max_empties=60), at)
+            call(Solver(tmp_path / "it.so", entries=77, max_empties=60), at)
 
 
-def test_a_process_is_kept_and_used_again(solver):
+def test_processes_are_kept_and_used_again(solver):
     for _ in range(3):
         solver.solve(HARD)
         solver.move_scores(HARD)
@@ -283,7 +262,7 @@ def test_a_process_is_kept_and_used_again(solver):
     assert process in kept() and 2 <= len(kept()) <= min(3, os.cpu_count())
     solver.solve_all([HARD] * 9, threads=9)
     assert len(kept()) <= os.cpu_count()
-    assert sorted(children()) == sorted(kept())
+    assert children() == kept()
 
 
 def test_calls_of_several_threads_do_not_stop_each_other(solver):
@@ -299,37 +278,35 @@ def test_calls_of_several_threads_do_not_stop_each_other(solver):
     assert found == [[solver.solve(HARD)] * 4] * 3
 
 
-def test_an_ended_process_is_reported_and_the_next_call_starts_another(solver):
-    for call, number in (*((call, 9) for call in (*ONE.values(), *MANY.values())), (Solver.solve, 15)):
-        is_over = threading.Event()
+@pytest.mark.parametrize("name, number", [*((name, 9) for name in CALLS), ("solve", 15)])
+def test_an_ended_process_is_reported_and_the_next_call_starts_another(name, number, solver):
+    is_over = threading.Event()
 
-        def kill():
-            while not is_over.wait(0.1):
-                for process in children():
-                    os.kill(process, number)
+    def kill():
+        while not is_over.wait(0.1):
+            for process in children():
+                os.kill(process, number)
 
-        threading.Thread(target=kill).start()
-        with pytest.raises(ChildProcessError, match=f"^the process that solved was ended by signal {number}$"):
-            call(solver, HOPELESS)
-        is_over.set()
-        time.sleep(0.2)
-        assert not children()
-    solver.solve(HARD)
+    threading.Thread(target=kill).start()
+    with pytest.raises(ChildProcessError, match=f"^the process that solved was ended by signal {number}$"):
+        CALLS[name](solver, HOPELESS)
+    is_over.set()
+    wanted = solver.solve(HARD)
     os.kill(kept()[0], signal.SIGKILL)
     time.sleep(0.2)
-    assert solver.solve(HARD) == solver.solve(HARD)
+    assert (solver.solve(HARD), children()) == (wanted, kept())
 
 
 def test_left_calls_keep_no_descriptors_and_no_dead_processes(solver):
-    def kept_now():
+    def all_kept():
         return len(os.listdir("/proc/self/fd")), children(), children(dead=True)
 
-    before = kept_now()
+    before = all_kept()
     for _ in range(20):
         with pytest.raises(TimeoutError):
             solver.solve_all([HOPELESS] * 2, threads=2, timeout=0.01)
     time.sleep(0.2)
-    assert kept_now() == before
+    assert all_kept() == before
 
 
 def test_a_forked_process_has_processes_of_its_own(solver):
@@ -345,45 +322,40 @@ def test_a_forked_process_has_processes_of_its_own(solver):
     assert (solver.solve(HARD), kept()) == (wanted, [process])
 
 
-def test_without_a_path_of_python_a_call_is_made_but_has_no_timeout(solver, monkeypatch):
+@pytest.mark.parametrize("name, value", [("executable", ""), ("executable", "/nowhere/python"), ("frozen", True)])
+def test_without_a_path_of_python_a_call_is_made_but_has_no_timeout(name, value, solver, monkeypatch):
     wanted = solver.solve(HARD)
     _processes.end_idle()
-    for name, value in (("executable", ""), ("executable", "/nowhere/python"), ("frozen", True)):
-        with monkeypatch.context() as changed:
-            changed.setattr(sys, name, value, raising=False)
-            assert (solver.solve(HARD), children()) == (wanted, [])
-            with pytest.raises(FileNotFoundError):
-                solver.solve(HARD, timeout=100)
+    monkeypatch.setattr(sys, name, value, raising=False)
+    assert (solver.solve(HARD), children()) == (wanted, [])
+    with pytest.raises(FileNotFoundError):
+        solver.solve(HARD, timeout=100)
 
 
-PROGRAM = """if True:
+PROGRAM = f"""if True:
     import os, signal, sys, threading, time
     from ffosolve import START, Position, Solver, _processes
-    solver = Solver(max_empties=60)
+    solver, hard = Solver(max_empties=60), Position({HARD.own}, {HARD.opp})
 
-    def children():
+    def begin():
+        threading.Thread(target=solver.solve, args=[START], daemon=True).start()
+        time.sleep(0.5)
+        show()
+
+    def show():
         print(*(it.process.pid for it in _processes.PROCESSES), flush=True)
 
-    def hopeless():
-        return threading.Thread(target=solver.solve, args=[START], daemon=True)
-
 """
-ENDS = {
-    "at its end": f"    solver.solve(Position({HARD.own}, {HARD.opp})); children()",
-    "at its end with a call in a thread": "    hopeless().start(); time.sleep(0.5); children()",
-    "by exit": "    hopeless().start(); time.sleep(0.5); children(); os._exit(0)",
-    "by an exception": "    hopeless().start(); time.sleep(0.5); children(); sys.exit('failed')",
-    "by a kill": "    hopeless().start(); time.sleep(0.5); children(); os.kill(os.getpid(), signal.SIGKILL)",
-}
 
 
 def ran(code, **how):
-    environment = {**os.environ, "PYTHONPATH": PACKAGE}
-    return subprocess.run([sys.executable, "-c", PROGRAM + code], env=environment, capture_output=True, text=True,
+    return subprocess.run([sys.executable, "-c", PROGRAM + code], env=ENVIRONMENT, capture_output=True, text=True,
                           timeout=50, **how)
 
 
-@pytest.mark.parametrize("code", [pytest.param(code, id=name) for name, code in ENDS.items()])
+@pytest.mark.parametrize("code", [
+    "    solver.solve(hard); show()", "    begin()", "    begin(); os._exit(0)", "    begin(); sys.exit('failed')",
+    "    begin(); os.kill(os.getpid(), signal.SIGKILL)"])
 def test_the_processes_end_with_the_program(code):
     (process,) = map(int, ran(code).stdout.split())
     end = time.monotonic() + 1
@@ -392,18 +364,23 @@ def test_the_processes_end_with_the_program(code):
         time.sleep(0.01)
 
 
+def test_a_program_that_does_not_catch_ctrl_c_ends():
+    found = ran("    threading.Timer(0.5, os.kill, (os.getpid(), signal.SIGINT)).start(); solver.solve(START)")
+    assert (found.returncode, found.stderr.splitlines()[-1]) == (-signal.SIGINT, "KeyboardInterrupt")
+
+
 def test_ctrl_c_is_for_the_program_alone():
     """A terminal sends SIGINT to all processes of the program. Here it has a handler, so that a call goes on. The first
     signal comes between two calls, the second one in a call."""
-    code = f"""
+    code = """
     signal.signal(signal.SIGINT, lambda *_: print("interrupted"))
-    solver.solve(Position({HARD.own}, {HARD.opp}))
+    solver.solve(hard)
     before = set(_processes.PROCESSES)
     os.killpg(os.getpgrp(), signal.SIGINT)
     time.sleep(0.5)
     threading.Timer(0.5, os.killpg, (os.getpgrp(), signal.SIGINT)).start()
     try:
-        print(solver.solve(Position({HARD.own}, {HARD.opp})).score, _processes.PROCESSES == before)
+        print(solver.solve(hard).score, _processes.PROCESSES == before)
         solver.solve(START, timeout=1.5)
     except TimeoutError as error:
         print(error)

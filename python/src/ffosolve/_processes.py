@@ -21,7 +21,7 @@ from ._library import REQUEST, STATUS, CAnswer, search
 # A call is brief if it solves one position with 14 empty squares, which takes at most 0.15 s, or 4 times as many
 # positions for each empty square less, down to 8.
 BRIEF, LIGHTEST = 4096, 8
-CHECK_SECONDS = 0.2  # how often a waiting call finds out whether it has to stop
+CHECK_SECONDS = 0.2  # how often a waiting call finds out whether it has to stop, also by a signal to another thread
 
 
 def is_brief(count: int, empties: int) -> bool:
@@ -129,15 +129,15 @@ class Run:
             for process in self.processes:
                 process.process.kill()
 
-    def wait_seconds(self) -> Optional[float]:
-        """How long this thread may wait for a result before it calls this again; None stands for any time. Raises
-        TimeoutError and CancelledError if the calls have to stop."""
-        left, task = self.end - time.monotonic(), task_of_executor()
+    def wait_seconds(self) -> float:
+        """How long this thread may wait for a result before it calls this again. Raises TimeoutError and CancelledError
+        if the calls have to stop."""
+        left = self.end - time.monotonic()
         if left <= 0:
             raise TimeoutError(f"not finished within {self.timeout} seconds")
-        if self.is_stopped or is_cancelled(task):
+        if self.is_stopped or is_cancelled(task_of_executor()):
             raise CancelledError
-        return None if self.timeout is None and task is None else min(left, CHECK_SECONDS)
+        return min(left, CHECK_SECONDS)
 
     def call(self, name: str, scoring: int, entries: int, asked: Any, claim: CAnswer, found: Any) -> int:
         """Makes the call that `search` describes in a SearchProcess, and returns its status. Raises TimeoutError,
@@ -174,11 +174,11 @@ class Run:
             raise ChildProcessError(f"the process that solved {how}") from None
 
 
-def readable(source: socket.socket, seconds: Optional[float]) -> bool:
+def readable(source: socket.socket, seconds: float) -> bool:
     """Waits until something can be read, at most for `seconds`; returns whether it can."""
     poll = select.poll()
     poll.register(source, select.POLLIN)
-    return bool(poll.poll(None if seconds is None else math.ceil(1000 * seconds)))
+    return bool(poll.poll(math.ceil(1000 * seconds)))
 
 
 def task_of_executor() -> Any:
