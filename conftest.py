@@ -21,20 +21,28 @@ PR_SET_CHILD_SUBREAPER = 36  # of prctl(2)
 
 
 def pytest_configure():
-    """Makes this process the parent of programs whose parent ends, and lets programs get SIGINT."""
+    """Makes this process the parent of programs whose parent ends. SIGINT and SIGTERM interrupt the tests."""
     ctypes.CDLL(None).prctl(PR_SET_CHILD_SUBREAPER, 1, 0, 0, 0)
-    signal.signal(signal.SIGINT, signal.default_int_handler)
+    for number in (signal.SIGINT, signal.SIGTERM):
+        signal.signal(number, signal.default_int_handler)
 
 
 def children():
     """Returns {process ID: command line} of the programs below this process that run."""
     found = {}
     for listed in Path("/proc/self/task").glob("*/children"):
-        for number in listed.read_text().split():
+        for place in map(Path("/proc").joinpath, listed.read_text().split()):
             with contextlib.suppress(OSError):  # it has ended
-                words = Path(f"/proc/{number}/cmdline").read_text(errors="replace")  # "" of a zombie
-                found.update({int(number): words.replace("\0", " ")} if words else {})
+                if ") Z " not in place.joinpath("stat").read_text():  # a zombie has ended, too
+                    found[int(place.name)] = place.joinpath("cmdline").read_text(errors="replace").replace("\0", " ")
     return found
+
+
+def pytest_unconfigure():
+    """Kills what is left, as after an interrupt."""
+    while children():
+        for number in children():
+            os.kill(number, signal.SIGKILL)
 
 
 @pytest.fixture(scope="module", autouse=True)
@@ -48,9 +56,7 @@ def ends_its_programs():
     while children() and time.monotonic() < end:
         time.sleep(0.01)
     left = children()
-    while children():
-        for number in children():
-            os.kill(number, signal.SIGKILL)
+    pytest_unconfigure()
     assert not left, f"programs that the module's tests left running: {left}"
 
 

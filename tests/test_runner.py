@@ -1,12 +1,13 @@
 """conftest.py, which refuses what no test may do, and .ci/run, which adds up the counts of `rt ci` and pytest."""
 import os
 import re
+import signal
 import sys
 from pathlib import Path
 
 import pytest
 
-from tests.support import ROOT, ends, need, run, write
+from tests.support import ROOT, SECONDS, ends, need, processes_in, run, wait_until, write
 
 NO_CI = {name: text for name, text in os.environ.items() if name != "CI"}
 FAULTS = """import os, pathlib, pytest, subprocess, time, unittest
@@ -26,14 +27,19 @@ class Some(unittest.TestCase):
 """
 
 
+@pytest.fixture
+def project(folder):
+    need("git")
+    run("git", "init", "-q", check=True)
+    run("cp", "--parents", "conftest.py", "setup.cfg", ".gitignore", "tests/support.py", folder, cwd=ROOT, check=True)
+    return folder
+
+
 @pytest.mark.parametrize("ci, skipped, counts", (
     ({}, set(), "2 failed, 3 passed, 2 skipped, 2 errors"),
     ({"CI": "true"}, {"test_faults.py::test_skips", "test_missing.py"}, "3 failed, 3 passed, 3 errors"),
 ))
-def test_each_fault_of_a_test_is_reported(folder, ci, skipped, counts):
-    need("git")
-    run("git", "init", "-q", check=True)
-    run("cp", "--parents", "conftest.py", "setup.cfg", ".gitignore", "tests/support.py", folder, cwd=ROOT, check=True)
+def test_each_fault_of_a_test_is_reported(project, ci, skipped, counts):
     write("tests/test_faults.py", FAULTS)
     write("tests/test_missing.py", "import pytest\npytest.importorskip('no_such')\n")
     words = (sys.executable, "-m", "pytest", "-n", "2", "-o", "timeout=7", "-o", "testpaths=tests")
@@ -44,6 +50,17 @@ def test_each_fault_of_a_test_is_reported(folder, ci, skipped, counts):
     assert re.search(rf"^=+ {counts} in .*=\Z", ran.stdout.strip(), re.M), ran.stdout
     for text in ("?? new", "Timeout >7.0s", "sleep 1000", *(["no-such is missing, but with CI=true"] * bool(ci))):
         assert text in ran.stdout
+
+
+@pytest.mark.parametrize("kill, number", ((os.killpg, signal.SIGINT), (os.kill, signal.SIGTERM)))
+def test_an_interrupt_from_the_terminal_and_a_signal_to_pytest_alone_end_all_processes(project, start, kill, number):
+    waits = "touch begun; setsid sleep 1000"
+    write("tests/test_waits.py", f"import subprocess\ndef test_a():\n    subprocess.run({waits!r}, shell=True)\n")
+    runner = start(sys.executable, "-m", "pytest", "-n", "2", "tests/test_waits.py", start_new_session=True)
+    wait_until(Path("begun").exists)
+    kill(runner.pid, number)
+    assert runner.wait(timeout=SECONDS) != 0
+    assert not processes_in(project)
 
 
 GOOD = ("7 passed, 0 failed", 0)
