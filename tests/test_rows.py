@@ -104,6 +104,8 @@ def test_a_terminal_is_refused_as_a_book():
     ("yes ? | tr -d '\\n'", "1: bad square at column 1"),
     ("(echo '% ffobook 3 winner'; yes %)", "1: unknown header"),
     (f"(echo; yes '{'X' * 64}')", "2: bad side at column 65"),
+    (f"(printf {'X' * 64}; yes ? | tr -d '\\n')", "1: bad side at column 65"),
+    (f"(printf '%%\\n{'X' * 64}\\r'; yes ? | tr -d '\\n')", "2: bad side at column 65"),
 ))
 def test_the_first_fault_of_an_endless_pipe_is_refused(lines, error):
     words = f"{lines} 2>/dev/null | (ulimit -v 1000000; exec '{built()}' --book-in /dev/stdin)"
