@@ -139,7 +139,7 @@ tools:
 
 # The first lines of install and uninstall. The command `install` makes a new file in place of an old one, so a running
 # program keeps its own.
-places = case "$(PREFIX)" in /*) ;; *) echo "PREFIX is $(PREFIX), but has to begin with a slash" >&2; exit 1 ;; esac; \
+places = $(if $(filter /%,$(PREFIX)),,$(error PREFIX is $(PREFIX), but has to begin with a slash)) \
     bin="$(DESTDIR)$(BINDIR)" lib="$(DESTDIR)$(LIBDIR)" include="$(DESTDIR)$(INCLUDEDIR)" man="$(DESTDIR)$(MANDIR)" \
     share="$(DESTDIR)$(PREFIX)/share"
 documents = README.md LICENSE CHANGELOG.md $(wildcard PROVED) \
@@ -157,7 +157,7 @@ install: $(programs:%=out/$(CPU)/%) $(libraries) ## installs programs, library, 
 	for program in $(programs:%=out/$(CPU)/%) $(scripts:%=bin/%); do
 	    name=$${program##*/}
 	    said=$$(COLUMNS=80 "$$program" --help) || echo "$$name: its manual page has no options, since --help can't be run" >&2
-	    echo "$$said" | awk -v program=$$name -f share/man/page.awk | $(call fill,/dev/stdin,"$$man/man1/$$name.1")
+	    echo "$$said" | awk -v program="$$name" -f share/man/page.awk | $(call fill,/dev/stdin,"$$man/man1/$$name.1")
 	    $(call fill,share/completions/bash,"$$share/bash-completion/completions/$$name")
 	    $(call fill,share/completions/zsh,"$$share/zsh/site-functions/_$$name")
 	    $(call fill,share/completions/fish,"$$share/fish/vendor_completions.d/$$name.fish")
@@ -192,13 +192,10 @@ uninstall: ## removes what make install installed, and folders that are then emp
 	    "$$lib/pkgconfig/ffosolve.pc" "$$include/ffosolve.h"
 	rm -rf "$$share/doc/ffosolve" "$$share/ffosolve" "$$lib/cmake/ffosolve"
 	# System folders stay, even if they are empty.
-	case '$(PREFIX)' in
-	/usr | /usr/local) ;;
-	*) rmdir --ignore-fail-on-non-empty 2>/dev/null "$$bin" "$$lib/glibc-hwcaps/x86-64-v3" "$$lib/glibc-hwcaps" \
-	    "$$lib/pkgconfig" "$$lib/cmake" "$$lib" "$$include" "$$man/man1" "$$man" "$$share/bash-completion/completions" \
-	    "$$share/bash-completion" "$$share/zsh/site-functions" "$$share/zsh" "$$share/fish/vendor_completions.d" \
-	    "$$share/fish" "$$share/doc" "$$share" "$(DESTDIR)$(PREFIX)" || : ;;
-	esac
+	$(if $(filter /usr /usr/local,$(PREFIX)),:,rmdir --ignore-fail-on-non-empty 2>/dev/null) "$$bin" \
+	    "$$lib/glibc-hwcaps/x86-64-v3" "$$lib/glibc-hwcaps" "$$lib/pkgconfig" "$$lib/cmake" "$$lib" "$$include" \
+	    "$$man/man1" "$$man" "$$share/bash-completion/completions" "$$share/bash-completion" "$$share/zsh/site-functions" \
+	    "$$share/zsh" "$$share/fish/vendor_completions.d" "$$share/fish" "$$share/doc" "$$share" "$(DESTDIR)$(PREFIX)" || :
 	echo "uninstalled from $(DESTDIR)$(PREFIX)"
 
 include packaging/packages.mk

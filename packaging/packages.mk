@@ -22,19 +22,20 @@ texts = sed -e '/^$2|/d; s/^$1|//; s|@BIN@|$3|g; s|@DOC@|$4|g; s/@PACKAGE@/$(pac
     { \
         printf '%s\n\n' "ffosolve $(package), commit $$(git rev-parse HEAD), $$(rt version)"; \
         echo 'Each function of these crates was proved against its contract. Nothing else is built into:'; \
-        for program in $(programs); do echo "bin/$$program:" $$(scripts/below $$program); done; \
-        echo "lib/libffosolve.*:" $$(scripts/below ffosolve_c); \
+        for program in $(programs); do echo "bin/$$program: $$(scripts/below $$program | paste -sd ' ')"; done; \
+        echo "lib/libffosolve.*: $$(scripts/below ffosolve_c | paste -sd ' ')"; \
     } | install -m 644 /dev/stdin "$5/PROVED"
 
 dist: levels ## makes out/ffosolve-VERSION-linux-x86-64.tar.gz, which runs wherever it is unpacked
 	$(clean)
 	$(room)
 	top="$$room/$(archive)"
-	$(MAKE) -s stage CPU=x86-64-v2 DESTDIR="$$room" PREFIX=/$(archive) >/dev/null
+	make -s stage CPU=x86-64-v2 DESTDIR="$$room" PREFIX=/$(archive) >/dev/null
 	ln -s share/doc/ffosolve/examples "$$top/examples"
 	rm "$$top/share/doc/ffosolve/README.md"
 	$(call texts,archive,deb,bin/,share/doc/ffosolve,$$top)
-	(cd "$$top" && find . -type f ! -name SHA256SUMS | LC_ALL=C sort | xargs -d '\n' sha256sum >SHA256SUMS)
+	(cd "$$top" && find . -type f | LC_ALL=C sort | xargs -d '\n' sha256sum) >"$$room/SHA256SUMS"
+	mv "$$room/SHA256SUMS" "$$top"
 	tar -C "$$room" --sort=name --mtime="@$(seconds)" --owner=0 --group=0 --numeric-owner --format=ustar -c $(archive) | gzip -9n >out/$(archive).tar.gz.new
 	mv -f out/$(archive).tar.gz.new out/$(archive).tar.gz
 	(cd out && sha256sum $(archive).tar.gz >$(archive).tar.gz.sha256)
@@ -54,8 +55,7 @@ deb: levels ## makes packages for Debian: out/ffosolve_VERSION_amd64.deb, out/li
 	echo '$(package)' >"$$copy/VERSION"
 	touch -r LICENSE "$$copy/VERSION"
 	said=$$(cd "$$copy" && PATH=/usr/sbin:/usr/bin:/sbin:/bin dpkg-buildpackage --build=binary --unsigned-changes 2>&1) || { echo "$$said" | tail -n 20 >&2; exit 1; }
-	cp "$$room"/*.deb out
-	ls -d "$$room"/*.deb | sed "s|$$room|made: $$PWD/out|"
+	for package in "$$room"/*.deb; do cp "$$package" out && echo "made: $$PWD/out/$${package##*/}"; done
 
 wheel: levels ## makes out/ffosolve-VERSION-py3-none-manylinux_2_34_x86_64.whl, the package for Python with programs and library
 	$(clean)

@@ -13,7 +13,7 @@ from types import SimpleNamespace
 import pytest
 
 from tests.prefix import FIRST, FIRST_OBF, LEVELS, VERSION, WITHOUT_GIT, copied_checkout, files_below, path_without
-from tests.support import ROOT, ends, is_v3, lack, module_folder, need, need_module, run, stored, write
+from tests.support import ROOT, ends, is_v3, lack, need, need_module, run, stored, write
 from tests.test_install import completed_by_zsh
 
 COMMIT = "GIT_COMMITTER_DATE='1700000000 +0000' git -c user.name=a -c user.email=a@b commit -q -m one"
@@ -43,14 +43,14 @@ def made(target, folder, *names, **how):
 
 
 @pytest.fixture(scope="module")
-def dist():
+def dist(shared_folder):
     """Archives of two checkouts that differ in path, times, umask, locale and time zone; the first archive, unpacked;
     their versions and names; and an environment without rt. Commands of this module see no variables of git."""
     need("make", "git", "rt")
     with pytest.MonkeyPatch.context() as patch:
         for name in os.environ.keys() - WITHOUT_GIT:
             patch.delenv(name)
-        work = module_folder()
+        work = shared_folder
         first = copied_checkout(work / "a")
         run("sh", "-euc", f"git init -q; git add VERSION; {COMMIT}; {COMMIT_ALL}", cwd=first, check=True)
         second = shutil.copytree(first, work / "another place")

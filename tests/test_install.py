@@ -11,7 +11,7 @@ import pytest
 
 from tests.prefix import (
     FIRST, FIRST_OBF, LEVELS, NUMBER, VERSION, copied_checkout, files_below, names_of_files, path_without)
-from tests.support import NOBODY, ROOT, ends, is_v3, lack, module_folder, need, run, stored, write
+from tests.support import NOBODY, ROOT, ends, is_v3, lack, need, run, stored, write
 
 PREFIX = "/opt/a prefix"
 COMMANDS = ["ffosolve", "ffoscores", "ffosolve-many", "ffosolve-games"]
@@ -20,9 +20,9 @@ LESSER = ("qemu-x86_64", "-cpu", "Nehalem")  # runs a command on a processor of 
 
 
 @pytest.fixture(scope="module")
-def checkout():
+def checkout(shared_folder):
     need("make", "git")
-    return copied_checkout(module_folder() / "a checkout")
+    return copied_checkout(shared_folder / "a checkout")
 
 
 def times(paths):
@@ -31,12 +31,13 @@ def times(paths):
 
 
 class Place:
-    """The folder `stage`, into which make installs from the checkout `source`, and in it `root`, that of PREFIX."""
+    """The folder `stage`, into which make installs from the checkout `source`, and in it `root`, that of `prefix`."""
 
-    def __init__(self, source, stage):
-        self.source, self.stage, self.root = source, stage, Path(f"{stage}{PREFIX}")
+    def __init__(self, source, stage, prefix=PREFIX):
+        self.source, self.stage, self.prefix, self.root = source, stage, prefix, Path(f"{stage}{prefix}")
 
-    def make(self, target, *words, prefix=PREFIX, **how):
+    def make(self, target, *words, prefix=None, **how):
+        prefix = self.prefix if prefix is None else prefix
         words = ["make", "-s", "-C", self.source, target, f"PREFIX={prefix}", f"DESTDIR={self.stage}", *words]
         return run(*words, text=True, **how)
 
@@ -334,24 +335,30 @@ def completed_by_zsh(lines, before="", start=run):
     return [line.strip() for line in (own / "completed").read_text().splitlines()]
 
 
+@pytest.fixture(scope="module")
+def root(checkout, shared_folder):
+    """The folder of a prefix, which is one for all tests of manual pages and completions."""
+    place = Place(checkout, "", shared_folder / "a prefix")
+    place.install()
+    return place.root
+
+
 @pytest.fixture
-def texts(place, folder):
-    """A Place that is a prefix itself, and its texts. The working folder is a copy of the examples, in which no program
-    may be run: pressing TAB after bin/ffosolve in a checkout could start a build."""
-    place = Place(place.source, "")
-    place.root = folder / "a prefix"
-    place.install(prefix=place.root)
-    os.environ.update(MANWIDTH="2000", SHARE=f"{place.root}/share")
+def texts(root, folder, monkeypatch):
+    """The prefix `root`. The working folder is a copy of the examples, in which no program may be run: pressing TAB
+    after bin/ffosolve in a checkout could start a build."""
+    monkeypatch.setenv("MANWIDTH", "2000")
+    monkeypatch.setenv("SHARE", f"{root}/share")
     shutil.copytree(ROOT / "examples", "examples")
     write("examples/bin/ffosolve", "#!/bin/sh\n: >begun\n")
     os.chdir("examples")
-    yield place
+    yield root
     assert not Path("begun").exists()
 
 
 def help_of(texts, name):
     """Returns the help of a program, in which each option has one line."""
-    printed = run("env", "COLUMNS=200", texts.root / "bin" / name, "--help", text=True, check=True).stdout
+    printed = run("env", "COLUMNS=200", texts / "bin" / name, "--help", text=True, check=True).stdout
     return re.sub(r"\n {5,}(?=[^\s-])", " ", printed)
 
 
@@ -364,7 +371,7 @@ def options_of(texts, name):
 def test_manual_pages_show_each_option_without_a_warning(texts):
     need("man")
     for name in COMMANDS:
-        page = texts.root / f"share/man/man1/{name}.1"
+        page = texts / f"share/man/man1/{name}.1"
         shown = run("man", "--warnings", "-E", "ascii", "-l", page, text=True)
         assert (shown.returncode, shown.stderr) == (0, "")
         text = " ".join(shown.stdout.split())
@@ -376,7 +383,7 @@ def test_manual_pages_show_each_option_without_a_warning(texts):
 
 
 def test_the_manual_page_of_ffosolve_games_has_its_commands_and_their_statuses(texts):
-    page = (texts.root / "share/man/man1/ffosolve-games.1").read_text()
+    page = (texts / "share/man/man1/ffosolve-games.1").read_text()
     assert re.search(r"(?m)^ffosolve\\-games check .*FILE .*$", page.split(".SH DESCRIPTION")[0])
     assert re.search(r"(?m)^ffosolve\\-games compare .*BOOK FILE .*$", page.split(".SH DESCRIPTION")[0])
     assert re.search(r"with check or compare: all(.|\n)*BOOK is not a", page.split('.SH "STATUS"')[1])
@@ -426,5 +433,5 @@ def test_zsh_completes_options_values_files_and_commands(texts):
              "ffosolve-games compare com": "ffosolve-games compare com", "ffosolve-many com": "ffosolve-many com",
              "ffosolve-games compare --re": "ffosolve-games compare --real",
              **{f"{name} {option}": f"{name} {option}" for name in COMMANDS for option in options_of(texts, name)}}
-    before = f"fpath=('{texts.root}/share/zsh/site-functions' $fpath)"
+    before = f"fpath=('{texts}/share/zsh/site-functions' $fpath)"
     assert completed_by_zsh(lines, before=before) == list(lines.values())

@@ -3,7 +3,7 @@ import re
 
 from tests.support import ROOT, need, run, write
 
-LATER = {"constants", "install", "uninstall", "dist", "deb"}  # targets of make whose recipes are to be mended
+LATER = {"constants"}  # targets of make whose recipes are to be mended
 
 
 def scripts(language):
