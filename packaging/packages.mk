@@ -3,7 +3,7 @@
 PYTHON = python3
 
 # The version of a package: VERSION and, if commits came after its last change, their number and the last commit.
-package = $(or $(shell $(PYTHON) python/src/ffosolve/_version.py 2>/dev/null),$(version))
+package = $(eval package := $(or $(shell $(PYTHON) python/src/ffosolve/_version.py 2>/dev/null),$(version)))$(package)
 archive = ffosolve-$(package)-linux-x86-64
 clean = change=$$(git status --porcelain | head -n 1) || exit; [ -z "$$change" ] || { echo "not committed:$$change" >&2; exit 1; }
 room = room=$$(mktemp -d); trap 'rm -rf "$$room"' EXIT; umask 022

@@ -360,7 +360,7 @@ class System:
         self.env = {"PATH": "/usr/sbin:/usr/bin:/sbin:/bin", "DEBIAN_FRONTEND": "noninteractive", "HOME": os.getcwd()}
 
     def run(self, *words, **how):
-        return run(*self.words, *words, env=self.env, timeout=600, text=True, **how)
+        return run(*self.words, *words, **{"env": self.env, "timeout": 600, "text": True, **how})
 
     def make(self, *words):
         """Runs a command, which has to succeed, and returns what it prints."""

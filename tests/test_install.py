@@ -10,7 +10,7 @@ from unittest import mock
 import pytest
 
 from tests.prefix import (
-    FIRST, FIRST_OBF, LEVELS, NUMBER, VERSION, copied_checkout, files_below, names_of_files, path_without)
+    FIRST, FIRST_OBF, LEVELS, LONGEST, NUMBER, VERSION, copied_checkout, files_below, names_of_files, path_without)
 from tests.support import NOBODY, ROOT, ends, is_v3, lack, need, run, stored, write
 
 PREFIX = "/opt/a prefix"
@@ -39,7 +39,7 @@ class Place:
     def make(self, target, *words, prefix=None, **how):
         prefix = self.prefix if prefix is None else prefix
         words = ["make", "-s", "-C", self.source, target, f"PREFIX={prefix}", f"DESTDIR={self.stage}", *words]
-        return run(*words, text=True, **how)
+        return run(*words, text=True, timeout=LONGEST, **how)
 
     def install(self, *words, **how):
         ran = self.make("install", *words, **how)
@@ -331,7 +331,7 @@ def completed_by_zsh(lines, before="", start=run):
     write(own / "asked", "\n".join(lines))
     write(own / ".zshrc", before + ZSHRC)
     variables = ("PATH=/usr/bin:/bin", f"ZDOTDIR={own}", "TERM=dumb")
-    assert start("env", "-i", *variables, "script", "-qec", "zsh -i", "/dev/null").returncode == 0
+    assert start("env", "-i", *variables, "script", "-qec", "zsh -i", "/dev/null", timeout=LONGEST).returncode == 0
     return [line.strip() for line in (own / "completed").read_text().splitlines()]
 
 

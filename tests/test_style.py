@@ -34,7 +34,7 @@ def test_shell():
 def test_recipes(folder):
     """make prints each recipe, with the variables of make filled in, after a line that names the target."""
     targets = re.findall(r"^make (\S+)", run("make", "-s", "help", cwd=ROOT, text=True).stdout, re.M)
-    printed = run("make", "-nBk", "--trace", *{*targets} - LATER, cwd=ROOT, text=True).stdout
+    printed = run("make", "-nBk", "--trace", *{*targets} - LATER, cwd=ROOT, text=True, timeout=300).stdout
     recipes = re.findall(r"^\S+:(\d+): (?:update )?target '(?:.*/)?(.*?)' .*\n((?:(?!\S+:\d+: ).*\n)+)", printed, re.M)
     assert {"check", "help", "libffosolve.so"} <= {target for _, target, _ in recipes}
     accepts("shellcheck", "-s", "sh", *{write(folder / f"{at}-{to}", f"set -eu\n{text}") for at, to, text in recipes})
