@@ -7,7 +7,10 @@ import shutil
 import signal
 import socket
 import sys
+import time
+from concurrent.futures import Future
 from pathlib import Path
+from unittest import mock
 
 import pytest
 
@@ -297,6 +300,36 @@ def test_a_full_disk_ends_the_run_and_it_goes_on_when_there_is_room(cluster, cas
     case.many(*words, preexec_fn=full, status=3, message="ffosolve-many: cannot write work: File too large\n")
     cluster.leaves_nothing()
     case.many(*words, message=f"in 15 parts, {case.parts_solved()} of them solved before")
+
+
+def test_parts_go_to_fit_workers_by_their_threads_and_those_that_failed_to_others():
+    pytest.importorskip("distributed")
+    from ffosolve._many.cluster import Cluster, Worker
+    one = Cluster.__new__(Cluster)
+    one.client, one.run, one.sent, one.ended = mock.Mock(status="running"), mock.Mock(), {}, {}
+    one.heard, one.asked, one.workers = time.monotonic(), Future(), {}
+    one.in_dask = lambda coroutine: (coroutine.close(), Future())[1]
+    for name, threads in (("h1", 1), ("h2", 20), ("h3", 9)):
+        one.workers[name] = Worker(name, {"local_directory": "", "host": name, "nthreads": threads})
+        one.workers[name].is_fit = name != "h3"
+    h1, h2, h3 = one.workers.values()
+
+    def submitted(count, failed):
+        futures = [future for number in range(count) if (future := one.submit(number, failed))]
+        return [one.sent[future].address for future in futures]
+
+    assert sorted(submitted(90, [])) == ["h1"] * 2 + ["h2"] * 40  # twice as many as threads
+    assert sorted(one.look({}, True).values()) == ["h1"] + ["h2"] * 20
+    for future in [*h1.parts]:
+        future.cancel()
+        assert one.result(future, 0) == ("h1", None, "")
+    one.look({}, True)  # h1 has nothing to do: a part that waits on h2 is taken from there
+    assert [future.cancelled() for future in h2.parts] == [False] * 20 + [True] + [False] * 19
+    assert submitted(3, ["h2"]) == ["h1"]  # one at a time that has failed
+    assert submitted(3, []) == ["h1"]
+    one.drop(h2)  # which has ended: only the parts that it was solving have failed
+    assert [one.result(future, 0)[2] for future in [*h2.parts]] == ["the worker ended"] * 20 + [""] * 20
+    assert submitted(1, ["h1"]) == ["h2"]
 
 
 @pytest.fixture

@@ -299,7 +299,7 @@ def test_a_finished_folder_that_may_not_be_written_prints_its_report(case):
 
 
 def test_a_full_disk_ends_the_run_and_it_goes_on_when_there_is_room(case):
-    writes = "file.writelines(pieces)"
+    writes = "file.writelines(pieces)\n                file.flush()"
     fails_late = "open('/dev/full', 'wb', 0).write(b'?') if path.endswith('results/0000005') else " + writes
     by = case.install("full", ("../_command_line", writes, fails_late))
     words = ("--jobs=1", "--lines=5", *WORDS[1:])
@@ -362,10 +362,9 @@ def test_a_part_has_at_most_the_bytes_of_a_file(case):
 
 
 def test_a_list_that_changes_while_it_is_read_is_solved_as_it_was_copied(case):
-    by = case.install("changing", ("folder", "            yield text\n", "            yield text\n" + 12 * " " +
-                                   "self.path.write_bytes(self.path.read_bytes()[:9])\n"))
+    by = case.install("changing", ("folder", "yield text\n", "yield text; self.path.write_bytes(b'?')\n"))
     case.many("--lines=7", "work", "list.obf", by=by, message=" 60 lines in 9 parts")
-    assert Path("list.obf").stat().st_size == 9
+    assert Path("list.obf").stat().st_size == 1
 
 
 def test_a_folder_with_other_files_or_of_an_earlier_version_is_refused_and_untouched(case):
@@ -460,6 +459,13 @@ def test_an_interrupt_at_the_start_prints_no_traceback(case):
     ran = begin(case, case.install("starting", ("command", "import argparse\n", slow)))
     wait_until(Path("begun").exists)
     assert (end(case, ran, signal.SIGINT), ran.returncode) == ((b"", ""), -signal.SIGINT)
+
+
+def test_by_default_each_processor_solves_a_part(case):
+    ran = case.start(case.ACTS, "--lines=1", *WORDS[1:], env={**os.environ, "PAUSE": "45"})
+    wait_until(lambda: sum("program-0" in words for words in processes_in(case.folder).values()) ==
+               len(os.sched_getaffinity(0)))
+    end(case, ran, signal.SIGTERM)
 
 
 def test_a_second_command_in_the_folder_is_refused(case):

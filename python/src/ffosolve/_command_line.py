@@ -3,13 +3,18 @@ import argparse
 import contextlib
 import os
 import re
+import shutil
 import signal
+import stat
 import sys
+import tempfile
+from pathlib import Path
 from types import FrameType
 from typing import IO, Any, Callable, Dict, Iterable, Iterator, Mapping, NoReturn, Optional, Set, Tuple, Type, Union
 
 from ._text import shown
 
+Name = Union[str, int, "os.PathLike[str]"]  # of a file, or a descriptor
 DONE, REMARKED, MISUSED, UNREADABLE, MISSING = range(5)
 SIGNALS = (signal.SIGINT, signal.SIGTERM, signal.SIGHUP)
 name = "ffosolve"  # of the program, which `run` sets
@@ -80,6 +85,48 @@ def show(text: str) -> None:
 def _write_error(text: str) -> None:
     with contextlib.suppress(OSError):
         os.write(2, text.encode(errors="backslashreplace"))  # `print` would fail in a handler that interrupts `print`
+
+
+def counted(count: int, name: str) -> str:
+    return f"{count} {name}" if count == 1 else f"{count} {name}s"
+
+
+def is_same(one: Name, other: Name) -> bool:
+    """Returns whether two paths or descriptors refer to the same file, other than /dev/null."""
+    with contextlib.suppress(OSError):
+        return os.path.samefile(one, other) and not os.path.samefile(one, os.devnull)
+    return False
+
+
+def path_of(name: str) -> Path:
+    """Returns the path of a file to read; the name `-` stands for standard input."""
+    return Path("/dev/stdin" if name == "-" else name)
+
+
+def regular(name: str) -> Path:
+    """Returns the path of a regular file: `name` or, for a pipe, the rest of standard input and the like, a copy that
+    vanishes with this process."""
+    path = path_of(name)
+    if str(path) == "/dev/stdin" and sys.stdin is None:
+        raise Refusal(f"cannot read {name}: standard input is closed")
+    with refusing("read", name), open(0 if name == "-" else path, "rb", closefd=name != "-") as source:
+        if path.is_file() and not (name == "-" and source.tell()):
+            return path
+        with refusing(f"copy {shown(name)} to", tempfile.gettempdir()), tempfile.TemporaryFile() as copy:
+            shutil.copyfileobj(source, copy)
+            copy.flush()
+            kept = os.dup(copy.fileno())  # which stays open, since the copy has no other name
+            return Path(f"/proc/{os.getpid()}/fd/{kept}")
+
+
+def replace(name: str, pieces: Iterable[bytes]) -> None:
+    """Writes a file. Replaces a regular file as a whole, and keeps its permissions; writes into a pipe or the like."""
+    with refusing("write", name), open(name, "ab") as file:
+        mode = os.fstat(file.fileno()).st_mode
+        if stat.S_ISREG(mode):
+            write_whole({os.path.realpath(name): pieces}, replaces=True, mode=stat.S_IMODE(mode))
+        else:
+            file.writelines(pieces)
 
 
 def print_all(pieces: Iterable[bytes]) -> None:

@@ -9,12 +9,12 @@ import tempfile
 from pathlib import Path
 from typing import Iterable, Iterator, List, Sequence, Tuple
 
-from .._command_line import DONE, MISUSED, Refusal, print_all
+from .._command_line import DONE, MISUSED, Refusal, print_all, regular, replace
 from .._positions import BLACK, WHITE, Position
 from .._refusals import NoPosition
 from .._squares import NAMES
 from .._text import shown
-from .files import check_book_out, check_books, misused, program_in, regular, replace
+from .programs import check_book_out, check_books, misused, program_in
 from .folder import HEADER, Run
 
 Entry = Tuple[List[int], Tuple[str, int], bytes]  # see `entries_of`

@@ -44,10 +44,10 @@ class Pack:
     def __init__(self, task: Task, files: Dict[str, bytes]) -> None:
         """Raises ChildProcessError if no program works on this machine."""
         self.task, self.files = task, files
-        self.kept = {name: memory_file(content) for name, content in files.items()}
-        names = {name: str(file.fileno()) for name, file in self.kept.items()}
-        book_in = names.pop("book-in", None)
-        self.place = Place(f"/proc/{os.getpid()}/fd", [*names.values()], book_in)
+        self.kept = {name: os.fdopen(os.memfd_create("ffosolve"), "w+b", 0) for name in files}
+        names = {name: str(file.fileno()) for name, file in self.kept.items() if file.write(files[name])}
+        self.place = Place(f"/proc/{os.getpid()}/fd", [names[name] for name in files if name != "book-in"],
+                           names.get("book-in"))
         try:
             self.program = fit_program(task, self.place)[0]
         except OSError:
@@ -57,13 +57,6 @@ class Pack:
 
     def __reduce__(self) -> Tuple[Any, ...]:
         return Pack, (self.task, self.files)
-
-
-def memory_file(content: bytes) -> Any:
-    file = os.fdopen(os.memfd_create("ffosolve"), "w+b")
-    file.write(content)
-    file.flush()
-    return file
 
 
 def solve_part(pack: Pack, number: int, text: bytes) -> Tuple[bytes, str]:
@@ -116,7 +109,7 @@ class Worker:
 
 
 class Cluster:
-    """The workers of a Dask cluster, as an engine (see `Engine`)."""
+    """The workers of a Dask cluster, as an engine (see `Threads`)."""
 
     tries, trouble = 3, ""
 
@@ -198,11 +191,9 @@ class Cluster:
         """Notes which workers there are, and which of them are fit. Refuses after LOST_SECONDS of silence."""
         now = time.monotonic()
         if self.asked.done():
-            with contextlib.suppress(Exception, *LOST):
-                found = self.asked.result()["workers"]
-                if self.client.status == "running":  # otherwise, Dask connects again
-                    self.heard = now
-                    self.update(found)
+            if not self.asked.cancelled() and not self.asked.exception() and self.client.status == "running":
+                self.heard = now  # otherwise, Dask connects again
+                self.update(self.asked.result()["workers"])
             self.asked = self.in_dask(self.client.scheduler.identity())
         if (silent := now - self.heard) > LOST_SECONDS:
             raise Refusal(f"the scheduler {self.address} is lost; the same command goes on with what is solved")
@@ -244,5 +235,6 @@ class Cluster:
     def drop(self, worker: Worker) -> None:
         """Takes its parts from a worker that has ended. Those that it was solving have failed there."""
         for place, future in enumerate([*worker.parts]):
-            self.ended[future] = "the worker ended" if place < worker.threads else ""
+            if not future.done() and place < worker.threads:
+                self.ended[future] = "the worker ended"
             future.cancel()

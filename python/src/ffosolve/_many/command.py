@@ -10,14 +10,14 @@ import tempfile
 from pathlib import Path
 from typing import Any, List, Optional
 
-from .._command_line import DONE, REMARKED, UNREADABLE, Parser, Refusal, print_all, say
+from .._command_line import (DONE, REMARKED, UNREADABLE, Parser, Refusal, counted, is_same, path_of, print_all, regular,
+                             replace, say)
 from .._command_line import run as run_program
 from .._text import shown
 from .books import book_of, merge_books
 from .engine import Threads, solve_parts
-from .files import (builds_of, check_book_out, check_options, counted, is_same, misused, path_of, program_in, regular,
-                    replace)
 from .folder import Run, begin, options_of
+from .programs import builds_of, check_book_out, check_options, misused, program_in
 from .solve import words_of
 
 NAME = "ffosolve-many"

@@ -1,4 +1,6 @@
 """Solves the unsolved parts of a run (see `Run`) on an engine: threads of this machine, or workers of a cluster."""
+from __future__ import annotations
+
 import array
 import contextlib
 import os
@@ -7,12 +9,10 @@ import resource
 import threading
 import time
 from concurrent.futures import Future, ThreadPoolExecutor
-from typing import Any, Dict, List, Optional, Protocol, Tuple
+from typing import Any, Dict, List, Optional, Tuple
 
-from .._command_line import MISSING, Refusal, say, show
-from .files import counted
+from .._command_line import counted, say, show
 from .folder import Run
-from .solve import fit_program
 
 HERE = "this machine"
 FILES = 8  # files that a job has open while it starts its program, and then three
@@ -30,7 +30,7 @@ def span_of(seconds: float) -> str:
 class Progress:
     """The parts, lines and work left, the work done and its seconds. `running` is {(part, machine): start time}."""
 
-    def __init__(self, run: Run, parts: "array.array[int]") -> None:
+    def __init__(self, run: Run, parts: array.array[int]) -> None:
         self.run, self.weights = run, array.array("d", bytes(8 * run.parts))
         self.running: Dict[Tuple[int, str], float] = {}
         self.parts, self.lines, self.seconds, self.weight = len(parts), sum(map(run.line_count, parts)), 0.0, 0.0
@@ -73,27 +73,10 @@ class Progress:
         return text
 
 
-class Engine(Protocol):
-    """What solves parts for `solve_parts`. A future is done when the part is solved, has failed, or is lost."""
-
-    tries: int  # after which a part has failed
-    trouble: str  # why nothing is known of the machines at work, or ""
-
-    def submit(self, number: int, failed: List[str]) -> "Optional[Future[Any]]":
-        """Submits a part, if possible to a machine not in `failed`. Returns None if enough parts are submitted."""
-
-    def result(self, future: "Future[Any]", number: int) -> Answer:
-        """Stores the results of a part whose future is done."""
-
-    def look(self, flying: "Dict[Future[Any], int]", is_all: bool) -> Dict[int, str]:
-        """Returns {part: machine} of the parts that are being solved. `flying` has those that were submitted, and
-        `is_all` says whether no others wait."""
-
-
 class Threads:
-    """An engine: solves parts on threads of this machine, each running one program at a time."""
+    """An engine for `solve_parts`: solves parts on threads of this machine, each running one program at a time."""
 
-    tries, trouble = 1, ""
+    tries, trouble = 1, ""  # after how many a part has failed, and why nothing is known of the machines at work, or ""
 
     def __init__(self, run: Run, jobs: int) -> None:
         files = resource.getrlimit(resource.RLIMIT_NOFILE)[1]
@@ -106,39 +89,39 @@ class Threads:
         if most < jobs:
             say(f"{most} of {jobs} jobs work at a time, since {why}")
         self.run, self.pool, self.fails = run, ThreadPoolExecutor(most), 0
-        self.room = 2 * most  # how many parts may be submitted but unfinished at a time
-        self.flying = 0
+        self.flying, self.room = 0, 2 * most  # parts that are submitted but not finished, and that may be
 
-    def submit(self, number: int, failed: List[str]) -> "Optional[Future[Any]]":
-        if self.flying >= self.room:
+    def submit(self, number: int, failed: List[str]) -> Optional[Future[Any]]:
+        """Submits a part, if possible to a machine not in `failed`. Returns a future that is done when the part is
+        solved, has failed, or is lost; or None if enough parts are submitted."""
+        if self.flying == self.room:
             return None
         self.flying += 1
         return self.pool.submit(self.run.solve, number)
 
-    def result(self, future: "Future[Any]", number: int) -> Answer:
-        """Also tests the program after MOST_FAILS failures in a row, and refuses if it is not fit any more."""
+    def result(self, future: Future[Any], number: int) -> Answer:
+        """Returns what became of a part whose future is done. Tests the program after MOST_FAILS failures in a row, and
+        refuses if it is not fit any more."""
         self.flying -= 1
         found, why = future.result()
         self.fails = 0 if found else self.fails + 1
-        if self.fails == MOST_FAILS:
-            self.fails = 0
-            try:
-                fit_program(self.run.task, self.run.place)
-            except ChildProcessError as fault:
-                raise Refusal(f"on this machine {fault}", MISSING) from None
+        if self.fails and self.fails % MOST_FAILS == 0:
+            self.run.test()
         return HERE, found and found.seconds, why
 
-    def look(self, flying: "Dict[Future[Any], int]", is_all: bool) -> Dict[int, str]:
+    def look(self, flying: Dict[Future[Any], int], is_all: bool) -> Dict[int, str]:
+        """Returns {part: machine} of the parts being solved. `flying` has those submitted, and `is_all` says whether no
+        others wait."""
         return {number: HERE for future, number in flying.items() if future.running()}
 
 
 def threads_that_start(most: int) -> int:
     """Returns how many threads this process can start, at most `most`."""
-    end, threads = threading.Event(), []
+    end = threading.Event()
+    threads = [threading.Thread(target=end.wait) for _ in range(most)]
     with contextlib.suppress(RuntimeError):
-        for _ in range(most):
-            threads.append(threading.Thread(target=end.wait))
-            threads[-1].start()
+        for thread in threads:
+            thread.start()
     end.set()
     started = [thread for thread in threads if thread.ident]
     for thread in started:
@@ -146,11 +129,11 @@ def threads_that_start(most: int) -> int:
     return len(started)
 
 
-def solve_parts(run: Run, engine: Engine, quiet: bool) -> None:
+def solve_parts(run: Run, engine: Any, quiet: bool) -> None:
     """Solves a run's unsolved parts, except those that fail `engine.tries` times. If `quiet`, shows only failures."""
     waiting = run.unsolved()
-    done: "queue.SimpleQueue[Future[Any]]" = queue.SimpleQueue()
-    flying: "Dict[Future[Any], int]" = {}
+    done: queue.SimpleQueue[Future[Any]] = queue.SimpleQueue()
+    flying: Dict[Future[Any], int] = {}
     failures: Dict[int, List[str]] = {}
     progress = Progress(run, waiting)
     waiting.reverse()  # since the next part is taken from its end

@@ -18,7 +18,7 @@ from typing import Any, Callable, Dict, Iterable, Iterator, List, Optional, Sequ
 from . import solve
 from .._command_line import MISSING, MISUSED, Refusal, refusing, write_whole
 from .._text import MOST_BYTES, NotText, shown, text_lines
-from .solve import Place, Solved, Task, fit_program, place_in, read_record, read_task, sha256, task_text
+from .solve import Solved, Task, fit_program, place_in, read_record, read_task, sha256, task_text
 
 LOCK = "ffosolve-many.lock"
 HEADER = "% ffobook 2 {}\n"  # the first line of a book, with its scoring
@@ -45,71 +45,54 @@ def weight_of(text: bytes, most: int) -> float:
 class Cut:
     """The parts of a list, each of `lines` lines. To iterate over it yields their texts, and sets these attributes:
     `starts`, the offsets in bytes at which the parts begin and the last one ends; `digests`, the SHA-256 of each part;
-    `weights`, their expected work; `count`, how many lines there are; `size` and `digest`, which is the SHA-256, of the
-    list. `kept` is the path of the copy of an earlier list; `before` has its size and digest, if known."""
+    `weights`, their expected work; `count`, how many lines there are; `whole`, the size and the SHA-256 of the list.
+    `kept` is the path of a copy of the list as it was before, and `before` has its size and SHA-256, if known."""
 
     def __init__(self, path: Path, name: str, lines: int, most: int, kept: Path, before: Optional[List[Any]]) -> None:
         self.path, self.name, self.lines, self.most = path, name, lines, most
         self.kept, self.before = kept, before
 
     def __iter__(self) -> Iterator[bytes]:
-        """Refuses what `parts` refuses, and a list that differs from the earlier one by more than further lines."""
-        self.starts, self.weights = array.array("Q", [0]), array.array("d")
+        """Refuses a file that is no text, a part that is too large, and a list that has not only grown at its end."""
+        self.starts, self.weights, self.count = array.array("Q", [0]), array.array("d"), 0
         self.digests: List[str] = []
-        self.count = self.size = 0
-        size, before = self.before or (0, "")
-        whole, begin = hashlib.sha256(), ""
-        for lines in self.parts():
-            text = b"".join(lines)
-            if self.size < size <= self.size + len(text):
-                begin = sha256_of(whole, text[:size - self.size])
-            whole.update(text)
-            self.size += len(text)
-            self.count += len(lines)
-            self.starts.append(self.size)
-            self.digests.append(sha256(text))
-            self.weights.append(weight_of(text, self.most))
-            yield text
-        self.digest = whole.hexdigest()
-        if self.kept.is_file() and (not self.before or size and begin != before):
-            self.compare()
-
-    def parts(self) -> Iterator[List[bytes]]:
-        """Yields the lines of each part. Refuses a file that is no text, and a part of more than MOST_BYTES bytes."""
-        lines: List[bytes] = []
-        size = 0
+        whole, begin, (size, digest) = hashlib.sha256(), hashlib.sha256(), self.before or (0, "")
         with refusing("read", self.name), self.path.open("rb") as file:
             try:
-                for line in text_lines(file, self.name, may_have_nul=True):
-                    size += len(line)
-                    if size > MOST_BYTES:
-                        raise Refusal(f"part {len(self.digests):07d} (from line {self.count + 1} of {self.name} on) "
-                                      f"has more than {MOST_BYTES} bytes: use fewer lines, such as --lines "
-                                      f"{len(lines)}", MISUSED)
-                    lines.append(line)
-                    if len(lines) == self.lines:
-                        yield lines
-                        lines, size = [], 0
+                for lines in iter(functools.partial(self.part, text_lines(file, self.name, may_have_nul=True)), []):
+                    text = b"".join(lines)
+                    whole.update(text)
+                    begin.update(text[:max(0, size - self.starts[-1])])
+                    self.starts.append(self.starts[-1] + len(text))
+                    self.digests.append(sha256(text))
+                    self.weights.append(weight_of(text, self.most))
+                    self.count += len(lines)
+                    yield text
             except NotText as why:
                 raise Refusal(str(why)) from None
-        if lines:
-            yield lines
+        self.whole = [self.starts[-1], whole.hexdigest()]
+        if self.kept.is_file() and begin.hexdigest() != digest:
+            self.compare()
+
+    def part(self, texts: Iterator[bytes]) -> List[bytes]:
+        lines: List[bytes] = []
+        size = 0
+        for line in itertools.islice(texts, self.lines):
+            if (size := size + len(line)) > MOST_BYTES:
+                raise Refusal(f"part {len(self.digests):07d} (from line {self.count + 1} of {self.name} on) has more "
+                              f"than {MOST_BYTES} bytes: use fewer lines, such as --lines {len(lines)}", MISUSED)
+            lines.append(line)
+        return lines
 
     def compare(self) -> None:
         """Refuses the list, with the number of the first line that differs from the earlier list."""
+        folder = shown(self.kept.parent)
+        what = f"the list that {folder} was begun with" if self.before else f"as {folder}/list has it"
         with self.path.open("rb") as new, self.kept.open("rb") as old:
             for line, (before, now) in enumerate(itertools.zip_longest(old, new, fillvalue=b""), 1):
                 if not now.startswith(before):
-                    folder = shown(self.kept.parent)
-                    what = f"the list that {folder} was begun with" if self.before else f"as {folder}/list has it"
                     raise Refusal(f"{self.name} is not {what}, from line {line} on: use another folder, or the same "
                                   "list (it may have grown at its end)", MISUSED)
-
-
-def sha256_of(begun: Any, rest: bytes) -> str:
-    whole = begun.copy()
-    whole.update(rest)
-    return str(whole.hexdigest())
 
 
 def report_lines(rows: Iterable[Tuple[int, bytes]]) -> Iterator[bytes]:
@@ -136,8 +119,7 @@ def is_report(text: bytes, numbers: Iterable[int]) -> bool:
 def content_of(path: Path) -> bytes:
     """Returns what a regular file has, or b"" if there is none."""
     with contextlib.suppress(OSError):
-        if path.is_file():
-            return path.read_bytes()
+        return path.read_bytes() if path.is_file() else b""
     return b""
 
 
@@ -204,16 +186,11 @@ class Run:
             if record := content_of(self.path(number)):
                 self.check(number, self.text(number), record)
 
-    @functools.cached_property
-    def place(self) -> Place:
-        return place_in(self.folder)
-
-    @functools.cached_property
-    def program(self) -> str:
-        """The name of a program in the folder that works on this machine. Refuses if there is none."""
+    def test(self) -> None:
+        """Sets `place` and `program`, the name of a program there that works on this machine; refuses if none does."""
+        self.place = place_in(self.folder)
         try:
-            name, self.task["known"] = fit_program(self.task, self.place)
-            return name
+            self.program, self.task["known"] = fit_program(self.task, self.place)
         except ChildProcessError as why:
             raise Refusal(f"on this machine {why}", MISSING) from None
 
@@ -272,9 +249,11 @@ class Run:
     def solved(self) -> Iterator[Solved]:
         """Yields the results of each part. Solves a part again if its record has been damaged or removed meanwhile."""
         for number in range(self.parts):
-            found = self.read(number, content_of(self.path(number))) or self.solve(number)[0]
+            if not (found := self.read(number, content_of(self.path(number)))):
+                self.test()
+                found, why = self.solve(number)
             if not found:
-                raise Refusal(f"{self.span(number)} was changed meanwhile, and can't be solved again")
+                raise Refusal(f"{self.span(number)} was changed meanwhile, and can't be solved again: {why}")
             yield found
 
     def output(self) -> Iterable[bytes]:
@@ -321,7 +300,7 @@ def begin(command: argparse.Namespace, source: Path, programs: Callable[[], List
             collections.deque(cut, 0)
             if not filecmp.cmp(source, folder / "list", shallow=False):
                 fault = why
-        run = Run(folder, {**asked, "parts": len(cut.digests), "list": [cut.size, cut.digest],
+        run = Run(folder, {**asked, "parts": len(cut.digests), "list": cut.whole,
                            "programs": before.get("programs")}, cut)
         try:
             if fault:
@@ -345,5 +324,5 @@ def prepare(run: Run, programs: Callable[[], List[Path]]) -> None:
         for number, content in enumerate(found):
             keep(run.folder / f"program-{number}", content, 0o755)
         run.task["programs"] = [*map(sha256, found)]
-    run.program  # which sets "known"
+    run.test()
     keep(run.folder / "task.json", task_text(run.task))

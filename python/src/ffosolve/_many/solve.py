@@ -30,13 +30,8 @@ class Place:
         self.folder, self.programs, self.book_in = folder, programs, book_in
 
 
-class Solved(NamedTuple):
-    """The results of a part: the program's exit status, its output, its book, and how many seconds it took."""
-
-    status: int
-    output: bytes
-    book: bytes
-    seconds: float
+# The results of a part: the program's exit status, its output, its book, and how many seconds it took.
+Solved = NamedTuple("Solved", [("status", int), ("output", bytes), ("book", bytes), ("seconds", float)])
 
 
 def sha256(content: bytes) -> str:
@@ -105,30 +100,26 @@ def solve(task: Task, place: Place, program: str, part: int, text: bytes,
     return b"%b %b\n%b%b" % (head, digest_of(task, part, sha256(text), head, output + book), output, book), ""
 
 
-def fault_of(task: Task, place: Place, program: str) -> Tuple[str, str]:
-    """Returns what a program prints for KNOWN, output and book as one text, and why it is not fit, or ""."""
-    with open(f"{place.folder}/{program}", "rb") as file:
-        if sha256(file.read()) not in task["programs"]:
-            return "", "is damaged"
-    end = time.monotonic() + KNOWN_SECONDS
-    record, fault = solve(task, place, program, 0, KNOWN, lambda: time.monotonic() < end)
-    results = record.partition(b"\n")[2].decode("latin-1")
-    if record:
-        return results, "" if results == task.get("known", results) else "solves a known line wrong"
-    if time.monotonic() < end:
-        return "", f"can't solve a known line: {fault}"
-    return "", f"needs more than {KNOWN_SECONDS} seconds for a known line"
-
-
 def fit_program(task: Task, place: Place) -> Tuple[str, str]:
     """Returns the name of the first program in `place` that has a SHA-256 of `task` and solves KNOWN within
-    KNOWN_SECONDS, with the results that `task` knows, if any; and these results. Raises ChildProcessError if none is
-    fit."""
+    KNOWN_SECONDS, with the results that `task` knows, if any; and these results, output and book as one text. Raises
+    ChildProcessError if no program is fit."""
     why = "is missing"
     for program in place.programs:
-        results, why = fault_of(task, place, program)
-        if not why:
+        if sha256(Path(place.folder, program).read_bytes()) not in task["programs"]:
+            why = "is damaged"
+            continue
+        end = time.monotonic() + KNOWN_SECONDS
+        record, fault = solve(task, place, program, 0, KNOWN, lambda: time.monotonic() < end)
+        results = record.partition(b"\n")[2].decode("latin-1")
+        if record and results == task.get("known", results):
             return program, results
+        if record:
+            why = "solves a known line wrong"
+        elif time.monotonic() < end:
+            why = f"can't solve a known line: {fault}"
+        else:
+            why = f"needs more than {KNOWN_SECONDS} seconds for a known line"
     raise ChildProcessError(f"the program {why}")
 
 

@@ -1,20 +1,15 @@
-"""Files that ffosolve-many reads or replaces, and the programs ffosolve and ffoscores."""
-import contextlib
+"""The programs ffosolve and ffoscores."""
 import os
 import re
 import shutil
-import stat
 import subprocess
-import sys
-import tempfile
 from pathlib import Path
-from typing import Iterable, List, Tuple, Union
+from typing import Iterable, List, Tuple
 
-from .._command_line import MISSING, MISUSED, Refusal, refusing, write_whole
+from .._command_line import MISSING, MISUSED, Name, Refusal, is_same
 from .._text import shown
 from .solve import guarded
 
-Name = Union[str, int, "os.PathLike[str]"]  # of a file, or a descriptor
 NO_DISCS = b"-" * 64 + b" X;"  # refused with any options; the message has the limit of empty squares
 LIMITS = {"ffosolve": rb"\[1\]\n1 refused: 64 empties, limit (\d+)\nsolved 0 refused 1\n",
           "ffoscores": rb"%% refused: 64 empties, limit (\d+): %b\n" % NO_DISCS}
@@ -22,48 +17,6 @@ LIMITS = {"ffosolve": rb"\[1\]\n1 refused: 64 empties, limit (\d+)\nsolved 0 ref
 
 def misused(text: str) -> Refusal:
     return Refusal(f"{text}. Try 'ffosolve-many --help'", MISUSED)
-
-
-def counted(count: int, name: str) -> str:
-    return f"{count} {name}" if count == 1 else f"{count} {name}s"
-
-
-def is_same(one: Name, other: Name) -> bool:
-    """Returns whether two paths or descriptors refer to the same file, other than /dev/null."""
-    with contextlib.suppress(OSError):
-        return os.path.samefile(one, other) and not os.path.samefile(one, os.devnull)
-    return False
-
-
-def path_of(name: str) -> Path:
-    """Returns the path of a file to read; the name `-` stands for standard input."""
-    return Path("/dev/stdin" if name == "-" else name)
-
-
-def regular(name: str) -> Path:
-    """Returns the path of a regular file: `name` or, for a pipe, the rest of standard input and the like, a copy that
-    vanishes with this process."""
-    path = path_of(name)
-    if str(path) == "/dev/stdin" and sys.stdin is None:
-        raise Refusal(f"cannot read {name}: standard input is closed")
-    with refusing("read", name), open(0 if name == "-" else path, "rb", closefd=name != "-") as source:
-        if path.is_file() and not (name == "-" and source.tell()):
-            return path
-        with refusing(f"copy {shown(name)} to", tempfile.gettempdir()), tempfile.TemporaryFile() as copy:
-            shutil.copyfileobj(source, copy)
-            copy.flush()
-            kept = os.dup(copy.fileno())  # which stays open, since the copy has no other name
-            return Path(f"/proc/{os.getpid()}/fd/{kept}")
-
-
-def replace(name: str, pieces: Iterable[bytes]) -> None:
-    """Writes a file. Replaces a regular file as a whole, and keeps its permissions; writes into a pipe or the like."""
-    with refusing("write", name), open(name, "ab") as file:
-        mode = os.fstat(file.fileno()).st_mode
-        if stat.S_ISREG(mode):
-            write_whole({os.path.realpath(name): pieces}, replaces=True, mode=stat.S_IMODE(mode))
-        else:
-            file.writelines(pieces)
 
 
 def program_in(folder: str, name: str) -> Path:
