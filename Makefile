@@ -104,8 +104,8 @@ constants: ## writes the version, the size of the largest table and the defaults
 	    python/src/ffosolve/__init__.py python/src/ffosolve/_library.py python/src/ffosolve/_solvers.py rust/src/solvers.rs
 	sed -i -E 's/(has at most )[0-9,]+( entries)/\1$(subst _,$(comma),$(entries))\2/; s/( empties, limit )[0-9]+/\1$(empties)/' \
 	    docs/user-guide.md examples/kinds.report examples/kinds.scores
-	sed -i -E -e 's/^(\| `--max-empties N` .* )[0-9]+ \|$$/\1$(empties) |/' -e 's/^(\| `--workers N` .* )[0-9]+ \|$$/\1$(workers) |/' \
-	    -e 's/^(\| `--table N` .* )[0-9,]+ \|$$/\1$(subst _,$(comma),$(table)) |/' README.md
+	sed -i -E -e 's/^(\| .--max-empties N. .* )[0-9]+ \|$$/\1$(empties) |/' -e 's/^(\| .--workers N. .* )[0-9]+ \|$$/\1$(workers) |/' \
+	    -e 's/^(\| .--table N. .* )[0-9,]+ \|$$/\1$(subst _,$(comma),$(table)) |/' README.md
 
 has_rt = command -v rt >/dev/null || { echo 'rt (rattle-kit-13b or rattle-kit-13f) is not on the path' >&2; exit 4; }
 look: export list = $(LIST)

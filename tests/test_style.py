@@ -3,8 +3,6 @@ import re
 
 from tests.support import ROOT, need, run, write
 
-LATER = {"constants"}  # targets of make whose recipes are to be mended
-
 
 def scripts(language):
     """Returns the paths of files whose first line names an interpreter; the pattern `language` matches its name."""
@@ -32,9 +30,11 @@ def test_shell():
 
 
 def test_recipes(folder):
-    """make prints each recipe, with the variables of make filled in, after a line that names the target."""
+    """make prints each recipe, with the variables of make filled in, after a line that names the target. The shell that
+    does nothing is for recipes that call make: they are run."""
     targets = re.findall(r"^make (\S+)", run("make", "-s", "help", cwd=ROOT, text=True).stdout, re.M)
-    printed = run("make", "-nBk", "--trace", *{*targets} - LATER, cwd=ROOT, text=True, timeout=300).stdout
+    words = ("make", "-nBk", "--trace", "SHELL=/bin/true", "CPU=x86-64-v2", *targets)
+    printed = run(*words, cwd=ROOT, text=True).stdout
     recipes = re.findall(r"^\S+:(\d+): (?:update )?target '(?:.*/)?(.*?)' .*\n((?:(?!\S+:\d+: ).*\n)+)", printed, re.M)
-    assert {"check", "help", "libffosolve.so"} <= {target for _, target, _ in recipes}
+    assert {"check", "dist", "libffosolve.so"} <= {target for _, target, _ in recipes}
     accepts("shellcheck", "-s", "sh", *{write(folder / f"{at}-{to}", f"set -eu\n{text}") for at, to, text in recipes})
