@@ -165,11 +165,11 @@ def test_an_iterator_that_is_left_stops(threads, leave, solver):
 
 @pytest.mark.parametrize("threads", [1, 3])
 def test_an_iterator_yields_what_is_finished_before_the_timeout(threads, solver):
-    found, positions = [], [EASY, HARD, EASY, HARD, HOPELESS, EASY]
+    found, positions = [], [EASY, HARD, EASY, HARD, EASY, HOPELESS]
     with pytest.raises(TimeoutError):
         for answer in solver.solve_iter(positions, threads=threads, timeout=8):
             found.append(answer)
-    assert found == solver.solve_all(positions[:4])
+    assert found == solver.solve_all(positions[:5])
     assert_no_processor_works()
 
 
@@ -378,13 +378,13 @@ def test_ctrl_c_is_for_the_program_alone():
     before = set(_processes.PROCESSES)
     os.killpg(os.getpgrp(), signal.SIGINT)
     time.sleep(0.5)
+    print(solver.solve(hard).score, _processes.PROCESSES == before)
     threading.Timer(0.5, os.killpg, (os.getpgrp(), signal.SIGINT)).start()
     try:
-        print(solver.solve(hard).score, _processes.PROCESSES == before)
-        solver.solve(START, timeout=1.5)
+        solver.solve(START, timeout=3)
     except TimeoutError as error:
         print(error)
 """
     found = ran(code, start_new_session=True)
-    wanted = f"interrupted\n{Solver().solve(HARD).score} True\ninterrupted\nnot finished within 1.5 seconds\n"
+    wanted = f"interrupted\n{Solver().solve(HARD).score} True\ninterrupted\nnot finished within 3 seconds\n"
     assert (found.stdout, found.stderr) == (wanted, "")
