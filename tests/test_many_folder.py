@@ -290,6 +290,7 @@ def test_a_damaged_copy_of_the_list_is_written_again(case):
 
 def test_a_finished_folder_that_may_not_be_written_prints_its_report(case):
     case.many(*WORDS)
+    write("work/solve.py", "of an earlier version")
     case.folder.chmod(0o777)
     before = files()
     case.many(*WORDS, message=", 3 of them solved before", **NOBODY)
