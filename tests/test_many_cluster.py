@@ -270,7 +270,7 @@ def test_a_scheduler_that_is_silent_is_said_to_be_and_at_last_lost(cluster, case
 
 def test_a_caller_that_a_signal_ends_leaves_nothing_on_the_workers(cluster, case):
     cluster.start_workers("worker1", PAUSE="0.7")
-    cluster.start_workers("worker2", PAUSE="45")
+    cluster.start_workers("worker2", PAUSE="200")  # longer than `leaves_nothing` waits
     for number in (signal.SIGINT, signal.SIGTERM, signal.SIGHUP, signal.SIGKILL):
         ran = cluster.begin()
         wait_until(lambda: cluster.programs("worker1") and cluster.programs("worker2"))
@@ -330,6 +330,8 @@ def test_parts_go_to_fit_workers_by_their_threads_and_those_that_failed_to_other
     one.drop(h2)  # which has ended: only the parts that it was solving have failed
     assert [one.result(future, 0)[2] for future in [*h2.parts]] == ["the worker ended"] * 20 + [""] * 20
     assert submitted(1, ["h1"]) == ["h2"]
+    one.update({name: {"local_directory": "new", "host": name, "nthreads": 1} for name in one.workers})
+    assert [worker.is_fit for worker in one.workers.values()] == [None] * 3  # they were started again: all are tested
 
 
 @pytest.fixture
