@@ -7,7 +7,6 @@ import sys
 import tarfile
 from functools import partial
 from pathlib import Path
-from tempfile import gettempdir
 from types import SimpleNamespace
 
 import pytest
@@ -356,7 +355,8 @@ class System:
     def __init__(self, top):
         if os.getuid() != 0:
             pytest.skip("layers over the system's folders are for root")
-        self.words = ("unshare", "--mount", "sh", "-euc", APART, "sh", top, Path("layers").absolute(), gettempdir())
+        layers = Path("layers").absolute()
+        self.words = ("unshare", "--mount", "sh", "-euc", APART, "sh", top, layers, layers.parents[1])
         self.env = {"PATH": "/usr/sbin:/usr/bin:/sbin:/bin", "DEBIAN_FRONTEND": "noninteractive", "HOME": os.getcwd()}
 
     def run(self, *words, **how):
