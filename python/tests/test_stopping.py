@@ -110,9 +110,11 @@ def by_signal(call):
 
 
 def by_ctrl_c(call):
-    threading.Timer(0.3, signal.raise_signal, [signal.SIGINT]).start()
+    timer = threading.Timer(0.3, signal.raise_signal, [signal.SIGINT])
+    timer.start()
     with pytest.raises(KeyboardInterrupt):
         call()
+    timer.cancel()
 
 
 def by_asyncio(call):
@@ -175,9 +177,10 @@ def test_an_iterator_yields_what_is_finished_before_the_timeout(threads, solver)
 
 @pytest.mark.parametrize("threads", [1, 3])
 @pytest.mark.parametrize("name", LISTS)
-def test_a_timeout_is_for_all_positions_together(name, threads, solver):
+def test_a_timeout_is_for_all_positions_together(name, threads):
+    """Without a table, each of the positions takes some hundredths of a second."""
     with pytest.raises(TimeoutError):
-        LISTS[name](solver, [HARD] * 1000, threads=threads, timeout=0.3)
+        LISTS[name](Solver(entries=0), [HARD] * 1000, threads=threads, timeout=0.3)
     assert_no_processor_works()
 
 

@@ -160,7 +160,10 @@ class Run:
                 ctypes.memmove(ctypes.addressof(found), bytes(process.received(size)), size)
             with self.lock:
                 self.processes.discard(process)
-            process.keep()
+            if self.is_stopped:
+                process.end()
+            else:
+                process.keep()
             return status
         except BaseException as error:
             with self.lock:
