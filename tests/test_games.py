@@ -200,7 +200,7 @@ def test_each_changed_byte_leads_to_a_position_of_the_changed_game():
     ran = run(sys.executable, PROGRAM, *files)
     assert ran.returncode == 3
     for message in ran.stderr.decode().splitlines():
-        why = r"(, game \d+(, move \d+)?: | is not a WTHOR file| does not say )"
+        why = r"(, game \d+( \([^)]*\))?(, move \d+)?: | is not a WTHOR file| does not say )"
         assert re.match(rf"ffosolve-games: \d+-\d+\.wtb{why}", message)
     lines = ran.stdout.decode().splitlines()
     for line in lines:
