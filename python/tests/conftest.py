@@ -6,7 +6,7 @@ import pytest
 
 import ffosolve._processes
 
-LIBRARY = Path(__file__).parents[2] / "out/library/libffosolve.so"
+LIBRARY = Path(__file__).parents[2].joinpath("out", "library", "libffosolve.so")
 if LIBRARY.exists():
     os.environ.setdefault("FFOSOLVE_LIBRARY", str(LIBRARY))
 

@@ -144,7 +144,14 @@ def test_one_thread_makes_one_table_for_all_positions(call, monkeypatch):
     assert counts == [8] + [1] * 8
 
 
-SOLVERS = [Solver(), Solver(scoring="sign", entries=7, max_empties=9), Solver(Solver()._library._name)]
+def library_path():
+    """Returns the path of the library that a Solver loads."""
+    Solver()
+    with open("/proc/self/maps") as maps:
+        return next(line.split(maxsplit=5)[5].rstrip("\n") for line in maps if "libffosolve" in line)
+
+
+SOLVERS = [Solver(), Solver(scoring="sign", entries=7, max_empties=9), Solver(library_path())]
 
 
 @pytest.mark.parametrize("solver", SOLVERS)

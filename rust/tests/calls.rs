@@ -228,7 +228,8 @@ fn threads_may_share_all() {
 
 #[test]
 fn versions_sizes_and_limits_are_those_of_the_header() {
-    let parts = include_str!("../../VERSION").trim().split('.').map(|part| part.parse::<u32>().expect("a number"));
+    let release = include_str!("../../VERSION").trim().split('+').next().expect("a version");
+    let parts = release.split('.').map(|part| part.parse::<u32>().expect("a number"));
     assert_eq!(parts.fold(0, |number, part| 100 * number + part), library_version());
     let sizes: Vec<usize> = (0..=MOST_EMPTIES).map(table_entries).collect();
     assert!(sizes.windows(2).all(|pair| pair[0] <= pair[1]) && sizes[MOST_EMPTIES] <= MOST_ENTRIES);
