@@ -122,20 +122,23 @@ look: ## solves three positions in about a minute, with nothing proved; LIST=FIL
 	esac
 	exit "$$status"
 
-PYTHON = python3
+PYTHON ?= python3
 TESTS =
 check: tools levels ## tests everything; the last line counts what passed. TESTS='-k books': arguments for pytest
 	exec env -u MAKEFLAGS -u MFLAGS -u MAKELEVEL $(PYTHON) -m pytest -n auto --durations 20 $(TESTS)
 
 tools:
 	$(has_rt)
+	packages=
+	lacks() { echo "$$1; Debian's package $$2 has it$${3-}" >&2; packages="$$packages $$2"; }
 	for need in cc:gcc ld:binutils flock:util-linux git:git; do
-	    command -v "$${need%:*}" >/dev/null || { echo "$${need%:*} is missing; Debian's package $${need#*:} has it" >&2; exit 4; }
+	    command -v "$${need%:*}" >/dev/null || lacks "$${need%:*} is missing" "$${need#*:}"
 	done
 	for need in pytest:pytest xdist:pytest-xdist pytest_timeout:pytest-timeout; do
-	    $(PYTHON) -c "import $${need%:*}" 2>/dev/null || { echo "$(PYTHON) has no module $${need%:*};" \
-	        "Debian's package python3-$${need#*:} has it for PYTHON=/usr/bin/python3" >&2; exit 4; }
+	    $(PYTHON) -c "import $${need%:*}" 2>/dev/null ||
+	        lacks "$(PYTHON) has no module $${need%:*}" "python3-$${need#*:}" ' for PYTHON=/usr/bin/python3'
 	done
+	[ -z "$$packages" ] || { echo "apt-get install$$packages" >&2; exit 4; }
 
 # The first lines of install and uninstall. The command `install` makes a new file in place of an old one, so a running
 # program keeps its own.

@@ -8,7 +8,6 @@ import subprocess
 import sys
 import tempfile
 import time
-import unittest
 from pathlib import Path
 
 import pytest
@@ -21,7 +20,9 @@ PR_SET_CHILD_SUBREAPER = 36  # of prctl(2)
 
 
 def pytest_configure():
-    """Makes this process the parent of programs whose parent ends. SIGINT and SIGTERM interrupt the tests."""
+    """Makes this process the parent of programs whose parent ends. SIGINT and SIGTERM interrupt the tests. What would
+    have to be proved is refused by scripts/prove."""
+    os.environ["PROVE"] = "no"
     ctypes.CDLL(None).prctl(PR_SET_CHILD_SUBREAPER, 1, 0, 0, 0)
     for number in (signal.SIGINT, signal.SIGTERM):
         signal.signal(number, signal.default_int_handler)
@@ -49,7 +50,6 @@ def pytest_unconfigure():
 def ends_its_programs():
     """Fails a module that leaves a program running for five seconds, and kills the program."""
     yield
-    unittest.case.doModuleCleanups()
     if "ffosolve._processes" in sys.modules:
         sys.modules["ffosolve._processes"].end_idle()
     end = time.monotonic() + 5

@@ -1,6 +1,5 @@
 # Makes packages from a clean checkout, with programs and libraries for both levels of processors. They are put together
 # in a temporary folder, since rt refuses a checkout with links.
-PYTHON = python3
 
 # The version of a package: VERSION and, if commits came after its last change, their number and the last commit.
 package = $(eval package := $(or $(shell $(PYTHON) python/src/ffosolve/_version.py 2>/dev/null),$(version)))$(package)

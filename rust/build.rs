@@ -21,10 +21,7 @@ fn main() {
     let folder = var_os("FFOSOLVE_LIB_DIR").map_or_else(default_folder, PathBuf::from);
     let file = folder.join(file);
     println!("cargo:rerun-if-changed={}", file.display());
-    if !file.exists() {
-        eprintln!("{} is missing: install ffosolve, or set FFOSOLVE_LIB_DIR to its folder", file.display());
-        std::process::exit(1);
-    }
+    assert!(file.exists(), "{} is missing: install ffosolve, or set FFOSOLVE_LIB_DIR to its folder", file.display());
     println!("cargo:rustc-link-search=native={}", folder.display());
     println!("cargo:rustc-link-lib={kind}=ffosolve");
 }

@@ -9,7 +9,9 @@ import shutil
 import sys
 from pathlib import Path
 
-from .support import ROOT, module_folder, need, need_module, run, stored, write
+import pytest
+
+from .support import ROOT, build, need, need_module, run, stored, write
 
 TESTS = ROOT / "tests"
 VERSION = stored("VERSION").decode().strip()
@@ -34,8 +36,8 @@ def names_of_files():
 def copied_checkout(folder):
     """Builds everything, and copies the checkout's files and out/, but not out/tests, logs, packages and unfinished
     files, to `folder`; returns `folder`. The copies keep their modification times, and everybody may read them."""
-    run("make", "-s", "-C", ROOT, "levels", stderr=None, timeout=None, check=True)
-    others = shutil.ignore_patterns("tests", "*.log", "*.tar.gz*", "*.deb", "*.whl", "*.new")
+    build("make", "-s", "-C", ROOT, "levels")
+    others = shutil.ignore_patterns("tests", "*.log", "*.tar.gz*", "*.deb", "*.whl", "*.new", "*.[0-9][0-9]*")
     shutil.copytree(ROOT / "out", folder / "out", ignore=others)
     run("cp", "--parents", "--preserve=mode,timestamps", *names_of_files(), folder, cwd=ROOT, check=True)
     run("chmod", "-R", "a+rX,u+w", folder, check=True)
@@ -59,16 +61,16 @@ def path_without(tool, folder):
 
 
 class Prefix:
-    """The installed files, and the folder `work`, in which tests build programs that use them. A test module with
-    `setup_module = PREFIX.install` makes `work` first, installs under a prefix in `work` if TEST_PREFIX is not set, and
-    copies the installed documents, which include the packages for Python and Rust, into `work`."""
+    """The installed files, and the folder `work`, in which tests build programs that use them."""
 
-    def install(self):
+    def install(self, work):
+        """Installs under a prefix in `work` if TEST_PREFIX is not set. Copies the installed documents, which include
+        the packages for Python and Rust, into `work`."""
         vars(self).clear()
-        self.work = work = module_folder()
+        self.work = work
         self.folder = folder = Path(os.environ.get("TEST_PREFIX", work / "a prefix")).resolve()
         if "TEST_PREFIX" not in os.environ:
-            run("make", "--silent", "-C", ROOT, "install", f"PREFIX={folder}", "DESTDIR=", timeout=None, check=True)
+            build("make", "--silent", "-C", ROOT, "install", f"PREFIX={folder}", "DESTDIR=")
         self.libraries, self.header = folder / "lib", folder / "include/ffosolve.h"
         self.archive, self.shared = self.libraries / "libffosolve.a", self.libraries / "libffosolve.so"
         self.shipped = folder / "share/doc/ffosolve"
@@ -148,3 +150,9 @@ class Prefix:
 
 
 PREFIX = Prefix()
+
+
+@pytest.fixture(scope="module", autouse=True)
+def installed(shared_folder):
+    """Installs for the tests of each module that imports this."""
+    PREFIX.install(shared_folder)

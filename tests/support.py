@@ -7,9 +7,7 @@ import shutil
 import signal
 import subprocess
 import sys
-import tempfile
 import time
-import unittest
 from pathlib import Path
 
 import pytest
@@ -76,14 +74,6 @@ def positions(*words):
     return run(sys.executable, ROOT / "bench/positions", *words, check=True).stdout
 
 
-def module_folder(enter=unittest.enterModuleContext):
-    """Returns a new folder that everybody may read. It is removed after the module's tests or, if `enter` is the method
-    `enterContext` of a test, after this test."""
-    folder = Path(enter(tempfile.TemporaryDirectory(prefix="ffosolve-test-")))
-    folder.chmod(0o755)
-    return folder
-
-
 def is_v3():
     """Returns whether this machine runs programs for processors of the level x86-64-v3."""
     return b"x86-64-v3 (supported" in run("/lib64/ld-linux-x86-64.so.2", "--help").stdout
@@ -104,13 +94,19 @@ def limited(**limits):
 refuse_threads = limited(RLIMIT_STACK=1_000_000_000 << 10, RLIMIT_AS=500_000_000 << 10)
 
 
+def build(*words):
+    """Runs a command that builds from what is proved. The test fails if something would have to be proved."""
+    ran = run(*words, text=True, timeout=None)
+    if ran.returncode:
+        pytest.fail(ran.stderr, pytrace=False)
+
+
 @functools.cache
 def built(name="ffosolve"):
-    """Returns a program's path. It is in the folder that TEST_PROGRAMS in the environment names. Without this variable,
-    `built` runs bin/NAME, which builds the program if needed, and the path is out/NAME in the checkout."""
+    """Returns a program's path, in the folder that TEST_PROGRAMS in the environment names, or by default in out/."""
     if "TEST_PROGRAMS" in os.environ:
         return Path(os.environ["TEST_PROGRAMS"], name)
-    run(ROOT / "bin" / name, "/dev/null", stderr=None, timeout=None, check=True)
+    build(ROOT / "bin" / name, "/dev/null")
     return ROOT / "out" / name
 
 
@@ -138,24 +134,6 @@ def cannot_write(*words):
     os.close(reading)
     ends((-signal.SIGPIPE, None, b""), *words, stdout=writing)
     os.close(writing)
-
-
-class InFolder(unittest.TestCase):
-    """A test that runs with umask 022 in a new folder, `self.folder`, which everybody may read."""
-
-    ends, cannot_write = staticmethod(ends), staticmethod(cannot_write)
-
-    def setUp(self):
-        self.folder = module_folder(self.enterContext)
-        self.addCleanup(os.umask, os.umask(0o022))
-        self.enterContext(contextlib.chdir(self.folder))
-
-    def start(self, *words, **how):
-        """Starts a command with its output captured, and returns its Popen. It is killed at the end of the test."""
-        how = {"stdin": subprocess.DEVNULL, "stdout": subprocess.PIPE, "stderr": subprocess.PIPE, **how}
-        ran = subprocess.Popen(list(map(str, words)), **how)
-        self.addCleanup(lambda: (ran.poll() is None and ran.kill(), ran.communicate()))
-        return ran
 
 
 def wait_until(holds, seconds=SECONDS):

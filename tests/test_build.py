@@ -188,6 +188,13 @@ def test_a_change_during_a_build_and_one_within_the_same_second_build_again(chec
     checkout.after("echo 4 >src/main.rt", 4, builds=4)
 
 
+def test_tests_run_what_is_built_and_refuse_at_once_what_would_have_to_be_proved(checkout):
+    is_refused(checkout.use(PROVE="no"), "make levels builds it", before="")
+    assert checkout.builds() == 0
+    checkout.use()
+    checkout.started(checkout.use(PROVE="no"), 1, builds=1)
+
+
 def test_a_program_that_was_removed_is_built_again_and_kept_proofs_are_not(checkout):
     checkout.use()
     for lost, builds in (("crates/ffosolve/out", 1), ("out/ffosolve", 1), ("out", 2)):
@@ -224,13 +231,16 @@ def test_a_missing_tool_is_reported_and_so_is_another_kit_which_is_tried(folder,
     assert (ran.returncode, ran.stdout, ran.stderr.count("\n")) == (4, "", 1), ran
     assert "make" in ran.stderr
     no_rt = "rt (rattle-kit-13b or rattle-kit-13f) is not on the path"
-    no_ld = "ld is missing; Debian's package binutils has it"
-    no_pytest = "false has no module pytest; Debian's package python3-pytest has it for PYTHON=/usr/bin/python3"
+    no_ld = "ld is missing; Debian's package binutils has it\n"
+    modules = ("pytest", "pytest"), ("xdist", "pytest-xdist"), ("pytest_timeout", "pytest-timeout")
+    no_module = "false has no module {}; Debian's package python3-{} has it for PYTHON=/usr/bin/python3\n"
+    install = "apt-get install binutils python3-pytest python3-pytest-xdist python3-pytest-timeout\n"
+    no_tools = "".join((no_ld, *(no_module.format(*names) for names in modules), install))
     for error, *words in ((no_rt, "look", "PATH=/usr/bin:/bin"), (no_rt, "check", "PATH=/usr/bin:/bin"),
-                          (no_ld, "check", f"PATH={checkout.tools}:{path_without('ld', folder)}"),
-                          (no_pytest, "check", "PYTHON=false")):
+                          (no_tools, "check", "PYTHON=false", f"PATH={checkout.tools}:{path_without('ld', folder)}")):
         ran = checkout.make(*words)
-        assert (ran.returncode, ran.stdout, ran.stderr.splitlines()[0]) == (2, "", error), ran
+        assert (ran.returncode, ran.stdout) == (2, ""), ran
+        assert ran.stderr.startswith(error), ran
     assert checkout.builds() == 0
     for builds, kit in enumerate(("rattle-kit-13b", "rattle-kit-13f", "rattle-kit-14a", "rattle-kit-13"), 1):
         printed = checkout.after(f"echo {builds} >src/main.rt", builds, builds, KIT=kit)

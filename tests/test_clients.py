@@ -12,10 +12,9 @@ import zipfile
 import pytest
 
 import ffosolve
-from tests.prefix import CXX, PIP, PREFIX, VERSION, C
-from tests.support import ROOT, built, lack, need, need_module, run, stored
+from tests.prefix import CXX, PIP, PREFIX, VERSION, C, installed  # noqa: F401 - a fixture
+from tests.support import ROOT, built, lack, need, need_module, preload, run, stored
 
-setup_module = PREFIX.install
 PAGE = "docs/check-evaluation.md"  # its program reads a list of positions, and their scores
 SMALL, LARGE = 9, 10  # how many positions of examples/masks.txt an example solves; only the last has 20 empty squares
 CMAKE = """cmake_minimum_required(VERSION 3.16)
@@ -26,19 +25,18 @@ add_executable(in_cxx answers.cpp)
 target_link_libraries(shared ffosolve::ffosolve)
 target_link_libraries(in_cxx ffosolve::ffosolve)
 """
-# A made-up library: each function prints the numbers that it gets.
+# A made-up library: each function prints the numbers that it gets. There is no memory for a list of nine positions.
 PRINTED_IN_C = r"""#include <stdint.h>
 #include <stdio.h>
+#include <unistd.h>
 struct position { uint64_t own, opp; };
 struct answer { int32_t score, kind; uint64_t best; };
-int ffosolve_solve(struct position position, uint32_t scoring, size_t entries) {
-    return printf("solve %u %zu\n", scoring, entries) < 0;
-}
 int ffosolve_confirm(struct position position, uint32_t scoring, size_t entries, struct answer claim) {
     return printf("confirm %u %zu %d\n", scoring, entries, claim.score) < 0;
 }
 int ffosolve_solve_all(void *positions, size_t count, uint32_t scoring, size_t entries) {
-    return printf("solve_all %zu %u %zu\n", count, scoring, entries) < 0;
+    if (count == 2) usleep(100000);
+    return printf("solve_all %zu %u %zu\n", count, scoring, entries) < 0 ? 1 : count == 9 ? 7 : 0;
 }
 int ffosolve_move_scores_all(void *positions, size_t count, uint32_t scoring, size_t entries) {
     return printf("move_scores_all %zu %u %zu\n", count, scoring, entries) < 0;
@@ -56,6 +54,8 @@ fn main() {
         solver.solve_all(&[some, many, few]).expect("answers");
         solver.move_scores_all(&[some, few]).expect("scores");
         solver.threads(2).solve_all(&[many, few, few]).expect("answers");
+        let parts = [vec![few, many], vec![few; 9]].concat();
+        assert_eq!(solver.threads(2).solve_all(&parts), Err(Error::NoMemory));
     }
 }
 """
@@ -64,10 +64,11 @@ fn main() {
 def asked(scoring, few, some, many):
     """Yields the lines that ASKED_IN_RUST has to print for a solver, with its tables for each number of squares."""
     for entries in (few, some, many):
-        yield from (f"solve {scoring} {entries}", f"confirm {scoring} {entries} 7")
+        yield from (f"solve_all 1 {scoring} {entries}", f"confirm {scoring} {entries} 7")
         yield f"move_scores_all 1 {scoring} {entries}"
     yield from (f"solve_all 3 {scoring} {many}", f"move_scores_all 2 {scoring} {some}")
     yield from (f"solve_all 1 {scoring} {many}", f"solve_all 2 {scoring} {few}")  # a part for each thread
+    yield from (f"solve_all 2 {scoring} {many}", f"solve_all 9 {scoring} {few}")
 
 
 def shown(language, *names):
@@ -246,10 +247,12 @@ def test_the_compiler_that_the_manifest_names_takes_crate_and_example():
 
 
 def test_the_library_gets_the_scoring_the_table_and_the_claim_that_were_asked_for():
-    """Builds ASKED_IN_RUST with a made-up library, PRINTED_IN_C, whose functions print what they get."""
+    """Builds ASKED_IN_RUST with a made-up library, PRINTED_IN_C, whose functions print what they get. Each of the four
+    calls on two threads starts one."""
     program = PREFIX.rust_client_of("asked", ASKED_IN_RUST, PRINTED_IN_C)
+    ran = PREFIX.make(program, env=preload(PREFIX.work, COUNTED="1"))
     wanted = [*asked(0, 0, 4096, 65536), *asked(2, 5, 5, 5)]  # by default the tables that ffosolve.h suggests
-    assert sorted(PREFIX.make(program).stdout.splitlines()) == sorted(wanted)
+    assert (sorted(ran.stdout.splitlines()), ran.stderr) == (sorted(wanted), "thread " * 4)
 
 
 def test_ffosolve_lib_dir_names_the_folder_of_the_library():

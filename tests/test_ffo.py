@@ -48,5 +48,5 @@ def test_the_document_has_the_table_of_the_kept_results():
 def test_the_last_result_agrees_if_it_has_the_score_and_every_published_move(folder, score, moves, word):
     row = f"43\t23\t{score}\t{moves}\t1234.50\tffosolve 9.9.9\tsome processor\t65536\n"
     ran, _ = ffo("table", kept=HEAD + row.replace(score, "+64") + row)
-    assert f"| 43 | 23 | {score} | {moves.replace(',', ', ')} | -12 G3, C7 | {word} | 1,234.5 |  |\n" in ran.stdout
+    assert f"| 43 | 23 | {score} | {moves.replace(',', ', ')} | {word} | 1,234.5 |  |\n" in ran.stdout
     assert "| 41 | 22 | not solved |" in ran.stdout

@@ -56,42 +56,66 @@ def test_every_number_of_empty_squares_is_taken():
         prints("games.wtb", empties, KNOWN[:5], ", theoretical score 33")
 
 
-def test_wrong_moves_of_transcripts_are_reported():
-    f5d6 = positions_of([37, 43])
-    start, after = (f"for Black in {player.line(*f5d6[empties])}" for empties in (60, 58))
-    lines = (
-        ("f5d6c3", None),
-        ("% a comment", None),
-        ("", None),
-        ("\r", None),
-        ("f5d6d5", f"move 3: D5 is not a legal move {after}"),
-        ("F5 D6 C5 z9", "move 4: 'z9' is not a square"),
-        ("f5d6c", "move 3: 'c' is not a square"),
-        ("f5d6i1c3", "move 3: 'i1' is not a square"),
-        ("f5a9", "move 2: 'a9' is not a square"),
-        ("e4", f"move 1: E4 is not a legal move {start}"),
-        ("f5d6psc3", f"move 3: a pass is not a legal move {after}"),
-        ("pass", f"move 1: a pass is not a legal move {start}"),
-        ("f5", "move 1: it ends here, with 59 empty squares; 58 are asked for"),
-        ("f5d6c3d3c4f4c5b3c2\xff", "move 10: '\ufffd' is not a square"),
-    )
-    err = "".join(f"games, game {number}, {why}\n" for number, (_, why) in enumerate(lines, 1) if why)
-    content = "\n".join(text for text, _ in lines).encode("latin-1")
-    reads("games", content, "--empties=58", out=line_of(f5d6[58], "games, game 1"), err=err)
+GGF = "(;GM[Othello]PC[GGS/os]DT[2003.12.15_13:24:03.MST]PB[a1\\]]PW[B[b]RB[2197.01]TI[05:00//02:00]TY[8]RE[+2]{}{};)"
+GGF_BOARD = "BO[8 --------  --------  --------  ---O*---  ---*O---  --------  --------  -------- *]"
 
 
-def test_only_a_pass_may_follow_the_end_of_a_game():
-    end = player.line(*AT[60 - len(GAME)])
-    for more in (GAME[:1], GAME[-1:]):
-        why = f"move {len(GAME) + 1}: {NAMES[more[0]]} is not a legal move: the game is over in {end}"
-        reads("long", transcript(GAME + more), "--empties=30", err=f"long, game 1, {why}")
-    reads("passes", transcript(GAME) + "--pass", "--empties=30", out=line_of(AT[30], "passes, game 1"))
+def ggf(game, first=GGF_BOARD, with_passes=True):
+    """Returns a random game in GGF, as https://skatgame.net/mburo/ggsa/ggf shows it."""
+    moves, mover = "", "B"
+    for at, square in enumerate(game):
+        if square is not None or with_passes:
+            name = "PA" if square is None else NAMES[square].lower() if at % 3 else NAMES[square]
+            moves += f"{mover}[{name}{('', '/-1.00', '/2.5/0.01', '//0.01')[at % 4]}]"
+        mover = "BW"[mover == "B"]
+    return GGF.format(first, moves)
 
 
-def test_a_game_that_ends_before_the_position_is_reported():
+F5, F5D6 = positions_of([37]), positions_of([37, 43])
+AFTER = f"is not a legal move for Black in {player.line(*F5D6[58])}"
+OVER = f"is not a legal move: the game is over in {player.line(*AT[60 - len(GAME)])}"
+FIRST = f"is not a legal move for Black in {player.line(*F5D6[60])}"
+REFUSED = (  # transcript, move, reason
+    ("f5d6d5", 3, f"D5 {AFTER}"), ("f5d6psc3", 3, f"a pass {AFTER}"),
+    ("1. f5 2. d5 3. c3", 2, f"D5 is not a legal move for White in {player.line(*F5[59])}"),
+    ("e4", 1, f"E4 {FIRST}"), ("pass", 1, f"a pass {FIRST}"),
+    *((transcript(GAME + [square]), len(GAME) + 1, f"{NAMES[square]} {OVER}") for square in (GAME[0], GAME[-1])),
+    *((text, move, f"'{word}' is not a square") for text, move, word in (
+        ("F5 D6 C5 z9", 4, "z9"), ("f5d6c", 3, "c"), ("f5d6i1c3", 3, "i1"), ("f5a9", 2, "a9"),
+        ("f5d6c3d3c4f4c5b3c2\ufffd", 10, "\ufffd"), ("f5d6c33d3", 4, "3d"), ("f5d6c33-31", 4, "3-"),
+        ("f5 d6 33-31 c3", 3, "33"), ("f5 d6 100-3", 3, "10"), ("f5 [d6] c3", 2, "[d"))),
+    ("(;GM[Othello]B[f5]B[d6];)", 2, f"a pass is not a legal move for White in {player.line(*F5[59])}"),
+    (f"2 {ggf(GAME)}{ggf(GAME)}", None, "a line has one game, but this has several in GGF"),
+    ("(;GM[Othello]PC[GGS/os]", None, "it begins like a game in GGF, but does not end with `;)`"),
+    ("(;GM[2]B[f5]W[d6];)", None, "it is a game in GGF or SGF without GM[Othello]"),
+    *((ggf(GAME, GGF_BOARD.replace(*other)), None, "it is in GGF, and does not begin from the usual position")
+      for other in (("O*", "OO"), (" *]", " O]"))),
+)
+
+
+def test_a_wrong_transcript_is_reported_and_the_others_are_printed():
+    right = (("f5d6c3", F5D6), ("% a comment", None), ("", None), ("\r", None), ('[Event "f5d6"]', None),
+             ('[White "B, c3"] [Result "33-31"]', None), (f"[Round 1] {transcript(GAME)} 33-31", AT),
+             (transcript(GAME) + "--pass", AT))
+    out = "".join(line_of(found[58], f"games, game {number}") for number, (_, found) in enumerate(right, 1) if found)
+    err = "".join(f"games, game {number}{', move ' * bool(move)}{move or ''}: {why}\n"
+                  for number, (_, move, why) in enumerate(REFUSED, 1 + len(right)))
+    text = "\n".join(text for text, *_ in right + REFUSED).encode()
+    reads("games", text.replace("\ufffd".encode(), b"\xff"), "--empties=58", out=out, err=err)
     game = next(game for game in random_games(200, seed=1) if len(squares_of(game)) == 59)
-    err = "text, game 1, move 59: it ends here, with 1 empty square; 0 are asked for"
-    reads("text", transcript(game), "--empties=0", err=err)
+    for text, empties, where in (("f5", 58, "move 1: it ends here, with 59 empty squares"),
+                                 (transcript(game), 0, "move 59: it ends here, with 1 empty square")):
+        reads("games", text, f"--empties={empties}", err=f"games, game 1, {where}; {empties} are asked for")
+
+
+@pytest.mark.parametrize("text, move, why", REFUSED)
+def test_a_wrong_transcript_is_refused_with_the_move_and_the_reason(text, move, why):
+    for number, game in ((1, text), (7, ffosolve.Game.of_text(text, 7))):
+        where = f"^game {number}{', move ' * bool(move)}{move or ''}: "
+        with pytest.raises(ffosolve.GameRefused, match=f"{where}{re.escape(why)}$") as refused:
+            Solver().positions(game)
+        for it in (refused.value, pickle.loads(pickle.dumps(refused.value))):
+            assert (it.game, it.move, it.reason, isinstance(it, ValueError)) == (number, move, why, True)
 
 
 def changed(byte):
@@ -173,15 +197,10 @@ PLAIN = {empties: line_of(position, "it.wtb, game 1") for empties, position in A
 SCORED = {empties: line.rstrip() + ", theoretical score 20\n" for empties, line in PLAIN.items()}
 
 
-@pytest.mark.parametrize("words, empties, out", (
-    ([], 24, SCORED[24]), (["--empties", "24"], 24, SCORED[24]), (["--empties", "22"], 24, PLAIN[22]),
-    (["--empties", "22"], 0, SCORED[22]),
-))
-def test_a_theoretical_score_is_printed_only_for_its_number_of_empty_squares(words, empties, out):
-    reads("it.wtb", wthor([record(GAME, 20)], empties=empties), *words, out=out)
-
-
-def test_a_number_of_empty_squares_that_is_not_known_is_asked_for():
+def test_a_theoretical_score_is_printed_only_for_its_number_of_empty_squares_which_is_asked_for():
+    for words, empties, out in (((), 24, SCORED[24]), (("--empties", "24"), 24, SCORED[24]),
+                                (("--empties", "22"), 24, PLAIN[22]), (("--empties", "22"), 0, SCORED[22])):
+        reads("it.wtb", wthor([record(GAME, 20)], empties=empties), *words, out=out)
     reads("it.wtb", wthor([GAME_RECORD], empties=0), status=2,
           err="it.wtb does not say how many squares are empty at its theoretical scores; "
               "try --empties 22 or 24, the usual numbers")
@@ -237,61 +256,11 @@ def test_transcripts_are_read_in_each_form():
             has_positions(text, game)
 
 
-GGF = "(;GM[Othello]PC[GGS/os]DT[2003.12.15_13:24:03.MST]PB[a1\\]]PW[B[b]RB[2197.01]TI[05:00//02:00]TY[8]RE[+2]{}{};)"
-GGF_BOARD = "BO[8 --------  --------  --------  ---O*---  ---*O---  --------  --------  -------- *]"
-
-
-def ggf(game, first=GGF_BOARD, with_passes=True):
-    """Returns a random game in GGF, as https://skatgame.net/mburo/ggsa/ggf shows it."""
-    moves, mover = "", "B"
-    for at, square in enumerate(game):
-        if square is not None or with_passes:
-            name = "PA" if square is None else NAMES[square].lower() if at % 3 else NAMES[square]
-            moves += f"{mover}[{name}{('', '/-1.00', '/2.5/0.01', '//0.01')[at % 4]}]"
-        mover = "BW"[mover == "B"]
-    return GGF.format(first, moves)
-
-
 def test_games_in_ggf_are_read():
     assert sum(None in game for game in PLAYED) > 10
     for at, game in enumerate(PLAYED):
         for text in (ggf(game), f"1 {ggf(game, '')}\r\n", ggf(game, with_passes=False)):
             has_positions(text, game)
-
-
-@pytest.mark.parametrize("text, why", (
-    (f"2 {ggf(GAME)}{ggf(GAME)}", "a line has one game, but this has several in GGF"),
-    ("(;GM[Othello]PC[GGS/os]", "it begins like a game in GGF, but does not end with `;)`"),
-    ("(;GM[2]B[f5]W[d6];)", "it is a game in GGF or SGF without GM[Othello]"),
-    (ggf(GAME, GGF_BOARD.replace("O*", "OO")), "it is in GGF, and does not begin from the usual position"),
-    (ggf(GAME, GGF_BOARD.replace(" *]", " O]")), "it is in GGF, and does not begin from the usual position"),
-))
-def test_other_games_in_ggf_are_told_as_what_they_are(text, why):
-    reads("games", f"{text}\n{transcript(GAME)}", "--empties=20", out=line_of(AT[20], "games, game 2"),
-          err=f"games, game 1: {why}")
-    with pytest.raises(ffosolve.GameRefused, match=f"^game 1: {re.escape(why)}$"):
-        Solver().positions(text)
-
-
-def test_headers_in_brackets_are_skipped():
-    text = f'[Event "f5d6"]\n[White "B, c3"] [Result "33-31"]\n\n[Round 1] {transcript(GAME)} 33-31\n'
-    reads("games", text, "--empties=20", out=line_of(AT[20], "games, game 4"))
-
-
-@pytest.mark.parametrize("text, move, why", (
-    ("1. f5 2. d5 3. c3", 2, f"D5 is not a legal move for White in {player.line(*positions_of([37])[59])}"),
-    ("f5d6c33d3", 4, "'3d' is not a square"),
-    ("f5d6c33-31", 4, "'3-' is not a square"), ("f5 d6 33-31 c3", 3, "'33' is not a square"),
-    ("f5 d6 100-3", 3, "'10' is not a square"), ("f5 [d6] c3", 2, "'[d' is not a square"),
-    ("(;GM[Othello]B[f5]B[d6];)", 2, f"a pass is not a legal move for White in {player.line(*positions_of([37])[59])}"),
-))
-def test_a_wrong_transcript_is_refused_with_the_move_and_the_reason(text, move, why):
-    with pytest.raises(ffosolve.GameRefused, match=f"^game 7, move {move}: {re.escape(why)}$") as refused:
-        Solver().positions(ffosolve.Game.of_text(text, 7))
-    for it in (refused.value, pickle.loads(pickle.dumps(refused.value))):
-        assert (it.game, it.move, it.reason, isinstance(it, ValueError)) == (7, move, why, True)
-    with pytest.raises(TypeError, match="^a game is a Game or the text of a transcript, not "):
-        Solver().positions(5)
 
 
 RECORDS = wthor([record(game, 20 + at, 40) for at, game in enumerate(PLAYED[:30])], empties=22)
@@ -350,3 +319,5 @@ def test_a_wrong_file_is_refused_at_once(source, error, why):
     write("it.wtb", wthor([record(PLAYED[0])], board=10))
     with pytest.raises(error, match=f"^{why}" if why else None):
         list(ffosolve.read_games(source))
+    with pytest.raises(TypeError, match="^a game is a Game or the text of a transcript, not "):
+        Solver().positions(5)

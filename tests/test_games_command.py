@@ -20,13 +20,10 @@ def files(folder):
     write("it.wtb", WTHOR)
 
 
-def test_a_hyphen_or_no_file_means_standard_input():
+def test_the_list_has_names_of_files_as_they_are_and_a_hyphen_or_no_file_means_standard_input():
     for words in ((), ("-",)):
         games("--empties=20", *words, input=TEXT.encode(), out=LINE.format("-"))
     games("-", input=WTHOR, out=LINE.format("-").rstrip() + ", theoretical score 33\n")
-
-
-def test_names_of_files_are_in_the_list_as_they_are():
     for name, shown in (("a b%c, game 7", "a b%c, game 7"), ("new\nline", "$'new\\nline'")):
         reads(name, TEXT, "--empties=20", out=LINE.format(shown))
     name = b"\xff.WTB"

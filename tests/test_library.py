@@ -11,10 +11,9 @@ import pytest
 import ffosolve
 from ffosolve._refusals import refusal_of
 from tests.positions import random_positions
-from tests.prefix import CXX, NUMBER, PREFIX, STRICT, TESTS, VERSION, C
+from tests.prefix import CXX, NUMBER, PREFIX, STRICT, TESTS, VERSION, C, installed  # noqa: F401 - a fixture
 from tests.support import limited, need, need_module
 
-setup_module = PREFIX.install
 COMPILERS = [*itertools.product(("cc", "clang"), ("c90", "c99", "c11", "c17", "c2x"), ("c",)),
              *itertools.product(("c++", "clang++"), ("c++11", "c++14", "c++17", "c++20"), ("cpp",))]
 PROGRAM = """#include "ffosolve.h"

@@ -2,6 +2,7 @@
 import os
 import re
 import sys
+import time
 import types
 from pathlib import Path
 from unittest import mock
@@ -149,7 +150,7 @@ def test_a_book_that_may_not_be_written_is_not_replaced(case):
 
 def test_progress_rises_in_a_log_and_on_a_terminal(case):
     by = case.install("often", ("engine", "(1 if is_terminal else 60)", "(0.1 if is_terminal else 0.3)"),
-                      ("engine", "due = now + (1 if flying else 0.2)", "due = now + 0.1"), script=ACTING)
+                      ("engine", "due = now + (1 if progress.running else 0.2)", "due = now + 0.1"), script=ACTING)
     for place, shell in (("log", ("sh", "-c")), ("terminal", ("script", "/dev/null", "-qec"))):
         command = f"'{by}' --jobs=2 --lines=6 {place} list.obf >report"
         ran = run(*shell, command, env={**os.environ, "PAUSE": "0.3", "SHELL": "/bin/sh"})
@@ -172,9 +173,13 @@ def test_output_that_fails_is_reported_and_closed_or_full_errors_do_no_harm(case
         case.many("-c", f'exec "{case.MANY}" {place} list.obf {streams}', by="sh")
 
 
-def test_jobs_are_limited_by_the_files_that_may_be_open(case):
-    message = "28 of 300 jobs work at a time, since no more than 256 files may be open (ulimit -n)"
-    case.many("--jobs=300", "--lines=1", *WORDS[1:], message=message, preexec_fn=limited(RLIMIT_NOFILE=256))
+@pytest.mark.parametrize("message, limits, who", [
+    ("28 of 300 jobs work at a time, since no more than 256 files may be open (ulimit -n)", {"RLIMIT_NOFILE": 256}, {}),
+    (" of 900 jobs work at a time, since no more processes may be started (ulimit -u)", {"RLIMIT_NPROC": 400}, NOBODY)])
+def test_jobs_are_limited_by_the_files_and_processes_that_there_may_be(case, message, limits, who):
+    case.folder.chmod(0o777)
+    jobs = re.search("of ([39]00) jobs", message)[1]
+    case.many("--jobs", jobs, "--lines=1", *WORDS[1:], message=message, preexec_fn=limited(**limits), **who)
 
 
 # (status, message, *command line)
@@ -330,7 +335,7 @@ def test_a_book_in_another_spelling_is_merged(case):
 
 
 def test_the_merged_book_is_checked_before_it_is_written(case):
-    by = case.install("misprinting", ("books", "whole.seek(0)", "whole.write(b'no entry\\n'); whole.seek(0)"))
+    by = case.install("misprinting", ("command", "whole.seek(0)", "whole.write(b'no entry\\n'); whole.seek(0)"))
     case.many("--merge-books", "one.book", by=by, status=3, message="the merged book: book line 62: bad square")
 
 
@@ -383,28 +388,34 @@ def clock(monkeypatch):
 def progress(texts, lines=1):
     """Returns an engine.Progress (what is left to do) for parts of a list, `texts`, each taken as `lines` lines."""
     a_run = folder.Run.__new__(folder.Run)
-    weights = [folder.weight_of(text, 20) for text in texts]
-    a_run.parts, a_run.cut = len(texts), types.SimpleNamespace(lines=lines, count=len(texts) * lines, weights=weights)
+    a_run.parts, a_run.lines, a_run.count = len(texts), lines, len(texts) * lines
+    a_run.weights = [folder.weight_of(text, 20) for text in texts]
     return engine.Progress(a_run, range(len(texts)))
+
+
+def at_work(one, hosts):
+    """Sets which parts are at work, and on which hosts: {part: host}."""
+    one.running = {number: one.running.get(number, (number, types.SimpleNamespace(host=host), time.monotonic()))
+                   for number, host in hosts.items()}
 
 
 def test_the_time_left_is_known_within_a_factor_of_two_from_a_tenth_of_the_work_on(clock):
     lines, ends = positions(264, 8, 18, 3).splitlines(keepends=True), []
     one = progress([b"".join(lines[at:at + 6]) for at in range(0, 264, 6)], 6)
-    waiting, running, whole = list(range(44)), {}, one.left_weight
+    waiting, running, whole = list(range(44)), {}, one.work
     while one.parts:
         while waiting and len(running) < 2:
             running[waiting.pop(0)] = clock.now
-        one.update(dict.fromkeys(running, "here"))
+        at_work(one, dict.fromkeys(running, "here"))
         clock.now, number = min((since + TOOK[number], number) for number, since in running.items())
         del running[number]
         one.end(number, TOOK[number])
-        one.update(dict.fromkeys(running, "here"))
-        if one.weight < whole / 10:
-            assert "left" not in one.text()
+        at_work(one, dict.fromkeys(running, "here"))
+        if one.done < whole / 10:
+            assert "left" not in one.text("")
         elif one.parts:
             ends.append(clock.now + one.left())
-            assert re.search(r"^[0-9]+%, [0-9]+ s left, ", one.text())
+            assert re.search(r"^[0-9]+%, [0-9]+ s left, ", one.text(""))
     assert len(ends) > 30
     for end in ends:
         assert 0.5 < end / clock.now < 2, (end, clock.now)
@@ -412,28 +423,28 @@ def test_the_time_left_is_known_within_a_factor_of_two_from_a_tenth_of_the_work_
 
 def test_the_longest_part_at_work_is_waited_for(clock):
     one = progress([FULL, FULL, 10 * FULL, FULL])
-    one.update({0: "h1", 2: "h2"})
+    at_work(one, {0: "h1", 2: "h2"})
     clock.now = 30.0
     one.end(0, 30)
     one.end(3, 30)
-    one.update({1: "h1", 2: "h2"})
+    at_work(one, {1: "h1", 2: "h2"})
     assert one.left() == 270  # not 150, which it would be if two machines could share a part
 
 
 def test_a_part_of_a_lost_machine_waits_again(clock):
     one = progress([FULL] * 4)
-    one.update({0: "h1", 1: "h2"})
+    at_work(one, {0: "h1", 1: "h2"})
     clock.now = 100.0
     one.end(0, 100)
-    one.update({1: "h2", 2: "h1"})
+    at_work(one, {1: "h2", 2: "h1"})
     assert one.left() == 100
     clock.now = 190.0
-    one.update({2: "h1"})
+    at_work(one, {2: "h1"})
     assert one.left() == 210
-    assert one.text() == "25%, 4 min left, 1 machine at work, parts 1 of 4"
+    assert one.text("") == "25%, 4 min left, 1 machine at work, parts 1 of 4"
     clock.now = 193.0
-    one.update({})
-    assert one.text() == "25%, no machine at work, parts 1 of 4"
+    at_work(one, {})
+    assert one.text("") == "25%, no machine at work, parts 1 of 4"
 
 
 def test_work_grows_with_the_empty_squares_of_both_spellings():
@@ -441,7 +452,7 @@ def test_work_grows_with_the_empty_squares_of_both_spellings():
     for empty in (b"-", b"."):
         text = (BOARD + b" X\n\n% -----\n" + b"-" * 30 + b"X" * 34 + b" X\n").replace(b"-", empty)
         assert folder.weight_of(text, 20) == growth ** 2 + 1
-    for empties, seconds in ((6, 0.666 / 0.0042), (8, 8.76 / 0.0042)):  # 20 and 22 empty squares against 14
+    for empties, seconds in ((6, 0.83 / 0.0083), (8, 7.6 / 0.0083)):  # 20 and 22 empty squares against 14
         assert 0.5 < growth ** empties / seconds < 2
 
 
@@ -452,12 +463,12 @@ def test_times_are_shown_in_words():
 
 def test_the_line_fits_a_terminal(clock):
     one = progress([FULL] * 1200, 200)
-    one.update({659: "h1"})
+    at_work(one, {659: "h1"})
     clock.now = 55.4
     for number in range(659):
         one.end(number, 55.4)
     whole = "54%, 8 h 19 min left, 1 machine at work, parts 659 of 1200"
-    assert one.text() == whole
+    assert one.text("") == whole
     for columns, line in ((64, whole), (39, "54%, 8 h 19 min left"), (200, whole)):
         size = mock.patch.object(os, "get_terminal_size", return_value=os.terminal_size((columns, 24)))
         with size, mock.patch.object(_command_line, "name", "it"), mock.patch.object(os, "write") as written:
@@ -467,7 +478,7 @@ def test_the_line_fits_a_terminal(clock):
 
 def test_a_part_that_runs_long_is_named(clock):
     one = progress([FULL] * 4, 3)
-    one.update({0: "h1", 1: "h2"})
+    at_work(one, {0: "h1", 1: "h2"})
     clock.now = 720.0
     line = "0%, 2 machines at work, parts 0 of 4; part 0000000 (lines 1 to 3) has been running for 12 min on h1"
-    assert one.text() == line
+    assert one.text("") == line

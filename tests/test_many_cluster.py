@@ -7,7 +7,6 @@ import shutil
 import signal
 import socket
 import sys
-import time
 from concurrent.futures import Future
 from pathlib import Path
 from unittest import mock
@@ -305,40 +304,43 @@ def test_a_full_disk_ends_the_run_and_it_goes_on_when_there_is_room(cluster, cas
 def test_parts_go_to_fit_workers_by_their_threads_and_those_that_failed_to_others():
     pytest.importorskip("distributed")
     from ffosolve._many.cluster import Cluster, Worker
+    from ffosolve._many.engine import machine_for
     one = Cluster.__new__(Cluster)
-    one.client, one.run, one.sent, one.ended = mock.Mock(status="running"), mock.Mock(), {}, {}
-    one.heard, one.asked, one.workers = time.monotonic(), Future(), {}
-    one.in_dask = lambda coroutine: (coroutine.close(), Future())[1]
-    for name, threads in (("h1", 1), ("h2", 20), ("h3", 9)):
-        one.workers[name] = Worker(name, {"local_directory": "", "host": name, "nthreads": threads})
-        one.workers[name].is_fit = name != "h3"
-    h1, h2, h3 = one.workers.values()
+    one.client, one.test, one.in_dask = mock.Mock(status="running"), mock.Mock(), mock.Mock()
+    one.workers = {name: Worker(name, {"local_directory": "", "host": name, "nthreads": threads})
+                   for name, threads in (("h1", 1), ("h2", 20), ("h3", 9))}
+    h1, h2, h3 = one.machines
+    h1.is_fit = h2.is_fit = True
 
-    def submitted(count, failed):
-        futures = [future for number in range(count) if (future := one.submit(number, failed))]
-        return [one.sent[future].address for future in futures]
+    def sent(count, failed, most=1):
+        machines = [machine for _ in range(count) if (machine := machine_for(one.machines, most, failed))
+                    and not machine.parts.add(Future())]
+        return sorted(machine.name for machine in machines)
 
-    assert sorted(submitted(90, [])) == ["h1"] * 2 + ["h2"] * 40  # twice as many as threads
-    assert sorted(one.look({}, True).values()) == ["h1"] + ["h2"] * 20
-    for future in [*h1.parts]:
-        future.cancel()
-        assert one.result(future, 0) == ("h1", None, "")
-    one.look({}, True)  # h1 has nothing to do: a part that waits on h2 is taken from there
-    assert [future.cancelled() for future in h2.parts] == [False] * 20 + [True] + [False] * 19
-    assert submitted(3, ["h2"]) == ["h1"]  # one at a time that has failed
-    assert submitted(3, []) == ["h1"]
-    one.drop(h2)  # which has ended: only the parts that it was solving have failed
-    assert [one.result(future, 0)[2] for future in [*h2.parts]] == ["the worker ended"] * 20 + [""] * 20
-    assert submitted(1, ["h1"]) == ["h2"]
+    assert sent(90, []) == ["h1"] + ["h2"] * 20  # as many as threads
+    assert sent(90, [], 2) == ["h1"] + ["h2"] * 20  # as many once more
+    h1.parts.clear()
+    assert sent(3, ["h2"]) == ["h1"]
+    h1.parts.clear()
+    assert sent(3, ["h1"], 3) == []  # a part that has failed is alone on its worker
+    h2.parts.clear()
+    assert sent(3, ["h1"]) == ["h2"]
+    h2.parts.clear()
+    one.leave_out(h2, "it fails")
+    assert sent(3, ["h1"]) == ["h1"]  # the only one that is left
     one.update({name: {"local_directory": "new", "host": name, "nthreads": 1} for name in one.workers})
-    assert [worker.is_fit for worker in one.workers.values()] == [None] * 3  # they were started again: all are tested
+    assert [worker.is_fit for worker in one.machines] == [False] * 3  # they were started again: all are tested
+    assert one.test.call_count == 3 and h1.ended == h3.ended == "the worker ended"
+    assert all(future.cancelled() for future in h1.parts)
+    for worker in one.machines:
+        worker.is_fit = True
+    one.client.status = "connecting"
+    assert sent(3, []) == []
 
 
-@pytest.fixture
+@pytest.fixture(scope="module")
 def impatient(installed):
-    path = installed.BASE / "impatient"
-    return path / "bin/ffosolve-many" if path.exists() else installed.install(
-        "impatient", ("cluster", "LOST_SECONDS = 30", "LOST_SECONDS = 2"))
+    return installed.install("impatient", ("cluster", "LOST_SECONDS = 30", "LOST_SECONDS = 2"))
 
 
 NOT_AN_ADDRESS = "it is neither an address with a port, such as tcp://h1:8786, nor a file"

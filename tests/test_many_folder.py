@@ -8,7 +8,6 @@ import stat
 import sys
 import threading
 import time
-import types
 from pathlib import Path
 from unittest import mock
 
@@ -16,7 +15,7 @@ import pytest
 
 from ffosolve import _command_line
 from ffosolve._many import folder, solve
-from tests.many import BOARD, WORDS, files
+from tests.many import ACTING, BOARD, WORDS, files
 from tests.support import (MOST_BYTES, NOBODY, SECONDS, as_at_a_login, ends, limited, processes_in, run, wait_until,
                            write)
 
@@ -43,9 +42,9 @@ def test_a_report_is_taken_if_it_is_complete(case):
 def test_scores_are_complete_with_a_line_for_each_of_the_part(output, is_whole):
     one, text = folder.Run.__new__(folder.Run), b"1\n2\n3\n"
     one.task, one.statuses = {"options": {"--scores": ""}}, bytearray(1)
-    one.cut = types.SimpleNamespace(digests=[solve.sha256(text)])
+    one.digests = [solve.sha256(text)]
     head = b"0 %d 0 0.1" % len(output)
-    record = b"%b %b\n%b" % (head, solve.digest_of(one.task, 0, one.cut.digests[0], head, output), output)
+    record = b"%b %b\n%b" % (head, solve.record_digest(one.task, 0, one.digests[0], head, output), output)
     assert bool(one.check(0, text, record)) == is_whole
 
 
@@ -80,7 +79,7 @@ def test_a_part_whose_results_are_not_complete_is_solved_again(case):
         """Returns part 1's file in work/results as it would be with these values and their right checksum."""
         asked = {"options": {**task["options"], "--complete": complete}}
         head = b"%d %d %d %b" % (status, len(report), len(book), seconds)
-        digest = solve.digest_of(asked, part, solve.sha256(text), head, report + book)
+        digest = solve.record_digest(asked, part, solve.sha256(text), head, report + book)
         return b"%b %b\n%b%b" % (head, digest, report, book)
 
     assert record() == whole
@@ -113,6 +112,12 @@ def test_damaged_files_of_the_run_are_written_again(case):
         run("truncate", "--size=-5", *damaged, cwd="work", check=True)
         case.many(*words, message="in 3 parts, 3 of them solved before;")
         assert files() == before
+    write("work/list", b"%" + case.SMALL[1:])
+    case.many(*words, message=", 3 of them solved before")
+    assert files() == before
+    write("work/list", b"%" + case.SMALL[1:])
+    Path("work/task.json").unlink()
+    case.refused(2, "list.obf is not as work/list has it, from line 1 on: ", *words)
 
 
 def test_other_options_are_refused_by_name(case):
@@ -169,24 +174,29 @@ def test_only_the_parts_that_failed_are_solved_again(case):
 def test_what_killed_runs_left_is_removed_and_nothing_else(case):
     case.many(*WORDS)
     Path("work", "results/0000002").unlink()
-    strays = ["work/results/0000001.0123abcd.new", "work/task.json.0123abcd.new", "work/book.01_3abcd.new/1.book"]
+    strays = ["work/results/0000001.0123abcd.new", "work/task.json.0123abcd.new"]
     kept = ["work/results/mine.txt", "work/notes", "work/copy", "work/notes.new", "work/mine.0123abcd.new",
             "work/list.0123abcd.new/mine"]
     for path in strays + kept:
         write(path, "?")
     links = [f"work/{name}.new" for name in ("x.abcdefgh", "list.01234567", "book.abcdefgh", "results/1.76543210")]
     for path in links:
-        os.symlink(case.folder, path)
+        os.symlink(case.folder / "list.obf" if "list" in path else case.folder, path)
     case.many(*WORDS, message="in 3 parts, 2 of them solved before;")
-    assert [os.path.lexists(path) for path in strays + kept + links] == [False] * 3 + [True] * 10
+    assert [os.path.lexists(path) for path in strays + kept + links] == [False] * 2 + [True] * 10
 
 
 def test_a_record_that_is_damaged_late_is_solved_again(case):
     late = "    run.sweep()\n    open('work/results/0000001', 'r+').write('1'), os.unlink('work/results/0000002')\n"
-    by = case.install("damaging", ("command", "    run.sweep()\n", late))
+    by = case.install("damaging", ("command", "    run.sweep()\n", late), script=ACTING)
     for message in (", 0 of them", ", 3 of them"):
         case.many(*WORDS, by=by, message=message)
         case.many(*WORDS, message=", 3 of them solved before")
+    spoil = "lambda text: text[:-5] if open('results/0000001').read(1) == '1' else text"
+    ran = run(by, *WORDS, env={**os.environ, "SPOIL": spoil})
+    assert (ran.returncode, case.one.startswith(ran.stdout)) == (3, True)
+    assert ran.stderr.endswith(b"part 0000001 (lines 21 to 40) was changed meanwhile, and can't be solved again: "
+                               b"its results are not complete\n")
 
 
 def test_a_last_line_that_grows_is_solved_again(case):
@@ -249,12 +259,6 @@ def test_a_program_that_fails_three_times_in_a_row_and_then_for_a_known_line_end
     assert (errors.count(" failed part "), "not solved: 7 of 127 parts" in errors) == (7, True)
 
 
-def test_jobs_are_limited_by_the_processes_that_may_be_started(case):
-    case.folder.chmod(0o777)
-    message = " of 900 jobs work at a time, since no more processes may be started (ulimit -u)\n"
-    case.many("--jobs=900", "--lines=1", *WORDS[1:], message=message, preexec_fn=limited(RLIMIT_NPROC=400), **NOBODY)
-
-
 def test_copies_of_files_that_others_may_not_read_may_not_be_read_by_others(case):
     for name in ("list.obf", "one.book"):
         os.chmod(name, 0o600)
@@ -275,17 +279,6 @@ def test_a_fifo_among_the_results_is_replaced(case):
         os.mkfifo(Path("work", name))
         case.many(*WORDS)
     assert Path("work/results/0000001").is_file()
-
-
-def test_a_damaged_copy_of_the_list_is_written_again(case):
-    case.many(*WORDS)
-    whole = Path("work/list").read_bytes()
-    Path("work/list").write_bytes(b"%" + whole[1:])
-    case.many(*WORDS, message=", 3 of them solved before")
-    assert Path("work/list").read_bytes() == whole
-    Path("work/list").write_bytes(b"%" + whole[1:])
-    Path("work/task.json").unlink()
-    case.refused(2, "list.obf is not as work/list has it, from line 1 on: ", *WORDS)
 
 
 def test_a_finished_folder_that_may_not_be_written_prints_its_report(case):
@@ -319,18 +312,12 @@ def test_a_list_is_read_from_standard_input(case):
     ends((3, "", "ffosolve-many: cannot read -: standard input is closed\n"), "sh", "-c", '"$0" work - <&-', case.MANY)
 
 
-def test_standard_input_is_read_from_where_it_stands(case):
-    case.write_list(case.SMALL[68 * 2:])
-    write("whole.obf", case.SMALL)
-    case.many("-c", '{ read a; read b; "$0" work - --book-out joined.book; } <whole.obf', case.MANY, by="sh",
-              message="-: 58 lines in 1 part")
-    case.same_book()
-
-
-def test_a_piped_list_and_book_are_read(case):
-    command = '"$0" work <(cat list.obf) --book-in <(cat one.book) --book-out joined.book'
-    case.many("-c", command, case.MANY, by="bash")
-    case.same_book()
+def test_standard_input_is_read_from_where_it_stands_and_pipes_are_read(case):
+    write("whole.obf", b"%\n\n" + case.SMALL)
+    for command in ('{ read a; read b; "$0" in - --book-out joined.book; } <whole.obf',
+                    '"$0" work <(cat list.obf) --book-in <(cat one.book) --book-out joined.book'):
+        case.many("-c", command, case.MANY, by="bash", message=": 60 lines in 1 part")
+        case.same_book()
     assert Path("work", "book-in").read_bytes() == Path("one.book").read_bytes()
     assert os.listdir(case.BASE / "tmp") == []
 
@@ -363,7 +350,7 @@ def test_a_part_has_at_most_the_bytes_of_a_file(case):
 
 
 def test_a_list_that_changes_while_it_is_read_is_solved_as_it_was_copied(case):
-    by = case.install("changing", ("folder", "yield text\n", "yield text; self.path.write_bytes(b'?')\n"))
+    by = case.install("changing", ("folder", "yield text\n", "yield text; source.write_bytes(b'?')\n"))
     case.many("--lines=7", "work", "list.obf", by=by, message=" 60 lines in 9 parts")
     assert Path("list.obf").stat().st_size == 1
 
@@ -462,10 +449,10 @@ def test_an_interrupt_at_the_start_prints_no_traceback(case):
     assert (end(case, ran, signal.SIGINT), ran.returncode) == ((b"", ""), -signal.SIGINT)
 
 
-def test_by_default_each_processor_solves_a_part(case):
-    ran = case.start(case.ACTS, "--lines=1", *WORDS[1:], env={**os.environ, "PAUSE": "45"})
-    wait_until(lambda: sum("program-0" in words for words in processes_in(case.folder).values()) ==
-               len(os.sched_getaffinity(0)))
+@pytest.mark.parametrize("words, count", [((), len(os.sched_getaffinity(0))), (("--jobs=20",), 20)])
+def test_as_many_parts_are_solved_at_once_as_there_are_jobs_by_default_one_for_each_processor(case, words, count):
+    ran = case.start(case.ACTS, *words, "--lines=1", *WORDS[1:], env={**os.environ, "PAUSE": "45"})
+    wait_until(lambda: sum("program-0" in words for words in processes_in(case.folder).values()) == count)
     end(case, ran, signal.SIGTERM)
 
 

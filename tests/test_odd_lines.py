@@ -6,10 +6,9 @@ import pytest
 
 import ffosolve
 from ffosolve._refusals import REFUSALS
-from tests.prefix import PREFIX
+from tests.prefix import PREFIX, installed  # noqa: F401 - a fixture
 from tests.support import built, run, worked_rows
 
-setup_module = PREFIX.install
 LINES, COLUMNS = worked_rows("ffosolve/lines")
 PIECES = b"| w|ps:-4;|--:0;|I1:+1|h8:64 ;|B2:+65;| |\t|%|;|:|?|-|X|O|b|\r|\0|\x80|\xff".split(b"|")
 

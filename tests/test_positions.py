@@ -16,7 +16,7 @@ from .support import ROOT, built, need, run
 from .games import NAMES, positions_of, random_games, squares_of, transcript
 from .positions import random_positions
 import ffosolve
-from ffosolve import NoMove, Position, Scoring, Solver
+from ffosolve import Position, Scoring, Solver
 
 # In the first position White has no move; in the second neither side has one, and 16 squares are empty.
 AT_PASS = "-OOOOOOXXXXXXXXXXXXXXXXXXXXXXXXXXXXXXXXXXXXXXXXXXXXXXXXXXXXXXXXX O;"
@@ -62,47 +62,6 @@ def test_a_transcript_plays_on_from_any_position():
             found = at.play_all(moves)
             assert end in (found, found.passed())
             assert found.is_over
-
-
-def test_an_illegal_move_is_named_with_its_board_and_side():
-    start, after = Position.start(), Position.start().play("F5")
-    at_pass, finished = Position.from_obf(AT_PASS), Position.from_obf(FINISHED)
-    first, second, third = start.to_obf(), after.to_obf(), after.play("D6").to_obf()
-    no_square = "a square is a name such as 'F5' or a number from 0 to 63, not "
-    for error, call, move, why in (
-        (NoMove, start.play, "e3", f"E3 is not a legal move for Black in {first}"),
-        (NoMove, after.play, 37, f"F5 is not a legal move for White in {second}"),
-        (NoMove, lambda it: Solver().play(after, it), "f5", f"F5 is not a legal move for White in {second}"),
-        (NoMove, start.play, 64, f"square 64 is not a legal move for Black in {first}"),
-        (NoMove, at_pass.play, "A1", f"A1 is not a legal move: White has to pass in {AT_PASS}"),
-        (NoMove, finished.play, "A5", f"A5 is not a legal move: the game is over in {FINISHED}"),
-        (NoMove, start.play_all, "f5d6d6", f"move 3: D6 is not a legal move for Black in {third}"),
-        (NoMove, start.play_all, "f5 --", f"move 2: a pass is not a legal move for White in {second}"),
-        (NoMove, start.play_all, "f5z9", "move 2: no square has the name 'z9'"),
-        (ValueError, start.play, "I9", "no square has the name 'I9'"),
-        (TypeError, start.play, None, f"{no_square}None"),
-        (TypeError, start.play, 1.5, f"{no_square}1.5"),
-        (TypeError, start.play, ["F5"], f"{no_square}['F5']"),
-        (TypeError, start.play_all, 5, "moves are a transcript or a list of squares, not 5"),
-    ):
-        with pytest.raises(error, match=f"^{re.escape(why)}$"):
-            call(move)
-
-
-def test_a_game_that_goes_on_has_no_score():
-    for position in (Position.start(), Position.from_obf(AT_PASS)):
-        with pytest.raises(ValueError, match=f"^the game is not over, .*: {position.to_obf()}$"):
-            position.score()
-    with pytest.raises(ffosolve.UnknownScoring):
-        Position.from_obf(FINISHED).score("loser")
-
-
-def test_masks_that_share_a_square_have_no_moves():
-    shared = Position(3, 2)
-    for call in (lambda: shared.legal_moves, lambda: shared.must_pass, lambda: shared.is_over, shared.score,
-                 lambda: shared.play(9), lambda: shared.play_all("f5")):
-        with pytest.raises(ffosolve.SharedSquare):
-            call()
 
 
 def test_only_rules_and_solvers_need_a_library_and_rules_take_that_of_a_solver():
@@ -155,19 +114,6 @@ def test_a_board_as_text_has_letters_scores_and_the_side_to_move():
     shown = str(position.show(SCORES, side="O")).splitlines()
     assert shown[1] == "1 +38*  +36    O    O    O    O    O   +0"
     assert (shown[2][:6], shown[8][-4:], shown[-1]) == ("2 +38*", " -12", "O is to move")
-
-
-def test_wrong_scores_and_sides_are_refused():
-    for scores, side, error, why in (
-        ({"C1": 3}, "X", ValueError, "C1 has a score, but is not empty"),
-        ({"I9": 3}, "X", ValueError, "no square has the name 'I9'"),
-        ({9: 3}, "X", ValueError, "no square has the name 9"),
-        ({"A1": "x"}, "X", TypeError, "the score of A1 is a number, not 'x'"),
-        ({"A1": None}, "X", TypeError, "the score of A1 is a number, not None"),
-        ({}, "black", ValueError, "the side to move is 'X' or 'O', not 'black'"),
-    ):
-        with pytest.raises(error, match=f"^{why}$"):
-            Position.from_obf(BOARD).show(scores, side)
 
 
 def picture(svg):

@@ -26,7 +26,7 @@ def test_python():
 
 
 def test_shell():
-    accepts("shellcheck", *scripts("(ba)?sh"))
+    accepts("shellcheck", "share/completions/bash", *scripts("(ba)?sh"))
 
 
 def test_recipes(folder):

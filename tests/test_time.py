@@ -8,10 +8,9 @@ import pytest
 from ffosolve import MOST_ENTRIES, Position
 from ffosolve._library import CAnswer, CMoveScores, load
 from ffosolve._rules import c_positions
-from tests.prefix import PREFIX, TESTS, C
+from tests.prefix import PREFIX, TESTS, C, installed  # noqa: F401 - a fixture
 from tests.support import built, ends, limited, run, stored, write
 
-setup_module = PREFIX.install
 KINDS = stored("examples", "kinds.obf").decode()
 HARD = b"-XXXXX----XOOX--XXXXOOOO-OXOOOO-OOXOOX--OOX-OOOOOXXXXXX-X----XXX O\n"  # 17 empty squares
 ADVISED = b"-XOOOO-X-XOOOOX--OOXOOXX-OOXXOXO-OXOXXO-OOOXOOX-OOXOOO--OX--O--- X\n"  # a third of the time with a book

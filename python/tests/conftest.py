@@ -1,5 +1,6 @@
 """The library of the checkout, if it is built and no other is named; and the end of the processes that calls start."""
 import os
+import threading
 from pathlib import Path
 
 import pytest
@@ -14,4 +15,7 @@ if LIBRARY.exists():
 @pytest.fixture(autouse=True)
 def end_processes():
     yield
+    for thread in threading.enumerate():
+        if thread.name == "ffosolve":
+            thread.join(5)
     ffosolve._processes.end_idle()

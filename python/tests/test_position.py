@@ -99,12 +99,6 @@ def test_a_position_tells_its_discs():
     for position in (after, after.passed(), after.passed().passed()):
         assert position.discs == (4, 1) == (position.discs.black, position.discs.white)
         assert [position.piece_at(it) for it in ("D5", "e4", 36, "F5", "D4", "A1", 63)] == [*"XXXXO", None, None]
-    for square in ("I1", "", -1, 64):
-        with pytest.raises(ValueError):
-            START.piece_at(square)
-    for square in (None, 1.5):
-        with pytest.raises(TypeError, match="^a square is a name such as 'F5' or a number from 0 to 63, not "):
-            START.piece_at(square)
 
 
 def test_a_legal_move_is_one_that_play_takes():
@@ -118,18 +112,12 @@ def test_a_legal_move_is_one_that_play_takes():
             except ffosolve.NoMove:
                 is_legal = False
             assert position.is_legal(move) == is_legal
-    with pytest.raises(ValueError, match="^no square has the name 'I9'$"):
-        START.is_legal("I9")
 
 
 def test_a_pass_is_played_where_it_is_legal():
-    at_pass, over = Position.from_obf(AT_PASS), Position(2**64 - 1, 0)
+    at_pass = Position.from_obf(AT_PASS)
     for word in ("PS", "ps", "pass", "PASS", "pa", "--"):
         assert at_pass.play(word).to_obf() == at_pass.passed().to_obf() == Solver().play(at_pass, word).to_obf()
-        with pytest.raises(ffosolve.NoMove, match="^a pass is not a legal move for Black in "):
-            START.play(word)
-        with pytest.raises(ffosolve.NoMove, match="^a pass is not a legal move: the game is over in "):
-            over.play(word)
         assert at_pass.play_all([word, "A1", word]) == at_pass.play_all(["A1"]) == at_pass.passed().play("A1")
 
 
@@ -171,7 +159,7 @@ def test_all_images_have_the_same_canonical_image(own, opp, canonical_own, canon
     assert {image.side for image in images} == {"O"}
 
 
-def test_a_symmetry_moves_squares_as_its_comment_says_and_its_inverse_moves_them_back():
+def test_a_symmetry_moves_squares_as_its_help_says_and_its_inverse_moves_them_back():
     """H1 under each symmetry, and any square in column c and row r."""
     assert [it.square("h1") for it in Symmetry] == "H1 A1 H8 A8 A8 H8 A1 H1".split()
     for column, row in itertools.product(range(8), range(8)):
@@ -186,17 +174,6 @@ def test_a_symmetry_moves_squares_as_its_comment_says_and_its_inverse_moves_them
         assert moves == set(START.play("F5").image(symmetry).legal_moves)
 
 
-@pytest.mark.parametrize("number", [-1, 8, 256, 2**32])
-def test_a_number_without_a_symmetry_is_refused(number):
-    with pytest.raises(ffosolve.UnknownSymmetry, match=f"^a symmetry has a number from 0 to 7, not {number}$"):
-        START.image(number)
-
-
-def test_masks_that_share_a_square_have_no_canonical_image():
-    with pytest.raises(ffosolve.SharedSquare):
-        Position(3, 2).canonical()
-
-
 def test_the_picture_marks_the_last_move_and_is_saved(tmp_path):
     mark, after = 'fill="#d0402b"', START.play("F5")
     for position, marks in ((START, 0), (after, 1), (after.passed(), 0), (Position(*after), 0)):
@@ -205,13 +182,6 @@ def test_the_picture_marks_the_last_move_and_is_saved(tmp_path):
         assert xml.etree.ElementTree.fromstring(picture).tag == "{http://www.w3.org/2000/svg}svg"
         assert picture == position._repr_svg_() + "\n" and picture.count(mark) == marks
         assert marks == 0 or f'cx="{22 + 44 * 5 + 22}" cy="{22 + 44 * 4 + 22}" r="5" {mark}' in picture
-    with pytest.raises(ValueError, match="^a board is saved as a picture in SVG, so its file's name ends with .svg: "):
-        after.show().save(tmp_path / "it.png")
-    with pytest.raises(FileNotFoundError):
-        after.show().save(tmp_path / "none" / "it.svg")
-    for square in ("A1", "I9"):
-        with pytest.raises(ValueError):
-            ffosolve.Board(*START, "X", last_move=square)
 
 
 def test_a_line_lists_moves():
@@ -220,10 +190,3 @@ def test_a_line_lists_moves():
     assert position.to_obf(moves=position.listed) == LINE[:67] + " H1:+62; PS:-04;"
     assert position.to_obf("O", moves={"a1": 5, "--": -7.5}) == Position(*position, "O").to_obf() + " A1:+05; --:-7.5;"
     assert Position.from_obf(position.to_obf(moves=position.listed)).listed == position.listed
-    for moves, error, why in (
-        ({"I9": 3}, ValueError, "a move is listed by the name of a square, as PS or as --, not as 'I9'"),
-        ([(3, 3)], ValueError, "a move is listed by the name of a square, as PS or as --, not as 3"),
-        ({"A1": "x"}, TypeError, "the score of A1 is a number, not 'x'"),
-    ):
-        with pytest.raises(error, match=f"^{why}$"):
-            position.to_obf(moves=moves)

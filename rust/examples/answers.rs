@@ -6,9 +6,7 @@
 //!
 //! If the library is not installed, FFOSOLVE_LIB_DIR names its folder.
 use ffosolve::{Answer, Best, Position, Solver};
-use std::error::Error;
-use std::io;
-use std::process::ExitCode;
+use std::{error::Error, io};
 
 fn text(answer: Answer) -> String {
     match answer.best {
@@ -31,43 +29,24 @@ fn read_positions() -> Result<Vec<Position>, Box<dyn Error>> {
 
 /// Plays on to the end, and prints each move with all the legal ones.
 fn play_on(mut position: Position) -> Result<(), Box<dyn Error>> {
-    loop {
-        position = match Solver::new().solve(position)?.best {
-            Best::Moves(mut squares) => {
-                let square = squares.next().ok_or("no best move")?;
-                println!("{square} of {}", position.moves());
-                position.play(square)?
-            }
-            Best::Pass => {
-                println!("PS");
-                position.passed()
-            }
-            Best::Over => return Ok(()),
+    while !position.is_over() {
+        if position.must_pass() {
+            println!("PS");
+            position = position.passed();
         }
+        let square = Solver::new().solve(position)?.squares().next().ok_or("no best move")?;
+        println!("{square} of {}", position.moves());
+        position = position.play(square)?;
     }
+    Ok(())
 }
 
-fn run() -> Result<(), Box<dyn Error>> {
+fn main() -> Result<(), Box<dyn Error>> {
     let positions = read_positions()?;
     let answers = Solver::new().solve_all(&positions)?;
     for (position, answer) in positions.iter().zip(answers) {
         println!("{}", text(answer));
-        if Solver::new().confirm(*position, answer)? != answer {
-            return Err("not confirmed".into());
-        }
+        assert_eq!(Solver::new().confirm(*position, answer), Ok(answer));
     }
-    match positions.first() {
-        Some(first) => play_on(*first),
-        None => Ok(()),
-    }
-}
-
-fn main() -> ExitCode {
-    match run() {
-        Ok(()) => ExitCode::SUCCESS,
-        Err(error) => {
-            eprintln!("{error}");
-            ExitCode::FAILURE
-        }
-    }
+    positions.first().map_or(Ok(()), |first| play_on(*first))
 }

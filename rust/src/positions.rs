@@ -2,6 +2,7 @@
 use crate::{raw, Error, Line, ObfError, Square, Squares};
 
 /// The discs of the mover, which is the side to move, and those of the other side. No square has both.
+#[repr(C)] // laid out as `raw::Position`
 #[derive(Clone, Copy, PartialEq, Eq, Hash, Debug)]
 pub struct Position {
     pub(crate) own: u64,

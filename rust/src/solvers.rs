@@ -1,7 +1,7 @@
 //! The solver, its scorings, its limits and its answers.
 use crate::{raw, Error, Position, Square, Squares};
-use std::sync::atomic::{AtomicUsize, Ordering};
-use std::thread;
+use std::sync::Mutex;
+use std::thread::{self, ScopedJoinHandle};
 
 /// The greatest number of empty squares in a position to solve.
 pub const MOST_EMPTIES: usize = 60;
@@ -135,10 +135,7 @@ impl Solver {
 
     /// The answer for a position.
     pub fn solve(&self, position: Position) -> Result<Answer, Error> {
-        let (mut answer, entries) = (raw::Answer::default(), self.entries_for(&[position])?);
-        // SAFETY: the pointer is to an answer of this call's own.
-        let status = unsafe { raw::ffosolve_solve(position.raw(), self.scoring as u32, entries, &mut answer) };
-        Error::of_status(status, 0).map(|()| Answer::of_raw(answer))
+        self.solve_all(&[position]).map(|answers| answers[0])
     }
 
     /// The answer for a position, found by testing the claimed score first. The claim may be wrong: it is right if the
@@ -172,53 +169,47 @@ impl Solver {
         self.call_all(raw::ffosolve_move_scores_all, unset, read, positions)
     }
 
-    /// The entries of a table for positions, or the refusal of the first that has too many empty squares.
+    /// The entries of a table for positions, or the refusal of the first that has too many empty squares, or of so many
+    /// entries.
     fn entries_for(&self, positions: &[Position]) -> Result<usize, Error> {
         let empties = || positions.iter().map(|position| position.empties().len());
         match empties().position(|count| count > self.max_empties) {
             Some(index) => Err(Error::TooManyEmpties { index }),
+            None if self.entries > Some(MOST_ENTRIES) => Err(Error::TooManyEntries),
             None => Ok(self.entries.unwrap_or_else(|| table_entries(empties().max().unwrap_or(0)))),
         }
     }
 
     /// What `read` makes of each record that `call` writes for the positions.
-    fn call_all<R: Copy + Sync, A: Send>(
+    fn call_all<R: Copy + Send, A>(
         &self, call: CallForAll<R>, unset: R, read: fn(R) -> A, positions: &[Position],
     ) -> Result<Vec<A>, Error> {
         self.entries_for(positions)?; // before any position is solved
-        if self.threads < 2 {
-            return self.call_part(call, unset, read, positions);
-        }
-        let (parts, next) = (parts_of(positions), AtomicUsize::new(0));
-        let work = || {
-            let take = || Some(next.fetch_add(1, Ordering::Relaxed)).filter(|at| *at < parts.len());
-            let solve = |at: usize| (at, self.call_part(call, unset, read, parts[at]));
-            std::iter::from_fn(take).map(solve).collect::<Vec<_>>()
+        // With threads, a part ends with the position that makes it last some hundredths of a second, or longer.
+        let mut weight = 0; // doubles with each empty square from 8 to 16
+        let ends_part = |position: &Position| {
+            weight = weight % (1 << 16) + (1 << position.empties().len().clamp(8, 16));
+            self.threads > 1 && weight >= 1 << 16
         };
-        let mut found = thread::scope(|scope| {
+        let parts = positions.split_inclusive(ends_part);
+        let mut parts: Vec<_> = parts.map(|part| (part, vec![unset; part.len()])).collect();
+        let solve = |(part, found): &mut (&[Position], Vec<R>)| {
+            let (entries, mut at, count) = (self.entries_for(part)?, 0, part.len());
+            let (scoring, from) = (self.scoring as u32, part.as_ptr().cast());
+            // SAFETY: both lists have `count` elements, positions are laid out as in C, and `found` is this call's own.
+            let status = unsafe { call(from, count, scoring, entries, found.as_mut_ptr(), count, &mut at) };
+            Error::of_status(status, at)
+        };
+        let (threads, left) = (self.threads.min(parts.len()), Mutex::new(parts.iter_mut()));
+        let take = || left.lock().expect("a thread that takes a part does not panic").next();
+        let work = || std::iter::from_fn(take).try_for_each(solve);
+        thread::scope(|scope| {
             let start = |_| thread::Builder::new().spawn_scoped(scope, work).ok(); // the caller works in any case
-            let started: Vec<_> = (1..self.threads.min(parts.len())).map(start).collect();
-            let mut found = work();
-            for thread in started.into_iter().flatten() {
-                found.extend(thread.join().expect("a thread that solves does not panic"));
-            }
-            found
-        });
-        found.sort_by_key(|(at, _)| *at);
-        let parts: Result<Vec<Vec<A>>, Error> = found.into_iter().map(|(_, part)| part).collect();
-        Ok(parts?.into_iter().flatten().collect())
-    }
-
-    fn call_part<R: Copy, A>(
-        &self, call: CallForAll<R>, unset: R, read: fn(R) -> A, positions: &[Position],
-    ) -> Result<Vec<A>, Error> {
-        let asked: Vec<raw::Position> = positions.iter().map(|position| position.raw()).collect();
-        let (mut found, count, mut at) = (vec![unset; asked.len()], asked.len(), 0);
-        let (entries, scoring, to) = (self.entries_for(positions)?, self.scoring as u32, found.as_mut_ptr());
-        // SAFETY: the lists have these lengths, and `found` is this call's own.
-        let status = unsafe { call(asked.as_ptr(), count, scoring, entries, to, count, &mut at) };
-        Error::of_status(status, at)?;
-        Ok(found.into_iter().map(read).collect())
+            let started: Vec<_> = (1..threads).map_while(start).collect();
+            let join = |thread: ScopedJoinHandle<_>| thread.join().expect("a thread that solves does not panic");
+            started.into_iter().map(join).fold(work(), Result::and)
+        })?;
+        Ok(parts.into_iter().flat_map(|(_, found)| found).map(read).collect())
     }
 }
 
@@ -226,18 +217,4 @@ impl Default for Solver {
     fn default() -> Solver {
         Solver::new()
     }
-}
-
-/// Cuts positions into parts that are solved in some hundredths of a second, or that end with a position that takes
-/// longer. The weight of a position doubles with each empty square from 8 to 16.
-fn parts_of(positions: &[Position]) -> Vec<&[Position]> {
-    let (mut parts, mut start, mut weight) = (Vec::new(), 0, 0);
-    for (at, position) in positions.iter().enumerate() {
-        weight += 1 << position.empties().len().clamp(8, 16);
-        if weight >= 1 << 16 || at + 1 == positions.len() {
-            parts.push(&positions[start..=at]);
-            (start, weight) = (at + 1, 0);
-        }
-    }
-    parts
 }

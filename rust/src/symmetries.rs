@@ -38,21 +38,13 @@ impl Symmetry {
             _ => self,
         }
     }
-
-    fn mask(self, mask: u64) -> u64 {
-        let mut image = 0;
-        // SAFETY: the pointer is to a number of this call's own.
-        let status = unsafe { raw::ffosolve_image(mask, self as u32, &mut image) };
-        debug_assert_eq!(status, 0, "the library knows eight symmetries");
-        image
-    }
 }
 
 impl Square {
     /// The square to which a symmetry sends this one.
     #[must_use]
     pub fn image(self, symmetry: Symmetry) -> Square {
-        Squares(symmetry.mask(self.bit())).next().unwrap_or(self)
+        Squares(self.bit()).image(symmetry).next().unwrap_or(self)
     }
 }
 
@@ -60,7 +52,11 @@ impl Squares {
     /// The squares to which a symmetry sends these.
     #[must_use]
     pub fn image(self, symmetry: Symmetry) -> Squares {
-        Squares(symmetry.mask(self.0))
+        let mut image = 0;
+        // SAFETY: the pointer is to a number of this call's own.
+        let status = unsafe { raw::ffosolve_image(self.0, symmetry as u32, &mut image) };
+        debug_assert_eq!(status, 0, "the library knows eight symmetries");
+        Squares(image)
     }
 }
 
@@ -69,7 +65,7 @@ impl Position {
     /// best moves are its best moves.
     #[must_use]
     pub fn image(self, symmetry: Symmetry) -> Position {
-        Position { own: symmetry.mask(self.own), opp: symmetry.mask(self.opp) }
+        Position { own: self.own().image(symmetry).0, opp: self.opp().image(symmetry).0 }
     }
 
     /// The canonical position, which is the same for all eight images of a position, and which books hold; and the

@@ -18,42 +18,49 @@ impl fmt::Display for TranscriptError {
 
 impl std::error::Error for TranscriptError {}
 
-/// The length in bytes of the first move, pass or other text of a word.
-fn first_length(word: &str) -> usize {
-    let hyphens = word.bytes().take_while(|byte| *byte == b'-').count();
-    match ["pass", "ps", "pa"].into_iter().find(|pass| word.starts_with(pass)) {
-        Some(pass) => pass.len(),
-        None if hyphens > 0 => hyphens,
-        None => word.chars().take(2).map(char::len_utf8).sum(),
+/// The squares and passes of a transcript, in small letters, and other text in words of one or two characters.
+fn words_of(transcript: &str) -> Vec<String> {
+    let is_digit = |c: char| c.is_ascii_digit();
+    let text = transcript.split('%').next().unwrap_or("").to_ascii_lowercase();
+    let mut text = text.trim_start();
+    while let Some((_, after)) = text.strip_prefix('[').and_then(|header| header.split_once(']')) {
+        text = after.trim_start();
     }
-}
-
-/// The squares and passes of a transcript, in small letters, and other text in words of two characters.
-fn moves_of(text: &str) -> Vec<&str> {
-    let text = text.split('%').next().unwrap_or("");
-    let mut words: Vec<&str> = text.split([' ', '\t', '\r', '\n', ',']).filter(|word| !word.is_empty()).collect();
-    if words.last().map_or(false, |last| !last.contains(char::is_alphabetic) && !last.starts_with("--")) {
-        words.pop(); // a result
+    let mut parts: Vec<&str> = text.split([' ', '\t', '\r', '\n', ',']).collect();
+    parts.retain(|part| !part.is_empty());
+    if parts.last().map_or(false, |last| last.contains(is_digit) && !last.contains(char::is_alphabetic)) {
+        parts.pop(); // a result
     }
-    let mut moves = Vec::new();
-    for word in words {
-        let mut rest = word.trim_start_matches(|c: char| c.is_ascii_digit()).trim_start_matches(['.', ')', ':']);
+    let mut words = Vec::new();
+    for part in parts {
+        let mut rest = part.trim_start_matches(is_digit);
         while !rest.is_empty() {
-            let (found, after) = rest.split_at(first_length(rest));
-            moves.push(found);
-            rest = after;
+            rest = match rest.split_once(['.', ')', ':']) {
+                Some((number, after)) if number.chars().all(is_digit) => after,
+                _ => {
+                    let length = match rest.len() - rest.trim_start_matches('-').len() {
+                        0 if rest.starts_with("pass") => 4,
+                        0 => rest.chars().take(2).map(char::len_utf8).sum(),
+                        hyphens => hyphens,
+                    };
+                    let (word, after) = rest.split_at(length);
+                    words.push(word.to_owned());
+                    after
+                }
+            };
         }
     }
-    moves.retain(|found| *found != "-");
-    moves
+    words.retain(|word| word != "-");
+    words
 }
 
 impl Position {
     /// The positions of a game that goes on from here: this position, and the one after each move of a transcript such
     /// as `f5d6c3`, but none after a pass.
     ///
-    /// Between moves may be blanks, commas, a hyphen, and numbers such as `1.`, and at the end a result such as
-    /// `33-31`. A pass is `--`, `ps`, `pa` or `pass`, and may be left out. A `%` begins a comment.
+    /// Between moves may be blanks, commas, a hyphen, and numbers such as `1.`; at the beginning, headers in brackets
+    /// such as `[Black "Ann"]`; at the end, a result such as `33-31`. A pass is `--`, `ps`, `pa` or `pass`, and may be
+    /// left out. A `%` begins a comment. Games in GGF are not read.
     ///
     /// # Errors
     /// The first word that is no legal move.
@@ -68,16 +75,16 @@ impl Position {
 
     fn played(self, transcript: &str) -> Result<(Vec<Position>, Position), TranscriptError> {
         let (mut at, mut positions) = (self, vec![self]);
-        for word in moves_of(&transcript.to_ascii_lowercase()) {
-            let is_pass = word.starts_with(['-', 'p']);
-            if at.moves().is_empty() && (is_pass || at.must_pass()) {
+        for word in words_of(transcript) {
+            let may_pass = at.moves().is_empty();
+            if at.must_pass() {
                 at = at.passed();
-                if is_pass {
-                    continue;
-                }
+            }
+            if may_pass && (matches!(&word[..], "pass" | "ps" | "pa") || word.starts_with("--")) {
+                continue;
             }
             let after = word.parse().ok().and_then(|square: Square| at.play(square).ok());
-            at = after.ok_or_else(|| TranscriptError { number: positions.len(), word: word.to_owned() })?;
+            at = after.ok_or(TranscriptError { number: positions.len(), word })?;
             positions.push(at);
         }
         Ok((positions, at))

@@ -32,6 +32,8 @@ fn solves() {
     let (solver, pass, over) = (Solver::default(), position(0x7e, !0x7f), position(0xffff_ffff, 0xffff << 48));
     let [at_pass, at_end] = [(-64, Best::Pass), (32, Best::Over)].map(|(score, best)| Answer { score, best });
     assert_eq!(solver, Solver::new());
+    let states = [corners(), pass, over].map(|position| (position.must_pass(), position.is_over()));
+    assert_eq!(states, [(false, false), (true, false), (false, true)]);
     assert_eq!(solver.solve_all(&[corners(), pass, over]), Ok(vec![ANSWER, at_pass, at_end]));
     assert_eq!(solver.solve_all(&[]), Ok(Vec::new()));
     assert_eq!(solver.move_scores(corners()), Ok(vec![(square("A1"), 52), (square("H1"), 62)]));
@@ -79,17 +81,25 @@ fn reads_transcripts() {
     assert!(moves.contains(&"--".to_owned()));
     let without_passes = moves.concat().replace("--", "");
     let numbered: String = moves.iter().enumerate().map(|(at, word)| format!("{}. {word},", at + 1)).collect();
-    let texts = [moves.join(" "), without_passes.to_lowercase(), moves.join("-"), numbered + "33-31 % f5"];
+    let glued = numbered.replace(". ", ".").replace(',', "");
+    let texts = [moves.join(" "), without_passes.to_lowercase(), moves.join("-"), numbered + "33-31 % f5",
+        format!("[Event \"f5\"] [Black \"Ann\"]\n{glued} (40:24)"), glued.replace("--", "pass") + "---PA"];
     for text in texts {
         assert_eq!(start.positions(&text).as_ref(), Ok(&positions), "{text}");
         assert_eq!(start.play_all(&text), Ok(last));
     }
+    let pass = position(0x7e, !0x7f);
+    for text in ["--", "ps", "PA", "pass", "---"] {
+        assert_eq!(pass.play_all(text), Ok(pass.passed()), "{text}");
+    }
+    assert_eq!((pass.play_all("-"), pass.play_all("p9").is_err()), (Ok(pass), true));
     let halves = without_passes.split_at(40);
     assert_eq!(start.play_all(halves.0).and_then(|middle| middle.play_all(halves.1)), Ok(last));
     assert_eq!((start.positions(""), start.play_all("% f5")), (Ok(vec![start]), Ok(start)));
     for (text, number, word) in [
         ("f5d6d6", 3, "d6"), ("f5 pass", 2, "pass"), ("e3", 1, "e3"), ("F5z9d6", 2, "z9"), ("f5 d", 2, "d"),
-        ("f5 12 +2 d6", 2, "+2"), ("f5\u{e4}\u{f6}", 2, "\u{e4}\u{f6}"),
+        ("f5 12 +2 d6", 2, "+2"), ("f5 ++", 2, "++"), ("f5d6c33d3", 4, "3d"), ("f5 [d6] c3", 2, "[d"),
+        ("f5\u{e4}\u{f6}", 2, "\u{e4}\u{f6}"),
     ] {
         let error = start.play_all(text).expect_err(text);
         assert_eq!((error.number, &error.word[..]), (number, word));
@@ -133,6 +143,7 @@ fn refuses() {
     assert_eq!(Position::new(3, 2), Err(Error::SharedSquare));
     let (solver, large) = (Solver::new(), Solver::new().entries(MOST_ENTRIES + 1));
     assert_eq!(solver, solver.max_empties(DEFAULT_EMPTIES));
+    assert_eq!(solver.max_empties(99), solver.max_empties(MOST_EMPTIES));
     let (of_21, of_60) = (position(1, !1 << 21), position(1, !1 << 60));
     for (most, of, is_solved) in [(20, of_21, false), (21, of_21, true), (99, of_60, true), (99, wide, false)] {
         let solver = solver.max_empties(most);
@@ -146,8 +157,13 @@ fn refuses() {
         assert_eq!(by.confirm(of, ANSWER), Err(error));
         assert_eq!(by.move_scores(of), Err(error));
     }
-    assert_eq!(solver.solve_all(&[corners(), wide, wide]), Err(Error::TooManyEmpties { index: 1 }));
-    assert_eq!(large.solve_all(&[]), Err(Error::TooManyEntries));
+    let many = [vec![corners(); 300], vec![wide; 2]].concat();
+    for threads in [1, 2] {
+        assert_eq!(solver.threads(threads).solve_all(&many), Err(Error::TooManyEmpties { index: 300 }));
+        for few in [&many[..0], &many[..300]] {
+            assert_eq!(large.threads(threads).solve_all(few), Err(Error::TooManyEntries));
+        }
+    }
     assert_eq!(solver.entries(MOST_ENTRIES).solve(corners()), Ok(ANSWER));
 }
 

@@ -23,7 +23,8 @@ pub enum SolveError<'a> {
     Program(ProgramError<'a>),
     /// The job board refused a step, or a job under another scoring was taken.
     Mixed,
-    /// The file of the book to be read is not a book. Out of memory is `Program(Memory)`.
+    /// The file that is read as a book has this fault. It is never `BookFault::Memory`, for which
+    /// `Program(Memory)` stands.
     BadBook(BookFault),
     /// The book to be read is on a device of this name, which may have no end.
     BookOnDevice(&'a str),

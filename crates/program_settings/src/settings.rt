@@ -54,10 +54,10 @@ impl Model for Settings {
 }
 
 impl Settings {
-    /// Settings by which positions of at most `max_empties` empty squares are solved, on `workers`
-    /// threads besides one per file, over a table of `table` entries. A line may leave out best
-    /// moves. None if a number is above its limit: `MOST_EMPTIES`, `MOST_WORKERS` and
-    /// `MOST_ENTRIES`.
+    /// Settings by which positions of at most `max_empties` empty squares are solved, over a table
+    /// of `table` entries, on `workers` threads besides those that a program has in any case: one
+    /// for each file in `ffosolve`, one in `ffoscores`. A line may leave out best moves. None if a
+    /// number is above its limit: `MOST_EMPTIES`, `MOST_WORKERS` and `MOST_ENTRIES`.
     pub fn new(max_empties: u8, workers: u8, table: u32, scoring: Scoring) -> Option<Settings>
         ensures within { IsSome result ↔ IsWithinLimits (record {
           max_empties = max_empties;
@@ -101,7 +101,8 @@ impl Settings {
         self.max_empties
     }
 
-    /// The number of worker threads, besides one thread for each file.
+    /// The number of worker threads: in `ffosolve` besides one thread for each file, in `ffoscores`
+    /// besides one.
     pub fn workers(&self) -> u8
         ensures { result ≡ self.now.workers }
     {

@@ -2,12 +2,10 @@
 
 ghost use Rattle.std.specs.Prelude.{◌≡◌, option_map};
 ghost use Rattle.std.specs.List.{find};
-ghost use Rattle.obf_text.specs.declared.entries.ListedMove.TheVariants.{At};
 ghost use Rattle.scored_lines.specs.Checks.{asks_for_best, is_greatest, is_left_out, same_move};
 ghost use Rattle.scored_lines.specs.Checks.{score_in, wrong_in};
 
 use obf_text::ListedMove;
-use othello_rules::Square;
 
 /// A listed move with a wrong score: `score` is the move's score in the position, as the side to
 /// move sees it, and `claimed` the listed one. `score` is None if the position has no such move.
@@ -18,22 +16,12 @@ pub struct Wrong {
     pub score: Option<i8>,
 }
 
-// Whether a listed move is the move to this square.
-fn is_square(listed: ListedMove, square: Square) -> bool
-    ensures { result ≡ same_move listed (At square) }
-{
-    match listed {
-        ListedMove::At(other) => other.number() == square.number(),
-        _ => false,
-    }
-}
-
 // Whether two listed moves are equal.
 fn same_move(a: ListedMove, b: ListedMove) -> bool
     ensures { result ≡ same_move a b }
 {
     match b {
-        ListedMove::At(square) => is_square(a, square),
+        ListedMove::At(square) => a.is_move_to(square),
         ListedMove::Pass => matches!(a, ListedMove::Pass),
         ListedMove::Over => matches!(a, ListedMove::Over),
     }

@@ -97,7 +97,7 @@ pub fn send_and_close<R: Wait>(
 }
 
 /// Does the work of `client_part`, but refuses and checks lines by these criteria.
-pub(crate) fn client_part_by<R: Wait, T: Bounds, G: Gate>(
+pub(crate) fn client_part_by_criteria<R: Wait, T: Bounds, G: Gate>(
     rt: &R,
     alloc: Global,
     text: &[u8],
@@ -160,5 +160,5 @@ pub fn client_part<R: Wait, T: Bounds, G: Gate>(
         limit,
         complete: false,
     };
-    client_part_by(rt, alloc, text, sender, criteria, &worker)
+    client_part_by_criteria(rt, alloc, text, sender, criteria, &worker)
 }

@@ -13,7 +13,7 @@ ghost use Rattle.suite_runs.specs.declared.run_fault.RunFault.TheVariants.{Mixed
 use crate::gate::Gate;
 use crate::outcome::{Outcome, outcome_of};
 use crate::run_fault::RunFault;
-use crate::serial::solve_texts;
+use crate::serial::solve_files_serially;
 use crate::threads::solve_files;
 use program_settings::{Settings, check_files};
 use solved_book::Claims;
@@ -34,7 +34,7 @@ fn run_files(
     ensures unmixed { result ≢ Err Mixed }
 {
     check_files(files)?;
-    let solved = solve_texts(alloc, files, settings, claims)?;
+    let solved = solve_files_serially(alloc, files, settings, claims)?;
     Ok(outcome_of(alloc, &solved)?)
 }
 
@@ -83,7 +83,7 @@ fn run_threads<R: Threads + Wait + Sync, G: Gate>(
 }
 
 /// Solves the positions of files on threads, as `solve_files` does, and makes their reports and
-/// their book.
+/// their book. No program calls it: it is for tests and other users of this library.
 ///
 /// Reports and book are those of `run_serial`, for every number of workers and every gate. So are
 /// `TooManyFiles` and `FileTooLarge`, which come before a thread is started or the gate is called.

@@ -59,7 +59,7 @@ fn solve_text<T: Bounds>(
 
 /// Solves the files on the calling thread, one after the other, over one table of bounds. There are
 /// at most `MOST_FILES` files, none of more than `MOST_BYTES` bytes. The only error is out of memory.
-pub(crate) fn solve_texts(
+pub(crate) fn solve_files_serially(
     alloc: Global,
     files: &[Vec<u8>],
     settings: &Settings,

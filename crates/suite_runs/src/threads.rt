@@ -9,7 +9,7 @@ ghost use Rattle.program_settings.specs.InputFault.{first_large};
 ghost use Rattle.suite_runs.specs.Runs.{Answers, AreFilesOf};
 ghost use Rattle.suite_runs.specs.Threads.{started_view};
 
-use crate::client::client_part_by;
+use crate::client::client_part_by_criteria;
 use crate::gate::Gate;
 use crate::joined::{Joined, join_all};
 use crate::part::Part;
@@ -69,7 +69,7 @@ fn start<'a, E, R: Threads + Wait + Sync, G: Gate>(
             // A second call, since a closure knows only the types of what it captures.
             let criteria = shared.settings.criteria();
             let worker = shared.worker(claims, gate);
-            client_part_by(rt, shared.alloc, text, sender, criteria, &worker)
+            client_part_by_criteria(rt, shared.alloc, text, sender, criteria, &worker)
         },
     );
     let thread = match spawned {

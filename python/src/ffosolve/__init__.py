@@ -37,9 +37,10 @@ A notebook shows a position as a picture. `position.show(solver.move_scores(posi
 
 A call that is left stops at once: by Ctrl-C, or another signal whose handler raises an exception; by `timeout=SECONDS`
 (TimeoutError); if an iterator is closed; or if asyncio cancels what awaits `asyncio.to_thread(solver.solve, position)`.
-For that, calls that may last are made in processes of their own, which end with the program. Brief calls, for one
-position with at most 14 empty squares or 4,096 with at most 8, are made without; they end within 0.2 seconds anyway.
-Several threads may call at once, and so may the processes of a pool, since a Solver can be pickled.
+The last works in the thread pools of Python 3.8 to 3.13; in others, a call goes on until its `timeout`. For all this,
+calls that may last are made in processes of their own, which end with the program. Brief calls, for one position with
+at most 14 empty squares or 4,096 with at most 8, are made without; they end within 0.2 seconds anyway. Several threads
+may call at once, and so may the processes of a pool, since a Solver can be pickled.
 
 The wheel that `make wheel` builds contains the shared library. Without that wheel, install the library, or name its
 path: `Solver("FOLDER/libffosolve.so")` or FFOSOLVE_LIBRARY. Reading, writing and showing positions needs no library.

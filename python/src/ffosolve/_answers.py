@@ -17,11 +17,13 @@ class Named(enum.IntEnum):
 
 
 class Scoring(Named):
-    """How the end of a game is scored for the side to move. `Scoring("winner")` is Scoring.WINNER."""
+    """How the end of a game is scored for the side to move. DISCS: own discs minus the other side's. WINNER: the same,
+    but the winner also gets the empty squares. SIGN: 1, 0 or -1 for a win, a draw or a loss. `Scoring("winner")` is
+    Scoring.WINNER."""
 
-    WINNER = 0  # own discs minus the other side's; the winner gets the empty squares
-    DISCS = 1  # own discs minus the other side's
-    SIGN = 2  # 1, 0 or -1 for a win, a draw or a loss
+    WINNER = 0
+    DISCS = 1
+    SIGN = 2
 
     @classmethod
     def _missing_(cls, value: object) -> Optional["Scoring"]:
@@ -37,11 +39,12 @@ def scoring_of(value: Union[Scoring, int, str]) -> Scoring:
 
 
 class Kind(Named):
-    """How the side to move reaches its score: by a move, by a pass, or because the game is over."""
+    """How the side to move reaches its score: MOVES, by a move; PASS, by a pass, since only the other side has a legal
+    move; or OVER, since neither side has one."""
 
     MOVES = 0
-    PASS = 1  # the side to move has no legal move, but the other side has one
-    OVER = 2  # neither side has a legal move
+    PASS = 1
+    OVER = 2
 
 
 ENDS = {Kind.PASS: "PS", Kind.OVER: "--"}

@@ -32,29 +32,29 @@ def parts_of(positions: Iterable[Sequence[int]], max_empties: int, whole: bool =
     """Yields Parts of `positions`; if `whole`, one at most. At a refused position, yields the Part that ends before it,
     maybe empty, and last a Refused. Raises TypeError for what is no position, ValueError for most wrong masks."""
     clock = time.monotonic
-    before, most, weight, part, end = 0, 0, 0, [], clock() + MOST_SECONDS  # type: ignore[var-annotated]
-    for position in checked_positions(positions):
+    part, most, weight, end = [], 0, 0, clock() + MOST_SECONDS  # type: ignore[var-annotated]
+    for index, position in enumerate(checked_positions(positions)):
         try:
             own, opp = position
             empties = 64 - size_of(own | opp)
         except (TypeError, ValueError):
             raise not_a_position(position) from None
         if own & opp or empties > max_empties:
-            refusal = refusal_for(position, max_empties, before + len(part))
+            refusal = refusal_for(position, max_empties, index)
             yield Part(part, most)
             yield refusal
             return
         more = 1 if empties <= LIGHTEST else 1 << (empties - LIGHTEST)
         if part and weight + more > MOST_WEIGHT and not whole:
             yield Part(part, most)
-            before, most, weight, part = before + len(part), 0, 0, []
+            part, most, weight = [], 0, 0
         if empties > most:
             most = empties
         weight += more
         part.append(position)
         if (weight >= MOST_WEIGHT or clock() > end) and not whole:
             yield Part(part, most)
-            before, most, weight, part, end = before + len(part), 0, 0, [], clock() + MOST_SECONDS
+            part, most, weight, end = [], 0, 0, clock() + MOST_SECONDS
     if part:
         yield Part(part, most)
 
@@ -64,7 +64,7 @@ def checked_threads(threads: int) -> int:
 
 
 def in_order(run: Run, call: Callable[[Run, A], Iterable[B]], parts: Iterable[A], threads: int) -> Iterator[B]:
-    """Calls `call` with `run` and each of `parts`, on up to `threads` new threads or, if `threads` is 1, on the
+    """Calls `call` with `run` and each of `parts`, on up to `threads` new threads at once or, if `threads` is 1, on the
     caller's. Yields the items that the calls return, in the order of `parts`. Stops `run` when it is left."""
     if threads == 1:
         for part in parts:
@@ -72,43 +72,34 @@ def in_order(run: Run, call: Callable[[Run, A], Iterable[B]], parts: Iterable[A]
             yield from call(run, part)
         return
     tasks: "queue.SimpleQueue[Any]" = queue.SimpleQueue()
-    waiting: Deque[Any] = deque()
-    started = 0
+    waiting: Deque["Future[Iterable[B]]"] = deque()
+
+    def work() -> None:
+        taken: Iterator[Any] = iter(tasks.get, None)
+        for future, part in taken:
+            try:
+                run.wait_seconds()
+                future.set_result(call(run, part))
+            except BaseException as error:
+                future.set_exception(error)
+        tasks.put(None)  # ends the next thread
+
     try:
-        for part in parts:
-            if started < threads:
-                start_worker(iter(tasks.get, None))
-                started += 1
+        for number, part in enumerate(parts):
+            if number < threads:
+                threading.Thread(target=work, name="ffosolve", daemon=True).start()
             waiting.append(Future())
-            tasks.put((waiting[-1], call, run, part))
+            tasks.put((waiting[-1], part))
             while waiting and (waiting[0].done() or len(waiting) >= AHEAD * threads):
                 yield from result_of(waiting.popleft(), run)
         while waiting:
             yield from result_of(waiting.popleft(), run)
     finally:
-        for future in waiting:
-            future.cancel()
-        for _ in range(started):
-            tasks.put(None)
-        run.stop()
+        run.is_left = True
+        tasks.put(None)
 
 
 def result_of(future: "Future[A]", run: Run) -> A:
     while not future.done():
         wait([future], run.wait_seconds())
     return future.result()
-
-
-def start_worker(tasks: Iterable[Any]) -> None:
-    """Starts a daemon thread, which takes (Future, function, arguments..) from `tasks`. If the Future is not cancelled,
-    the thread calls the function with the arguments, and stores the result or the exception in the Future."""
-
-    def work() -> None:
-        for future, call, *arguments in tasks:
-            if future.set_running_or_notify_cancel():
-                try:
-                    future.set_result(call(*arguments))
-                except BaseException as error:
-                    future.set_exception(error)
-
-    threading.Thread(target=work, name="ffosolve", daemon=True).start()

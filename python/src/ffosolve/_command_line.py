@@ -48,10 +48,10 @@ class Parser(argparse.ArgumentParser):
         super().__init__(name, usage, what, more, formatter_class=argparse.RawDescriptionHelpFormatter,
                          allow_abbrev=False, add_help=False)
 
-    def add_common(self, group: Any, version: str = "print the version", usage: str = "print this help") -> None:
-        """Adds --version and --help, explained by these texts, to a group of options or to the parser itself."""
-        group.add_argument("--version", "-V", action="version", help=version)
-        group.add_argument("--help", "-h", action="help", help=usage)
+    def add_common(self, group: Any) -> None:
+        """Adds --version and --help to a group of options or to the parser itself."""
+        group.add_argument("--version", "-V", action="version", help="print the version")
+        group.add_argument("--help", "-h", action="help", help="print this help")
 
     @property
     def version(self) -> str:
@@ -142,18 +142,24 @@ def write_whole(files: Mapping[str, Iterable[bytes]], replaces: bool = False, mo
     FileExistsError; without hard links, always replaces it. OSError has the path as `filename`. After an error, files
     that have got their paths stay."""
     complete: Dict[str, str] = {}  # for each path, a temporary file next to it
+    flags = os.O_WRONLY | os.O_CREAT | os.O_EXCL
     try:
         for path, pieces in files.items():
             complete[path] = f"{path}.{os.urandom(4).hex()}.new"
             _unfinished.add(complete[path])
-            with open(complete[path], "xb", opener=_opener(0o666 if mode is None else mode)) as file:
+            with open(os.open(complete[path], flags, 0o666 if mode is None else mode), "wb") as file:
                 file.writelines(pieces)
                 file.flush()
                 if mode is not None:
                     os.fchmod(file.fileno(), mode)
                 os.fsync(file.fileno())
         for path, written in complete.items():
-            _give_name(written, path, replaces)
+            try:
+                os.replace(written, path) if replaces else os.link(written, path)  # which never replaces a file
+            except FileExistsError:
+                raise
+            except OSError:  # a file system without hard links
+                os.replace(written, path)
     except OSError as error:
         error.filename = path
         raise
@@ -162,21 +168,6 @@ def write_whole(files: Mapping[str, Iterable[bytes]], replaces: bool = False, mo
             with contextlib.suppress(OSError):
                 os.unlink(written)
             _unfinished.discard(written)
-
-
-def _opener(mode: int) -> Callable[[str, int], int]:
-    return lambda path, flags: os.open(path, flags, mode)
-
-
-def _give_name(written: str, path: str, replaces: bool) -> None:
-    try:
-        if not replaces:
-            return os.link(written, path)  # never replaces a file
-    except FileExistsError:
-        raise
-    except OSError:  # a file system without hard links
-        pass
-    os.replace(written, path)
 
 
 def end_by(number: int) -> NoReturn:

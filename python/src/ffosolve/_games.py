@@ -8,7 +8,7 @@ from typing import Any, BinaryIO, Callable, Iterator, List, NamedTuple, Optional
 from ._boards import OTHER
 from ._library import CPosition, loaded
 from ._positions import START, Position
-from ._rules import NO_SQUARE, illegal_move, moves, size_of
+from ._rules import NO_SQUARE, illegal_move, moves
 from ._squares import NAMES
 from ._text import NotText, refuse_archive, text_lines
 from ._transcripts import PASSES, words_of
@@ -207,13 +207,13 @@ def played(game: Game) -> List[Tuple[CPosition, str]]:
         after = CPosition()
         if library.ffosolve_play(at, square, after):
             position = position_of(at, side)
-            if not moves(library, position) and (square == PASS or moves(library, position.passed())):
+            if not moves(position) and (square == PASS or moves(position.passed())):
                 position = position.passed()
                 at, side = CPosition(*position), position.side
                 if square == PASS:
                     continue
             if library.ffosolve_play(at, square, after):
-                refusal = illegal_move(library, position, "a pass" if square == PASS else NAMES[square])
+                refusal = illegal_move(position, "a pass" if square == PASS else NAMES[square])
                 raise GameRefused(refusal.reason, game.number, len(found))
         at, side = after, OTHER[side]
         found.append((at, side))
@@ -236,13 +236,10 @@ def final_discs(found: List[Tuple[CPosition, str]]) -> Optional[int]:
     """The number of Black's discs at the end of a game, 32 after a draw; the winner also gets the empty squares. It is
     None if the game is not over. `found` is what `played` returned for the game."""
     last = position_of(*found[-1])
-    return discs_of_black(final_score(*last), last.side) if not last.empties or last.is_over else None
-
-
-def final_score(own: int, opp: int) -> int:
-    """The score of a finished game for the mover, whose discs are `own`; the winner also gets the empty squares."""
-    mine, theirs = size_of(own), size_of(opp)
-    return mine - theirs + (64 - mine - theirs) * ((mine > theirs) - (mine < theirs))
+    if last.empties and not last.is_over:
+        return None
+    black, white = last.discs
+    return 32 if black == white else black if black < white else MOST_DISCS - white
 
 
 def discs_of_black(score: int, side: str) -> int:

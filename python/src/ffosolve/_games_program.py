@@ -7,16 +7,16 @@ import re
 import shutil
 import subprocess
 import sys
-from typing import Callable, Dict, Iterator, List, NoReturn, Optional, Tuple
+from typing import Callable, Counter, Dict, Iterator, List, NamedTuple, NoReturn, Optional, Tuple
 
 from ._command_line import DONE, MISSING, MISUSED, REMARKED, UNREADABLE
 from ._command_line import Parser, Refusal, print_all, refusing, run, say, write_whole
-from ._fix_wthor import Fixed
-from ._games import MOST_DISCS, Game, GameRefused, discs_of_black, final_discs, games_in, played, position_with
+from ._games import (MOST_DISCS, REAL, RECORD, SCORE, Game, GameRefused, discs_of_black, final_discs, games_in, played,
+                     position_with)
 from ._library import MOST_EMPTIES, LibraryNotFound, load
 from ._positions import Position
 from ._text import NotText, shown, text_lines
-from ._theoretical_scores import BadBook, Scored, exact_scores, title
+from ._theoretical_scores import corrected, exact_scores, title
 
 NAME = "ffosolve-games"
 USAGE = f"""{NAME} [--empties N] [FILE ...]
@@ -157,46 +157,62 @@ def main(find: Callable[[], Optional[str]] = lambda: None) -> NoReturn:
     run(NAME, program)
 
 
+class Found(NamedTuple):
+    """A game of a file, and its first position with N empty squares, or None if it is refused. Scores are None if they
+    are not known: the right real score, and the exact theoretical one, which a book has."""
+
+    file: str
+    game: Game
+    position: Optional[Position]
+    real: Optional[int]
+    exact: Optional[int] = None
+
+    @property
+    def difference(self) -> int:
+        """The published score minus the exact one, or 0 if that is not known."""
+        return 0 if self.exact is None or self.game.score is None else self.game.score - self.exact
+
+
 def list_games(options: argparse.Namespace, messages: Messages) -> Iterator[bytes]:
     """Yields the lines of a list: a position of each game, with its theoretical score, if any, in the comment."""
     for name in options.files or ["-"]:
         listed = shown(name) if any(letter < " " for letter in name) else name
         try:
-            with opened(name) as file:
-                for game, position in with_positions(file, name, options, messages):
-                    score = "" if game.score is None else f", theoretical score {game.score}"
-                    yield os.fsencode(f"{position.to_obf()} % {listed}, game {game.number}{score}")
+            for it in found_in(name, options, messages):
+                if it.position is not None:
+                    score = "" if it.game.score is None else f", theoretical score {it.game.score}"
+                    yield os.fsencode(f"{it.position.to_obf()} % {listed}, game {it.game.number}{score}")
         except Refusal as why:
             messages.report(why, why.status)
 
 
-def with_positions(
-    file: io.BufferedReader, name: str, options: argparse.Namespace, messages: Messages
-) -> Iterator[Tuple[Game, Position]]:
-    """Yields (game, its first position with N empty squares) for each game of a file, or reports why a game has none.
-    N is that of --empties or, without it and for `check` and `compare`, that of the file's header; refuses if there
-    is none. A theoretical score for another N is left out. Also reports what `wrong_scores` finds."""
-    games, of_scores = games_in(file, shown(name))
-    if options.task and of_scores is None:
-        raise Refusal(f"{shown(name)} is a text, which has no theoretical scores")
-    empties = of_scores if options.empties is None or options.task and of_scores else options.empties
-    if empties is None:
-        raise Refusal(f"{shown(name)} is a text: its games need --empties N", MISUSED)
-    if options.empties is None and empties == 0:
-        raise Refusal(f"{shown(name)} does not say how many squares are empty at its theoretical scores; "
-                      "try --empties 22 or 24, the usual numbers", MISUSED)
-    for game in games:
-        try:
-            found = played(game)
-            position = position_with(empties, game, found)
-        except GameRefused as why:
-            messages.report(f"{shown(name)}, {why}", REMARKED)
-            continue
-        if game.empties not in (None, empties):
-            game = game._replace(score=None)
-        yield game, position
-        for wrong in wrong_scores(game, final_discs(found)):
-            messages.report(f"{shown(name)}, game {game.number}{title(name, game.number)}: {wrong}", REMARKED)
+def found_in(name: str, options: argparse.Namespace, messages: Messages) -> Iterator[Found]:
+    """Yields the games of a file, and reports what is wrong with them. N is that of --empties or, without it and for
+    `check` and `compare`, that of the file's header; refuses if there is none. A theoretical score for another N is
+    left out."""
+    with opened(name) as file:
+        games, of_scores = games_in(file, shown(name))
+        if options.task and of_scores is None:
+            raise Refusal(f"{shown(name)} is a text, which has no theoretical scores")
+        empties = of_scores if options.empties is None or options.task and of_scores else options.empties
+        if empties is None:
+            raise Refusal(f"{shown(name)} is a text: its games need --empties N", MISUSED)
+        if options.empties is None and empties == 0:
+            raise Refusal(f"{shown(name)} does not say how many squares are empty at its theoretical scores; "
+                          "try --empties 22 or 24, the usual numbers", MISUSED)
+        for game in games:
+            position = real = None
+            try:
+                positions = played(game)
+                real = final_discs(positions)
+                position = position_with(empties, game, positions)
+            except GameRefused as why:
+                messages.report(f"{shown(name)}, {why}", REMARKED)
+            if game.empties not in (None, empties):
+                game = game._replace(score=None)
+            yield Found(name, game, position, real)
+            for wrong in wrong_scores(game, real) if position else ():
+                messages.report(f"{shown(name)}, game {game.number}{title(name, game.number)}: {wrong}", REMARKED)
 
 
 def wrong_scores(game: Game, discs: Optional[int]) -> Iterator[str]:
@@ -214,8 +230,8 @@ def wrong_scores(game: Game, discs: Optional[int]) -> Iterator[str]:
 def check(options: argparse.Namespace, messages: Messages) -> Iterator[bytes]:
     """Lets ffosolve-many solve the positions of theoretical scores in a folder, then yields what `compare` yields. With
     --cut, only lets it cut their list, and yields nothing."""
-    scored, copies = scored_games(options, messages), places(options)
-    positions = dict.fromkeys(it.position for it in scored)
+    found, copies = scored_games(options, messages), places(options)
+    positions = dict.fromkeys(it.position for it in found if it.position)
     folder = f"{options.files[0]}.check" if options.folder is None else options.folder
     listed, book = os.path.join(folder, "list.obf"), os.path.join(folder, "list.book")
     with refusing("write", listed):
@@ -224,7 +240,7 @@ def check(options: argparse.Namespace, messages: Messages) -> Iterator[bytes]:
     words = {"--max-empties": max(it.empties for it in positions), "--lines": 10, **options.many, "--book-out": book}
     solve_many([name if value is True else f"{name}={value}" for name, value in words.items()] + ["--", listed])
     if not options.cut:
-        yield from compared(scored, book, copies, options, messages)
+        yield from compared(found, book, copies, options, messages)
 
 
 def solve_many(words: List[str]) -> None:
@@ -247,44 +263,38 @@ def compare(options: argparse.Namespace, messages: Messages) -> Iterator[bytes]:
     yield from compared(scored_games(options, messages), book, places(options), options, messages)
 
 
-def scored_games(options: argparse.Namespace, messages: Messages) -> List[Scored]:
-    """The games with theoretical scores in WTHOR files. Refuses if there is none, or a file can't be read."""
-    scored: List[Scored] = []
+def scored_games(options: argparse.Namespace, messages: Messages) -> List[Found]:
+    """The games of WTHOR files. Refuses if none has a position with a theoretical score, or a file can't be read."""
+    found: List[Found] = []
     for name in options.files:
         if os.path.exists(name) and not os.path.isfile(name):
             raise Refusal(f"{shown(name)} is not a regular file")
-        with opened(name) as file:
-            for game, position in with_positions(file, name, options, messages):
-                scored += [] if game.score is None else [Scored(name, game.number, position, game.score)]
-    if not scored:
+        found += found_in(name, options, messages)
+    if not any(it.position for it in found):
         raise Refusal("no game has a position with a theoretical score")
-    return scored
+    return found
 
 
 def compared(
-    scored: List[Scored], book: str, copies: Dict[str, str], options: argparse.Namespace, messages: Messages
+    found: List[Found], book: str, copies: Dict[str, str], options: argparse.Namespace, messages: Messages
 ) -> Iterator[bytes]:
     """Yields what `compare` yields, for the exact scores in a book, after writing the `copies`, {path: WTHOR file}."""
-    try:
-        with opened(book) as file:
-            exact = exact_scores(text_lines(file, shown(book)), (it.position for it in scored))
-    except BadBook as why:
-        raise Refusal(f"{shown(book)} is not a book of exact scores: {why}") from None
-    fix(copies, exact, options, messages)
-    differ = unsolved = 0
-    for it in scored:
-        if it.position not in exact:
-            unsolved += 1
-            continue
-        discs = discs_of_black(exact[it.position], it.position.side)
-        if discs != it.published:
-            differ += 1
-            difference = f"published {it.published}, exact {discs}, difference {it.published - discs:+}"
-            name = os.fsencode(f"{shown(it.file)}, game {it.game}")
-            yield name + f"{title(it.file, it.game)}: {difference}".encode()
-    if differ or unsolved:
+    listed = [it.position for it in found if it.position]
+    with opened(book) as file:
+        exact = exact_scores(text_lines(file, shown(book)), shown(book), listed)
+    found = [it._replace(exact=discs_of_black(exact[at], at.side)) if (at := it.position) in exact else it
+             for it in found]
+    if copies:
+        fix(copies, found, options, messages)
+    differ = [it for it in found if it.difference]
+    for it in differ:
+        name = os.fsencode(f"{shown(it.file)}, game {it.game.number}")
+        difference = f"published {it.game.score}, exact {it.exact}, difference {it.difference:+}"
+        yield name + f"{title(it.file, it.game.number)}: {difference}".encode()
+    solved = sum(it.exact is not None for it in found)
+    if differ or solved < len(listed):
         messages.status = max(messages.status, REMARKED)
-    yield b"compared %d differ %d unsolved %d" % (len(scored) - unsolved, differ, unsolved)
+    yield b"compared %d differ %d unsolved %d" % (solved, len(differ), len(listed) - solved)
 
 
 def places(options: argparse.Namespace) -> Dict[str, str]:
@@ -305,20 +315,29 @@ def places(options: argparse.Namespace) -> Dict[str, str]:
     return dict(zip(paths, names))
 
 
-def fix(copies: Dict[str, str], exact: Dict[Position, int], options: argparse.Namespace, messages: Messages) -> None:
-    """Writes copies of WTHOR files, {path: file}, and corrects them as `Fixed` does. Refuses if that fails, and
-    otherwise reports how many scores changed."""
-    if copies and not exact:
+def fix(copies: Dict[str, str], found: List[Found], options: argparse.Namespace, messages: Messages) -> None:
+    """Writes copies of WTHOR files, {path: file}, with the right scores of the games that were found. Refuses if that
+    fails, and otherwise reports how many scores changed."""
+    if all(it.exact is None for it in found):
         raise Refusal("no theoretical score is compared, so --fix has none to write")
+    right: Dict[Tuple[int, object], Dict[int, int]] = {}
+    for it in found:
+        scores = {SCORE: it.exact, REAL: it.real if options.real else None}
+        at = it.game.empties or options.empties or 0, it.game.words
+        right[at] = {offset: score for offset, score in scores.items() if score is not None}
+    counts: Dict[str, Counter[Tuple[int, bool]]] = {path: Counter() for path in copies}
     with contextlib.ExitStack() as stack:
-        fixed = {path: Fixed(stack.enter_context(opened(name)), shown(name), exact, options.empties, options.real)
-                 for path, name in copies.items()}
         try:
-            write_whole(fixed)
+            write_whole({path: corrected(stack.enter_context(opened(name)), shown(name), options.empties or 0, right,
+                                         counts[path]) for path, name in copies.items()})
         except OSError as why:
             raise Refusal(f"cannot write {shown(why.filename)}: {why.strerror}") from None
-    for path, copy in fixed.items():
-        messages.report(f"{shown(path)}: {copy.summary()}", DONE)
+    for path, count in counts.items():
+        games = count[RECORD, False]
+        known, real = (count[offset, True] + count[offset, False] for offset in (SCORE, REAL))
+        text = f"theoretical scores changed {count[SCORE, True]} of {games}, not compared {games - known}"
+        text += f"; real scores changed {count[REAL, True]}, not checked {games - real}" * options.real
+        messages.report(f"{shown(path)}: {text}", DONE)
 
 
 @contextlib.contextmanager

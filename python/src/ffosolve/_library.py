@@ -1,11 +1,12 @@
 """Finds the shared library, and declares its calls to ctypes, except for two that this package does not need.
 
 As a program, makes the calls that another process asks for (see `serve`), so it imports nothing of this package."""
+import contextlib
 import ctypes
 import functools
 import os
+import pickle
 import select
-import struct
 import sys
 import threading
 from typing import Any, List, Union
@@ -14,7 +15,6 @@ NAME = "libffosolve.so.1"
 MAJOR = 1
 MOST_EMPTIES = 60
 MOST_ENTRIES = 4_194_304
-REQUEST, STATUS = struct.Struct("16sIQQ"), struct.Struct("i")  # name, scoring, entries, count of positions
 _loaded: List[ctypes.CDLL] = []
 
 
@@ -105,10 +105,10 @@ def search(library: ctypes.CDLL, name: str, scoring: int, entries: int, asked: A
     return status
 
 
-def serve(place: str) -> None:
-    """Makes calls of the library at `place` until the end of standard input, a socket, and then ends even in a call. A
-    request is REQUEST, the positions and a claim. The reply is STATUS and, if that is 0, what the call found."""
-    requests, replies, library = open(0, "rb", closefd=False), open(1, "wb", closefd=False), declared(place)
+def serve() -> None:
+    """Makes calls until the end of standard input, a socket, and then ends even in a call. A pickled request has a
+    library's path, the name, the scoring and the number of entries of `search`, and the bytes of the positions and of
+    the claim. The reply has the status and the bytes of what the call found."""
 
     def end_with_the_socket() -> None:
         hangup = select.poll()
@@ -118,19 +118,17 @@ def serve(place: str) -> None:
 
     threading.stack_size(1 << 18)
     threading.Thread(target=end_with_the_socket, daemon=True).start()
-    while True:
-        head = requests.read(REQUEST.size)
-        if len(head) < REQUEST.size:
-            return
-        text, scoring, entries, count = REQUEST.unpack(head)
-        name, data = text.rstrip(b"\0").decode(), bytearray(requests.read(16 * count + 16))
-        asked, claim = (CPosition * count).from_buffer(data), CAnswer.from_buffer(data, 16 * count)
-        found = ((CMoveScores if name == "move_scores_all" else CAnswer) * count)()
-        both = (asked, found) if name.endswith("_all") else (asked[0], found[0])
-        status = search(library, name, scoring, entries, both[0], claim, both[1])
-        replies.write(STATUS.pack(status) + (b"" if status else bytes(found)))
-        replies.flush()
+    with contextlib.suppress(EOFError, pickle.UnpicklingError):
+        while True:
+            place, name, scoring, entries, positions, claim = pickle.load(sys.stdin.buffer)
+            asked = (CPosition * (len(positions) // ctypes.sizeof(CPosition))).from_buffer_copy(positions)
+            found = ((CMoveScores if name == "move_scores_all" else CAnswer) * len(asked))()
+            both = (asked, found) if name.endswith("_all") else (asked[0], found[0])
+            claimed = CAnswer.from_buffer_copy(claim)
+            status = search(declared(place), name, scoring, entries, both[0], claimed, both[1])
+            pickle.dump((status, bytes(found)), sys.stdout.buffer)
+            sys.stdout.buffer.flush()
 
 
 if __name__ == "__main__":
-    serve(sys.argv[1])
+    serve()

@@ -14,8 +14,9 @@ def masks_of(positions: Iterable[Position]) -> Tuple[Any, Any]:
     listed = list(checked_positions(positions))
     for position in listed:
         empties_of(position)  # raises TypeError for another object
-    masks = numpy.array(c_positions(listed))
-    return masks["own"].copy(), masks["opp"].copy()
+    # To read the type of a ctypes array, NumPy runs Python code that takes an exception of a signal for a wrong type.
+    masks = numpy.frombuffer(c_positions(listed), numpy.uint64).reshape(-1, 2)
+    return masks[:, 0].copy(), masks[:, 1].copy()
 
 
 def positions_from(own: Any, opp: Any, side: str = "X") -> List[Position]:

@@ -1,5 +1,4 @@
 """Positions, and the lines of text that hold them, in the format OBF, which `Position.from_obf` explains."""
-import ctypes
 import os
 import re
 import reprlib
@@ -125,14 +124,14 @@ class Position(NamedTuple("Masks", [("own", int), ("opp", int)])):
     @property
     def legal_moves(self) -> List[str]:
         """The names of the squares that the side to move may play, in the order A1, B1, .. H8."""
-        return square_names(moves(loaded(), self))
+        return square_names(moves(self))
 
     def is_legal(self, square: Union[int, str]) -> bool:
         """Whether `play` takes a move. Raises ValueError for a name that no square has, TypeError for other types."""
         if is_pass(square):
             return self.must_pass
         number = number_of(square)
-        return 0 <= number < 64 and bool(moves(loaded(), self) >> number & 1)
+        return 0 <= number < 64 and bool(moves(self) >> number & 1)
 
     @property
     def must_pass(self) -> bool:
@@ -148,7 +147,12 @@ class Position(NamedTuple("Masks", [("own", int), ("opp", int)])):
         """The position after a move; the other side is to move. `square` is a name such as "F5" or a number, 0 to 63,
         or a pass: "PS", "pass", "pa" or "--". Raises NoMove for an illegal move and another number, ValueError for
         another name, TypeError for other types."""
-        return played(loaded(), self, square)
+        if is_pass(square):
+            if not self.must_pass:
+                raise illegal_move(self, "a pass")
+            return self.passed()
+        own, opp = play(self, square)
+        return following(self, own, opp, OTHER[self.side], NAMES[number_of(square)])
 
     def play_all(self: P, squares: Union[str, Iterable[Union[int, str]]]) -> P:
         """The position after several moves. `squares` is a transcript such as "f5d6c3", in any form that `Game.of_text`
@@ -258,16 +262,6 @@ def following(before: P, own: int, opp: int, side: str, move: str) -> P:
     position = type(before)(own, opp, side)
     position._last_move = move
     return position
-
-
-def played(library: ctypes.CDLL, position: P, square: Union[int, str]) -> P:
-    """What `Position.play` returns, by the rules of `library`."""
-    if is_pass(square):
-        if not position.must_pass:
-            raise illegal_move(library, position, "a pass")
-        return position.passed()
-    own, opp = play(library, position, square)
-    return following(position, own, opp, OTHER[position.side], NAMES[number_of(square)])
 
 
 def read_line(text: Union[str, bytes], number: Optional[int], kind: Type[P]) -> P:

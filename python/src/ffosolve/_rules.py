@@ -6,7 +6,7 @@ import reprlib
 from typing import Any, Callable, Iterable, Optional, Sequence, Tuple, Union
 
 from ._boards import SIDES, Board
-from ._library import CPosition
+from ._library import CPosition, loaded
 from ._refusals import NoMove, Refused, SharedSquare, Status, TooManyEmpties, refusal_of
 from ._squares import NAMES, number_of
 
@@ -64,30 +64,30 @@ def c_positions(positions: Sequence[Sequence[int]]) -> Any:
     return (CPosition * len(positions)).from_buffer(masks)
 
 
-def moves(library: ctypes.CDLL, position: Sequence[int]) -> int:
+def moves(position: Sequence[int]) -> int:
     """The mask of the legal moves. Raises SharedSquare."""
     found = ctypes.c_uint64()
-    accept(library.ffosolve_moves(c_position(position), found))
+    accept(loaded().ffosolve_moves(c_position(position), found))
     return found.value
 
 
-def play(library: ctypes.CDLL, position: Sequence[int], square: Union[int, str]) -> Tuple[int, int]:
+def play(position: Sequence[int], square: Union[int, str]) -> Tuple[int, int]:
     """Returns the two masks after a move, first that of the side to move next. Raises SharedSquare and NoMove."""
     number = number_of(square)
     is_square, after = 0 <= number < 64, CPosition()
-    status = library.ffosolve_play(c_position(position), number if is_square else NO_SQUARE, after)
+    status = loaded().ffosolve_play(c_position(position), number if is_square else NO_SQUARE, after)
     if status == Status.NO_MOVE:
-        raise illegal_move(library, position, NAMES[number] if is_square else f"square {number}")
+        raise illegal_move(position, NAMES[number] if is_square else f"square {number}")
     accept(status)
     return after.own, after.opp
 
 
-def illegal_move(library: ctypes.CDLL, position: Sequence[int], move: str) -> NoMove:
+def illegal_move(position: Sequence[int], move: str) -> NoMove:
     """The refusal of an illegal move. Its text names `move`, and ends with the board and the side as an OBF line."""
     (own, opp), side = position, getattr(position, "side", "X")
     why = f" for {SIDES[side]}"
-    if not moves(library, position):
-        why = f": {SIDES[side]} has to pass" if moves(library, (opp, own)) else ": the game is over"
+    if not moves(position):
+        why = f": {SIDES[side]} has to pass" if moves((opp, own)) else ": the game is over"
     return NoMove(reason=f"{move} is not a legal move{why} in {Board(own, opp, side).to_obf()}")
 
 

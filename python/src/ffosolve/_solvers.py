@@ -8,7 +8,7 @@ from ._answers import ENDS, Answer, Kind, Scoring, scoring_of
 from ._bulk import Part, PartOrRefusal, checked_threads, in_order, parts_of
 from ._games import Game, positions_of
 from ._library import MOST_EMPTIES, MOST_ENTRIES, CAnswer, CMoveScores, load, search
-from ._positions import P, Position, played
+from ._positions import P, Position
 from ._processes import Run, is_brief
 from ._refusals import Refused, TooManyEntries, checked_number
 from ._rules import accept, c_position, c_positions, empties_of, moves, refusal_for
@@ -175,11 +175,11 @@ class Solver:
 
     def moves(self, position: Position) -> int:
         """The mask of legal moves; `Position.legal_moves` names them. Raises SharedSquare, ValueError and TypeError."""
-        return moves(self._library, position)
+        return moves(position)
 
     def play(self, position: P, square: Union[int, str]) -> P:
-        """Returns and raises what `Position.play` does, but asks this Solver's library, not the one loaded first."""
-        return played(self._library, as_position(position), square)
+        """Returns and raises what `Position.play` does. `position` may also be a tuple of two masks."""
+        return as_position(position).play(square)
 
     def positions(self, game: Union[Game, str]) -> List[Position]:
         """The positions of a Game or of a transcript: the start, then the position after each move, but none after a

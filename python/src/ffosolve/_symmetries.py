@@ -11,16 +11,20 @@ from ._squares import NAMES, square_of
 
 
 class Symmetry(enum.IntEnum):
-    """A symmetry of the board. Its comment says where it moves the square in column c and row r, counted from 0."""
+    """A symmetry of the board. It moves the square in column c and row r, both counted from 0, to the column and row:
 
-    IDENTITY = 0  # (c, r)
-    FLIP_COLUMNS = 1  # (7 - c, r)
-    FLIP_ROWS = 2  # (c, 7 - r)
-    HALF_TURN = 3  # (7 - c, 7 - r)
-    TRANSPOSE = 4  # (r, c)
-    TURN_RIGHT = 5  # (7 - r, c)
-    TURN_LEFT = 6  # (r, 7 - c)
-    ANTI_TRANSPOSE = 7  # (7 - r, 7 - c)
+        IDENTITY (c, r)        FLIP_COLUMNS (7 - c, r)    FLIP_ROWS (c, 7 - r)    HALF_TURN (7 - c, 7 - r)
+        TRANSPOSE (r, c)       TURN_RIGHT (7 - r, c)      TURN_LEFT (r, 7 - c)    ANTI_TRANSPOSE (7 - r, 7 - c)
+    """
+
+    IDENTITY = 0
+    FLIP_COLUMNS = 1
+    FLIP_ROWS = 2
+    HALF_TURN = 3
+    TRANSPOSE = 4
+    TURN_RIGHT = 5
+    TURN_LEFT = 6
+    ANTI_TRANSPOSE = 7
 
     @property
     def inverse(self) -> "Symmetry":

@@ -1,4 +1,4 @@
-//! Writers that fail, and which lines are written at once.
+//! Lists that are printed to writers that fail or are interrupted, and the lines of one write.
 
 use bound_table::BoundTable;
 use list_printer::{ListFault, write_lists};
@@ -146,10 +146,10 @@ impl Write for LineCounter {
     }
 }
 
-// A finished game with eight empty squares, for which a thread is started.
+// A finished game with eight empty squares: threads score such lines, several lines each.
 const EIGHT_EMPTY: &[u8] = b"--------XXXXXXXXXXXXXXXXXXXXXXXXXXXXXXXXXXXXXXXXXXXXXXXXXXXXXXXX X\n";
 
-// The lines that a thread scores are written at once, so there are threads enough for all processors.
+// The lines that a thread scores are written at once.
 #[test]
 fn a_thread_scores_at_most_eight_lines(rt: HostRuntime) -> Result<(), Fail> {
     let mut text = Vec::new(rt.alloc());

@@ -1,20 +1,18 @@
-"""Merges books: those of the parts of a run (see `Run` in folder.py), or those that the command line names."""
-import argparse
+"""Merges books."""
 import heapq
 import io
 import itertools
 import os
 import re
+import sys
 import tempfile
 from pathlib import Path
 from typing import Iterable, Iterator, List, Sequence, Tuple
 
-from .._command_line import DONE, MISUSED, Refusal, print_all, regular, replace
+from .._command_line import MISUSED, Refusal
 from .._positions import BLACK, WHITE, Position
 from .._refusals import NoPosition
 from .._squares import NAMES
-from .._text import shown
-from .programs import check_book_out, check_books, misused, program_in
 from .folder import HEADER, Run
 
 Entry = Tuple[List[int], Tuple[str, int], bytes]  # see `entries_of`
@@ -24,13 +22,14 @@ BATCH = 256  # parts whose books are merged in memory at a time
 ENTRY = re.compile(rb"[XO-]{64} X;(?: (?:PS|--):[+-]\d\d;| [A-H][1-8]:([+-]\d\d);(?: [A-H][1-8]:\1;)*)\n")
 
 
-def lines_of(path: Path) -> Iterator[bytes]:
-    """Yields the lines of a book's file. Closes the file between reads, since too many might be open otherwise."""
-    lines, at = [b""], 0
-    while lines:
+def book_lines(path: Path, at: int = 0, end: int = sys.maxsize) -> Iterator[bytes]:
+    """Yields the lines of a book, which stands in a file between two offsets. Closes the file between reads, since too
+    many might be open otherwise."""
+    lines = [b""]
+    while lines and at < end:
         with path.open("rb") as file:
             file.seek(at)
-            lines, at = file.readlines(READ), file.tell()
+            lines, at = file.readlines(min(READ, end - at)), file.tell()
         yield from lines
 
 
@@ -74,35 +73,15 @@ def merged(names: Sequence[str], books: Iterable[Iterable[bytes]]) -> Iterator[b
         yield line
 
 
-def book_of(run: Run, folder: str) -> Iterator[bytes]:
-    """Yields the lines of a run's book. Merges the parts' books, BATCH to a file in `folder`, then merges the files."""
-    paths, books = [Path(os.devnull)], (io.BytesIO(found.book) for found in run.solved())
-    header = HEADER.format(run.task["options"]["--scoring"]).encode()  # the whole book if the list has no lines
-    while batch := list(itertools.islice(books, BATCH)):
-        paths.append(Path(folder, f"{len(paths)}.book"))
-        with paths[-1].open("wb") as file:
+def book_of(run: Run) -> Iterator[bytes]:
+    """Yields the lines of a run's book. Merges the parts' books, BATCH at a time, in a file without a name."""
+    books, header = (io.BytesIO(found.book) for found in run.solved()), HEADER.format(run.task["options"]["--scoring"])
+    place = run.folder if os.access(run.folder, os.W_OK) else None
+    with tempfile.TemporaryFile(dir=place) as file:
+        path, ends = Path(f"/proc/{os.getpid()}/fd/{file.fileno()}"), [0]
+        while batch := list(itertools.islice(books, BATCH)):
             file.writelines(merged([*map(str, range(BATCH))], batch))
-    yield from merged([*map(str, paths)], [[header], *map(lines_of, paths[1:])])
-
-
-def merge_books(command: argparse.Namespace, programs: str) -> int:
-    """Merges the books that a command from `parse` names; prints the result or writes --book-out. Returns a status."""
-    if not command.words:
-        raise misused("--merge-books needs the name of a book")
-    program, names = program_in(programs, "ffosolve"), list(map(shown, command.words))
-    if command.book_out:
-        check_book_out(program, command.book_out, os.devnull)
-    paths = [regular(name) for name in command.words]
-    with tempfile.TemporaryFile() as whole:
-        try:
-            whole.writelines(merged(names, map(lines_of, paths)))
-            whole.seek(0)
-            check_books(program, ["the merged book"], [f"/proc/{os.getpid()}/fd/{whole.fileno()}"])
-        except (ValueError, Refusal) as why:
-            check_books(program, names, paths)  # refuses a book that is wrong by itself
-            raise why if isinstance(why, Refusal) else Refusal(str(why)) from None
-        if command.book_out:
-            replace(command.book_out, whole)
-        else:
-            print_all(whole)
-    return DONE
+            ends.append(file.tell())
+        file.flush()
+        merges = (book_lines(path, *place) for place in zip(ends, ends[1:]))
+        yield from merged([*map(str, ends)], [[header.encode()], *merges])  # the header is all if there are no lines

@@ -4,23 +4,26 @@ import itertools
 import os
 import re
 import shlex
-import stat
+import shutil
+import subprocess
 import sys
 import tempfile
 from pathlib import Path
-from typing import Any, List, Optional
+from typing import Any, Dict, Iterable, List, Optional, Tuple
 
-from .._command_line import (DONE, REMARKED, UNREADABLE, Parser, Refusal, counted, is_same, path_of, print_all, regular,
-                             replace, say)
+from .._command_line import (DONE, MISSING, MISUSED, REMARKED, UNREADABLE, Name, Parser, Refusal, counted, is_same,
+                             path_of, print_all, regular, replace, say)
 from .._command_line import run as run_program
 from .._text import shown
-from .books import book_of, merge_books
+from .books import book_lines, book_of, merged
 from .engine import Threads, solve_parts
 from .folder import Run, begin, options_of
-from .programs import builds_of, check_book_out, check_options, misused, program_in
-from .solve import words_of
+from .solve import guarded, words_of
 
 NAME = "ffosolve-many"
+NO_DISCS = b"-" * 64 + b" X;"  # refused with any options; the message has the limit of empty squares
+LIMITS = {"ffosolve": rb"\[1\]\n1 refused: 64 empties, limit (\d+)\nsolved 0 refused 1\n",
+          "ffoscores": rb"%% refused: 64 empties, limit (\d+): %b\n" % NO_DISCS}
 GONE = {
     "--hosts": "start a cluster with `dask ssh --hostfile FILE`, and use --scheduler (nor is PARALLEL_SSH read)",
     "--sweep": "a cluster removes its own files; those of an earlier version are folders run-* in your home folder"}
@@ -61,8 +64,7 @@ OPTIONS = {
         ("--complete", None, "report lines that list moves but omit a best one"),
         ("--cut", None, "only cut the list, for another scheduler"),
         ("--merge-books", None, "solve nothing, and merge books of one scoring into one"),
-        ("--quiet", None, "write only failures to standard error"),
-        ("--version", None, ""), ("--help", None, "")),
+        ("--quiet", None, "write only failures to standard error")),
     "options of ffosolve, with the same meaning": (
         ("--max-empties", "N", "solve positions with at most N empty squares, 0 to 60 [default: that of ffosolve]"),
         ("--workers", "N", "extra threads per part, beyond its own, 0 to 64 [default: 0]"),
@@ -70,6 +72,10 @@ OPTIONS = {
         ("--scoring", "NAME", "how a finished game is scored [default: winner] [possible values: winner, discs, sign]"),
         ("--book-in", "FILE", "a book of claimed answers, which are tested before they are used"),
         ("--book-out", "FILE", "write all solved positions to FILE as a book"))}
+
+
+def misused(text: str) -> Refusal:
+    return Refusal(f"{text}. Try 'ffosolve-many --help'", MISUSED)
 
 
 class Once(argparse.Action):
@@ -90,15 +96,12 @@ def parse(words: List[str]) -> argparse.Namespace:
     """Returns a namespace with the options of the command line `words` and, as its own `words`, the other arguments.
     Refuses wrong options, and an empty word. Prints the help or the version and raises SystemExit if asked to."""
     parser = Parser(USAGE, WHAT, MORE)
-    for title, options in OPTIONS.items():
-        group = parser.add_argument_group(title)
+    groups = [parser.add_argument_group(title) for title in OPTIONS]
+    for group, options in zip(groups, OPTIONS.values()):
         for name, value, text in options:
-            if value:
-                group.add_argument(name, metavar=value, action=Once, const=MOST.get(name), help=text)
-            elif text:
-                group.add_argument(name, action="store_true", help=text)
-            elif name == "--help":
-                parser.add_common(group)
+            how: Dict[str, Any] = {"metavar": value, "action": Once, "const": MOST.get(name)}
+            group.add_argument(name, help=text, **how if value else {"action": "store_true"})
+    parser.add_common(groups[0])
     end = words.index("--") if "--" in words else len(words)
     command, others = parser.parse_known_args(words[:end])
     for word in others:
@@ -114,6 +117,61 @@ def parse(words: List[str]) -> argparse.Namespace:
     if "" in command.words:
         raise misused("'' is not the name of a file")
     return command
+
+
+def program_in(folder: str, name: str) -> Path:
+    """Returns the path of ffosolve or ffoscores, or of a script that runs it and, in a checkout, builds it first."""
+    path = Path(folder, name)
+    if not os.access(path, os.X_OK):
+        raise Refusal(f"{name} is missing: it has to be next to ffosolve-many, in {folder}", MISSING)
+    return path
+
+
+def builds_of(program: Path) -> List[Path]:
+    """Returns the paths of a program's builds for levels of x86-64, highest first; without any, only `program`."""
+    root, files = program.parent.parent, f"x86-64-v?/{program.name}"
+    found = [*root.glob(f"out/{files}"), *root.glob(f"libexec/ffosolve/{files}")]
+    return sorted(found, reverse=True) or [program]
+
+
+def try_run(program: Path, *words: str, stdout: int = subprocess.DEVNULL) -> Tuple[int, str]:
+    """Runs a program, which inherits a shell's /dev/fd/63. Returns its status and, in one line, its messages."""
+    ran = subprocess.run([program, *words], close_fds=False, stdin=subprocess.DEVNULL, stdout=stdout,
+                         stderr=subprocess.PIPE)
+    lines = ran.stderr.decode(errors="replace").splitlines()
+    return ran.returncode, ": ".join(re.sub("^ffosolve: ", "", line) for line in lines)
+
+
+def check_books(program: Path, names: Iterable[str], paths: Iterable[Name]) -> None:
+    """Lets ffosolve read each book, and refuses the first one that ffosolve refuses."""
+    for name, path in zip(names, paths):
+        status, errors = try_run(program, f"--book-in={path}", "/dev/null")
+        if status:
+            raise Refusal(f"{name}: {errors}", status if status > 0 else MISSING)
+
+
+def check_book_out(program: Path, name: str, source: Name, *options: str) -> None:
+    """Refuses a --book-out that is standard output or error, the list `source`, or a file that ffosolve refuses."""
+    for other, what in ((1, "standard output, where the report goes"), (2, "standard error"), (source, "the list")):
+        if is_same(name, other):
+            raise misused(f"--book-out {shown(name)} is {what}: name another file")
+    with open("/dev/full", "wb") as full:  # so that the program tests the file, and writes nothing
+        _, errors = try_run(program, *options, f"--book-out={name}", "/dev/null", stdout=full.fileno())
+    if errors != "cannot write standard output":
+        raise Refusal(errors.replace(os.fsencode(name).decode(errors="replace"), shown(name)))
+
+
+def check_options(program: Path, options: List[str]) -> str:
+    """Returns how many empty squares a position may have. If the program refuses the options or a book, it prints why,
+    and this process ends with the same status. Refuses a missing setpriv or a wrong program."""
+    if not shutil.which("setpriv"):
+        raise Refusal("setpriv is not on the path: apt-get install util-linux", MISSING)
+    ran = subprocess.run(guarded([str(program), *options, "/dev/stdin"]), input=NO_DISCS, stdout=subprocess.PIPE)
+    if found := re.fullmatch(LIMITS[program.name], ran.stdout):
+        return found[1].decode()
+    if ran.returncode:
+        raise SystemExit(ran.returncode if ran.returncode > 0 else MISSING)
+    raise Refusal(f"{program} is not the program {program.name}", MISSING)
 
 
 def run_of(command: argparse.Namespace, programs: str) -> Run:
@@ -144,7 +202,7 @@ def run_of(command: argparse.Namespace, programs: str) -> Run:
     command.max_empties = check_options(program, words)
     if command.book_out:
         check_book_out(program, command.book_out, path, *words)
-    modes = [stat.S_IMODE(file.stat().st_mode) & 0o666 if file and file.parts[1:2] != ("proc",) else None
+    modes = [file.stat().st_mode & 0o666 if file and file.parts[1:2] != ("proc",) else None
              for file in (source, book_in)]
     return begin(command, source, lambda: builds_of(program), book_in.read_bytes() if book_in else None, modes)
 
@@ -171,7 +229,7 @@ def solve_list(command: argparse.Namespace, programs: str) -> int:
         return print_cut(run)
     unsolved, parts = run.unsolved(), counted(run.parts, "part")
     if not command.quiet:
-        say(f"{shown(command.list)}: {counted(run.cut.count, 'line')} in {parts}, {run.parts - len(unsolved)} of them "
+        say(f"{shown(command.list)}: {counted(run.count, 'line')} in {parts}, {run.parts - len(unsolved)} of them "
             f"solved before; folder {shown(run.folder)}")
     if unsolved:
         if command.scheduler:
@@ -185,16 +243,36 @@ def solve_list(command: argparse.Namespace, programs: str) -> int:
     run.sweep()
     print_all(run.output())
     if command.book_out:
-        place = run.folder if os.access(run.folder, os.W_OK) else None
-        with tempfile.TemporaryDirectory(dir=place, prefix="book.", suffix=".new") as folder:
-            replace(command.book_out, book_of(run, folder))
+        replace(command.book_out, book_of(run))
     return max(run.statuses, default=DONE)
+
+
+def merge_books(command: argparse.Namespace, programs: str) -> int:
+    """Merges the books that a command from `parse` names; prints the result or writes --book-out. Returns a status."""
+    if not command.words:
+        raise misused("--merge-books needs the name of a book")
+    program, names = program_in(programs, "ffosolve"), list(map(shown, command.words))
+    if command.book_out:
+        check_book_out(program, command.book_out, os.devnull)
+    paths = [regular(name) for name in command.words]
+    with tempfile.TemporaryFile() as whole:
+        try:
+            whole.writelines(merged(names, map(book_lines, paths)))
+            whole.seek(0)
+            check_books(program, ["the merged book"], [f"/proc/{os.getpid()}/fd/{whole.fileno()}"])
+        except (ValueError, Refusal) as why:
+            check_books(program, names, paths)  # refuses a book that is wrong by itself
+            raise why if isinstance(why, Refusal) else Refusal(str(why)) from None
+        if command.book_out:
+            replace(command.book_out, whole)
+        else:
+            print_all(whole)
+    return DONE
 
 
 def main() -> None:
     """Runs ffosolve-many, and ends this process. ffosolve and ffoscores are next to the script that runs."""
     def carry_out() -> int:
-        command = parse(sys.argv[1:])
-        programs = os.path.dirname(os.path.realpath(sys.argv[0]))
+        command, programs = parse(sys.argv[1:]), os.path.dirname(os.path.realpath(sys.argv[0]))
         return (merge_books if command.merge_books else solve_list)(command, programs)
     run_program(NAME, carry_out, "interrupted; the same command goes on with what is solved")

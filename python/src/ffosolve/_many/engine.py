@@ -9,17 +9,19 @@ import resource
 import threading
 import time
 from concurrent.futures import Future, ThreadPoolExecutor
-from typing import Any, Dict, List, Optional, Tuple
+from typing import Any, Dict, List, Optional, Sequence, Set, Tuple
 
 from .._command_line import counted, say, show
 from .folder import Run
+from .solve import Solved
 
 HERE = "this machine"
 FILES = 8  # files that a job has open while it starts its program, and then three
 OTHER_FILES = 32  # that this process has open: streams, list, lock, pipes
 LONG_SECONDS = 600  # after which a part that is still being solved is named
+QUICK_SECONDS = 1  # parts that take less on average are sent ahead, so that no machine waits for them
 MOST_FAILS = 3  # parts failed in a row, after which the program or the worker that failed is doubted
-Answer = Tuple[str, Optional[float], str]  # the machine; a part's seconds, or None; why it failed, or "" if it is lost
+Answer = Tuple[Optional[Solved], str]  # a part's results; or None, and why it failed, or "" if it has to be sent again
 
 
 def span_of(seconds: float) -> str:
@@ -27,49 +29,53 @@ def span_of(seconds: float) -> str:
     return f"{seconds:.0f} s" if seconds < 120 else f"{hours} h {minutes} min" if hours else f"{minutes} min"
 
 
+class Machine:
+    """What solves at most `threads` parts at a time. `parts` has the futures of those that were sent to it."""
+
+    is_fit = True
+    fails = 0  # parts in a row
+    ended = ""  # why the parts that were taken from it have failed, if they have
+
+    def __init__(self, name: str, host: str, threads: int) -> None:
+        self.name, self.host, self.threads = name, host, threads
+        self.parts: Set[Future[Answer]] = set()
+
+
 class Progress:
-    """The parts, lines and work left, the work done and its seconds. `running` is {(part, machine): start time}."""
+    """The parts, lines and work left; the parts and the work done, and their seconds. `running` has the parts at work,
+    each with its machine and its start time."""
 
     def __init__(self, run: Run, parts: array.array[int]) -> None:
-        self.run, self.weights = run, array.array("d", bytes(8 * run.parts))
-        self.running: Dict[Tuple[int, str], float] = {}
-        self.parts, self.lines, self.seconds, self.weight = len(parts), sum(map(run.line_count, parts)), 0.0, 0.0
-        for number in parts:
-            self.weights[number] = run.cut.weights[number]
-        self.left_weight = sum(self.weights)
-
-    def update(self, at_work: Dict[int, str]) -> None:
-        """Notes which parts are being solved now, and where: `at_work` is {part: machine}."""
-        now = time.monotonic()
-        self.running = {work: self.running.get(work, now) for work in at_work.items()}
+        self.run, self.solved, self.parts, self.lines = run, 0, len(parts), sum(map(run.line_count, parts))
+        self.work, self.done, self.seconds = sum(run.weights[number] for number in parts), 0.0, 0.0
+        self.running: Dict[Any, Tuple[int, Machine, float]] = {}
 
     def end(self, number: int, seconds: float) -> None:
         """Notes that a part has been solved in `seconds`."""
-        self.seconds += seconds
-        self.weight, self.left_weight = self.weight + self.weights[number], self.left_weight - self.weights[number]
-        self.parts, self.lines, self.weights[number] = self.parts - 1, self.lines - self.run.line_count(number), 0
+        weight, lines = self.run.weights[number], self.run.line_count(number)
+        self.seconds, self.done, self.work = self.seconds + seconds, self.done + weight, self.work - weight
+        self.solved, self.parts, self.lines = self.solved + 1, self.parts - 1, self.lines - lines
 
     def left(self) -> Optional[float]:
         """Returns the expected seconds until all is solved, or None before a tenth of this command's work is done."""
-        if not self.weight or self.weight * 9 < self.left_weight:
+        if not self.done or self.done * 9 < self.work:
             return None
-        rate, now = self.seconds / self.weight, time.monotonic()
-        rests = [max(0, self.weights[number] * rate - now + since) for (number, _), since in self.running.items()]
-        waiting = self.left_weight - sum(self.weights[number] for number, _ in self.running)
+        rate, now, weights = self.seconds / self.done, time.monotonic(), self.run.weights
+        rests = [max(0, weights[number] * rate - now + start) for number, _, start in self.running.values()]
+        waiting = self.work - sum(weights[number] for number, _, _ in self.running.values())
         return max(rests + [(waiting * rate + sum(rests)) / max(1, len(rests))])
 
-    def text(self, trouble: str = "") -> str:
-        """Returns the line to show, with any `trouble`. It names the part that has run longest, if for LONG_SECONDS or
-        more."""
-        run, machines, now = self.run, len({machine for _, machine in self.running}), time.monotonic()
-        left = self.left() if machines and not trouble else None
-        text = f"{100 * (run.cut.count - self.lines) // max(1, run.cut.count)}%, "
+    def text(self, trouble: str) -> str:
+        """Returns the line to show, with any `trouble`. It names the part that has run longest, if for LONG_SECONDS."""
+        run, hosts, now = self.run, len({machine.host for _, machine, _ in self.running.values()}), time.monotonic()
+        left = self.left() if hosts and not trouble else None
+        text = f"{100 * (run.count - self.lines) // max(1, run.count)}%, "
         text += f"{span_of(left)} left, " if left is not None else ""
-        text += trouble or f"{counted(machines, 'machine') if machines else 'no machine'} at work"
+        text += trouble or f"{counted(hosts, 'machine') if hosts else 'no machine'} at work"
         text += f", parts {run.parts - self.parts} of {run.parts}"
-        (number, machine), since = min(self.running.items(), key=lambda work: work[1], default=((0, ""), now))
-        if now - since >= LONG_SECONDS:
-            text += f"; {run.span(number)} has been running for {span_of(now - since)} on {machine}"
+        for number, machine, start in sorted(self.running.values(), key=lambda part: part[2])[:1]:
+            if now - start >= LONG_SECONDS:
+                text += f"; {run.span(number)} has been running for {span_of(now - start)} on {machine.host}"
         return text
 
 
@@ -88,65 +94,62 @@ class Threads:
             most, why = max(1, threads // each), "no more processes may be started (ulimit -u)"
         if most < jobs:
             say(f"{most} of {jobs} jobs work at a time, since {why}")
-        self.run, self.pool, self.fails = run, ThreadPoolExecutor(most), 0
-        self.flying, self.room = 0, 2 * most  # parts that are submitted but not finished, and that may be
+        self.run, self.pool, self.machines = run, ThreadPoolExecutor(most), [Machine(HERE, HERE, most)]
 
-    def submit(self, number: int, failed: List[str]) -> Optional[Future[Any]]:
-        """Submits a part, if possible to a machine not in `failed`. Returns a future that is done when the part is
-        solved, has failed, or is lost; or None if enough parts are submitted."""
-        if self.flying == self.room:
-            return None
-        self.flying += 1
+    def look(self) -> None:
+        """Notes which machines there are, and any trouble. `solve_parts` calls it every second."""
+
+    def send(self, machine: Machine, number: int) -> Future[Answer]:
+        """Lets a machine solve a part. The future is cancelled if the part is taken from the machine."""
         return self.pool.submit(self.run.solve, number)
 
-    def result(self, future: Future[Any], number: int) -> Answer:
-        """Returns what became of a part whose future is done. Tests the program after MOST_FAILS failures in a row, and
-        refuses if it is not fit any more."""
-        self.flying -= 1
-        found, why = future.result()
-        self.fails = 0 if found else self.fails + 1
-        if self.fails and self.fails % MOST_FAILS == 0:
-            self.run.test()
-        return HERE, found and found.seconds, why
-
-    def look(self, flying: Dict[Future[Any], int], is_all: bool) -> Dict[int, str]:
-        """Returns {part: machine} of the parts being solved. `flying` has those submitted, and `is_all` says whether no
-        others wait."""
-        return {number: HERE for future, number in flying.items() if future.running()}
+    def doubt(self, machine: Machine) -> None:
+        """Is called when MOST_FAILS or more parts in a row have failed. Refuses if the program is not fit any more."""
+        self.run.test()
 
 
 def threads_that_start(most: int) -> int:
     """Returns how many threads this process can start, at most `most`."""
     end = threading.Event()
-    threads = [threading.Thread(target=end.wait) for _ in range(most)]
+    started: List[threading.Thread] = []
     with contextlib.suppress(RuntimeError):
-        for thread in threads:
+        for _ in range(most):
+            thread = threading.Thread(target=end.wait)
             thread.start()
+            started.append(thread)
     end.set()
-    started = [thread for thread in threads if thread.ident]
     for thread in started:
         thread.join()
     return len(started)
 
 
+def machine_for(machines: Sequence[Machine], most: int, failed: List[str]) -> Optional[Machine]:
+    """Returns the machine for the next part, or None if each has `most` parts a thread. A part that machines named
+    `failed` failed to solve goes to another one if possible. Since it might end that, it is alone there."""
+    fit = [machine for machine in machines if machine.is_fit]
+    others = [machine for machine in fit if machine.name not in failed] or fit
+    free = [machine for machine in others if len(machine.parts) < (1 if failed else most * machine.threads)]
+    return min(free, key=lambda machine: len(machine.parts) / machine.threads) if free else None
+
+
 def solve_parts(run: Run, engine: Any, quiet: bool) -> None:
     """Solves a run's unsolved parts, except those that fail `engine.tries` times. If `quiet`, shows only failures."""
-    waiting = run.unsolved()
-    done: queue.SimpleQueue[Future[Any]] = queue.SimpleQueue()
-    flying: Dict[Future[Any], int] = {}
-    failures: Dict[int, List[str]] = {}
-    progress = Progress(run, waiting)
+    waiting, progress = run.unsolved(), Progress(run, run.unsolved())
     waiting.reverse()  # since the next part is taken from its end
+    done: queue.SimpleQueue[Future[Answer]] = queue.SimpleQueue()
+    failures: Dict[int, List[str]] = {}  # {part: machines that failed to solve it}
     is_terminal, due, shown, trouble = os.isatty(2), 0.0, time.monotonic(), ""
-    while waiting or flying:
-        while waiting and (sent := engine.submit(waiting[-1], failures.get(waiting[-1], []))):
-            flying[sent] = waiting.pop()
-            sent.add_done_callback(done.put)
-        now = time.monotonic()
+    while waiting or progress.running:
+        now, most = time.monotonic(), 2 if progress.seconds < QUICK_SECONDS * progress.solved else 1
+        while waiting and (machine := machine_for(engine.machines, most, failures.get(waiting[-1], []))):
+            future = engine.send(machine, waiting[-1])
+            progress.running[future] = waiting.pop(), machine, now
+            machine.parts.add(future)
+            future.add_done_callback(done.put)
         if now >= due:
-            due = now + (1 if flying else 0.2)
-            progress.update(engine.look(flying, not waiting))
-            if not quiet and (now >= shown + (1 if is_terminal else 60) or bool(engine.trouble) > bool(trouble)):
+            due = now + (1 if progress.running else 0.2)
+            engine.look()
+            if not quiet and (now >= shown + (1 if is_terminal else 60) or engine.trouble and not trouble):
                 shown = now
                 (show if is_terminal else say)(progress.text(engine.trouble))
             trouble = engine.trouble
@@ -154,15 +157,20 @@ def solve_parts(run: Run, engine: Any, quiet: bool) -> None:
             future = done.get(timeout=max(0.01, due - now))
         except queue.Empty:
             continue
-        number = flying.pop(future)
-        machine, seconds, why = engine.result(future, number)
-        if seconds is not None:
-            progress.end(number, seconds)
+        number, machine, _ = progress.running.pop(future)
+        machine.parts.remove(future)
+        found, why = (None, machine.ended) if future.cancelled() else future.result()
+        if found:
+            machine.fails = 0
+            progress.end(number, found.seconds)
         elif not why:
             waiting.append(number)
         else:
-            say(f"{machine} failed {run.span(number)}: {why}")
-            failures.setdefault(number, []).append(machine)
+            machine.fails += 1
+            if machine.fails >= MOST_FAILS:
+                engine.doubt(machine)
+            say(f"{machine.name} failed {run.span(number)}: {why}")
+            failures.setdefault(number, []).append(machine.name)
             if len(failures[number]) < engine.tries:
                 waiting.insert(0, number)  # after all others
     show("")

@@ -21,14 +21,7 @@ PASSED_ON = ("--max-empties", "--scoring", "--workers", "--table", "--book-in", 
 # and None for one that is not given; "speed", the like for other options; "parts", how many there are; "list": the
 # size and the SHA-256 of the list; "programs": the SHA-256 of each program; "known": what they print for KNOWN.
 Task = Dict[str, Any]
-
-
-class Place:
-    """Where programs are on a machine: a folder, and the names there of programs and of a --book-in, if any."""
-
-    def __init__(self, folder: str, programs: List[str], book_in: Optional[str]) -> None:
-        self.folder, self.programs, self.book_in = folder, programs, book_in
-
+Files = Dict[str, str]  # {name: path on this machine} of a run's programs, program-0 and so on, and of any book-in
 
 # The results of a part: the program's exit status, its output, its book, and how many seconds it took.
 Solved = NamedTuple("Solved", [("status", int), ("output", bytes), ("book", bytes), ("seconds", float)])
@@ -49,37 +42,37 @@ def words_of(task: Task, book_in: Optional[str]) -> List[str]:
     return [name if given[name] == "" else f"{name}={given[name]}" for name in PASSED_ON if given[name] is not None]
 
 
-def digest_of(task: Task, part: int, lines: str, head: bytes, results: bytes) -> bytes:
-    """Returns the digest of a record (see `solve`), in hexadecimal: the SHA-256 of the options that decide the results,
+def record_digest(task: Task, part: int, lines: str, head: bytes, results: bytes) -> bytes:
+    """Returns the digest in a record (see `solve`), in hexadecimal: the SHA-256 of the options that decide the results,
     the part's number, the SHA-256 of its lines, which is `lines`, and the rest of the record."""
     asked = json.dumps([task["options"], part, lines], sort_keys=True).encode()
     return sha256(b"\n".join((asked, head, results))).encode()
 
 
 def read_record(task: Task, part: int, lines: str, record: bytes) -> Optional[Solved]:
-    """Returns the results in a record, or None if it is damaged or of another task. `lines` as for `digest_of`."""
+    """Returns the results in a record, or None if it is damaged or of another task. `lines`: see `record_digest`."""
     head = HEAD.match(record)
-    if not head or digest_of(task, part, lines, head[1], record[head.end():]) != head[6]:
+    if not head or record_digest(task, part, lines, head[1], record[head.end():]) != head[6]:
         return None
     middle = head.end() + int(head[3])
     return Solved(int(head[2]), record[head.end():middle], record[middle:], float(head[5]))
 
 
-def solve(task: Task, place: Place, program: str, part: int, text: bytes,
+def solve(task: Task, files: Files, program: str, part: int, text: bytes,
           is_wanted: Callable[[], bool] = lambda: True) -> Tuple[bytes, str]:
-    """Solves the lines `text` of a part with the program of that name in `place`, and kills it once `is_wanted` returns
-    false. Returns (record, "") or, if the program fails, (b"", the reason). A record is a line with the program's
-    status, the sizes of its output and its book in bytes, the seconds that it took, and the digest that `digest_of`
-    returns; then the output and the book."""
+    """Solves the lines `text` of a part with the program of that path, and kills it once `is_wanted` returns false.
+    Returns (record, "") or, if the program fails, (b"", the reason). A record is a line with the program's status, the
+    sizes of its output and its book in bytes, the seconds that it took, and its `record_digest`; then the output and
+    the book."""
     # The program writes its book to the pipe of standard error, so that it needs no room on a disk.
     has_book, most = task["options"]["--book-out"] is not None, task["options"]["--scores"] is not None
-    words = [f"{place.folder}/{program}", *words_of(task, place.book_in), *["--book-out=/dev/stderr"] * has_book]
-    begun = time.monotonic()
+    words = [program, *words_of(task, files.get("book-in")), *["--book-out=/dev/stderr"] * has_book]
+    start = time.monotonic()
     try:  # after a timeout, `communicate` loses the rest of the input, so the lines are a file in memory
         with open(os.memfd_create("part"), "w+b") as file:
             file.write(text)
             file.seek(0)
-            process = subprocess.Popen(guarded(words), cwd=place.folder, start_new_session=True, stdin=file,
+            process = subprocess.Popen(guarded(words), cwd=os.path.dirname(program), start_new_session=True, stdin=file,
                                        stdout=subprocess.PIPE, stderr=subprocess.PIPE)
     except OSError as why:
         return b"", f"{why.filename or 'part'}: {why.strerror}"
@@ -96,21 +89,21 @@ def solve(task: Task, place: Place, program: str, part: int, text: bytes,
         name = f"status {status}" if status >= 0 else f"killed by {signal.Signals(-status).name}"
         return b"", (errors.decode(errors="replace").strip() or name).splitlines()[0]
     book = errors[max(0, errors.find(b"% ffobook ")):] if has_book else b""
-    head = b"%d %d %d %.3f" % (status, len(output), len(book), time.monotonic() - begun)
-    return b"%b %b\n%b%b" % (head, digest_of(task, part, sha256(text), head, output + book), output, book), ""
+    head = b"%d %d %d %.3f" % (status, len(output), len(book), time.monotonic() - start)
+    return b"%b %b\n%b%b" % (head, record_digest(task, part, sha256(text), head, output + book), output, book), ""
 
 
-def fit_program(task: Task, place: Place) -> Tuple[str, str]:
-    """Returns the name of the first program in `place` that has a SHA-256 of `task` and solves KNOWN within
+def fit_program(task: Task, files: Files) -> Tuple[str, str]:
+    """Returns the path of the first program in `files` that has a SHA-256 of `task` and solves KNOWN within
     KNOWN_SECONDS, with the results that `task` knows, if any; and these results, output and book as one text. Raises
     ChildProcessError if no program is fit."""
     why = "is missing"
-    for program in place.programs:
-        if sha256(Path(place.folder, program).read_bytes()) not in task["programs"]:
+    for _, program in sorted(file for file in files.items() if file[0] != "book-in"):
+        end = time.monotonic() + KNOWN_SECONDS
+        if sha256(Path(program).read_bytes()) not in task["programs"]:
             why = "is damaged"
             continue
-        end = time.monotonic() + KNOWN_SECONDS
-        record, fault = solve(task, place, program, 0, KNOWN, lambda: time.monotonic() < end)
+        record, fault = solve(task, files, program, 0, KNOWN, lambda: time.monotonic() < end)
         results = record.partition(b"\n")[2].decode("latin-1")
         if record and results == task.get("known", results):
             return program, results
@@ -139,10 +132,10 @@ def read_task(folder: Path) -> Task:
     raise ValueError(f"{folder / 'task.json'} is damaged: run ffosolve-many again")
 
 
-def place_in(folder: Path) -> Place:
-    """Returns the programs and the --book-in in the folder of a run."""
-    programs = sorted(path.name for path in folder.glob("program-?"))
-    return Place(str(folder.absolute()), programs, "book-in" if (folder / "book-in").is_file() else None)
+def files_in(folder: Path) -> Files:
+    """Returns the programs and any book-in in the folder of a run."""
+    found = (path for pattern in ("program-?", "book-in") for path in folder.glob(pattern))
+    return {path.name: str(path.absolute()) for path in found if path.is_file()}
 
 
 def parts_in(words: List[str], count: int) -> List[range]:
@@ -154,34 +147,28 @@ def parts_in(words: List[str], count: int) -> List[range]:
     return ranges
 
 
-def solve_into(path: Path, mode: int, task: Task, place: Place, program: str, part: int, text: bytes) -> str:
-    """Writes a part's record to `path`, unless it is there. Returns why the part is not solved, or "". Makes room for
-    the record first, so that no part is solved in vain."""
-    with open(os.open(path, os.O_RDWR | os.O_CREAT, mode), "r+b") as file:
-        if read_record(task, part, sha256(text), file.read()):
-            return ""
-        os.posix_fallocate(file.fileno(), 0, 4 * len(text) + 1000)
-        record, why = solve(task, place, program, part, text)
-        file.seek(0)
-        file.write(record)
-        file.truncate()
-        file.flush()
-        os.fsync(file.fileno())
-    return why
-
-
 def main(folder: Path, words: List[str]) -> Iterator[str]:
-    """Solves parts of the list in a run's folder, unless they are solved. Yields an error for each that fails."""
-    task, place = read_task(folder), place_in(folder)
-    parts, program = parts_in(words, task["parts"]), fit_program(task, place)[0]
-    with (folder / "list").open("rb") as file:
-        mode = os.fstat(file.fileno()).st_mode & 0o666
+    """Solves parts of the list in a run's folder, unless they are solved. Yields an error for each that fails. Makes
+    room for a part's record first, so that no part is solved in vain."""
+    task, files = read_task(folder), files_in(folder)
+    parts, program = parts_in(words, task["parts"]), fit_program(task, files)[0]
+    with (folder / "list").open("rb") as source:
+        mode = os.fstat(source.fileno()).st_mode & 0o666
         for part in range(1 + max(some[-1] for some in parts)):
-            text = b"".join(itertools.islice(file, task["options"]["--lines"]))
-            if any(part in some for some in parts):
-                why = solve_into(folder / f"results/{part:07d}", mode, task, place, program, part, text)
-                if why:
-                    yield f"part {part:07d}: {why}"
+            text = b"".join(itertools.islice(source, task["options"]["--lines"]))
+            if not any(part in some for some in parts):
+                continue
+            with open(os.open(folder / f"results/{part:07d}", os.O_RDWR | os.O_CREAT, mode), "r+b") as file:
+                if read_record(task, part, sha256(text), file.read()):
+                    continue
+                os.posix_fallocate(file.fileno(), 0, 4 * len(text) + 1000)
+                record, why = solve(task, files, program, part, text)
+                file.seek(0)
+                file.truncate(file.write(record))
+                file.flush()
+                os.fsync(file.fileno())
+            if why:
+                yield f"part {part:07d}: {why}"
 
 
 if __name__ == "__main__":

@@ -224,9 +224,8 @@ fn is_refused<R: Wait>(
     }
 }
 
-// Clients of a sender that is closed and of a sender that the desk doesn't have. Each asks for
-// memory for its list before the board is asked. `tests/refused` counts the requests, and sees each
-// refusal returned.
+// Submits for a sender that is closed and for a sender that the desk doesn't have. Each asks for
+// memory for the client's list before it asks the board, so each is `Memory` if that is refused.
 #[test]
 fn a_clients_memory_comes_first(rt: HostRuntime) -> Result<(), AllocError> {
     let alloc = rt.alloc();

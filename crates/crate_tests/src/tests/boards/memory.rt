@@ -1,6 +1,6 @@
 //! Three senders with two jobs each: once all are submitted, no step takes memory. A submit that is
 //! refused memory ends the test; a step that asked for memory could not report it. So
-//! `tests/test_out_of_memory.py` refuses each request in turn, and sees each refusal end the test.
+//! `tests/test_crates.py` refuses each request in turn, and sees each refusal end the test.
 
 use super::{CORNER_LEFT_OVER, LAST_CORNER, UNEQUAL_CORNERS, solved, task_of};
 use endgame_search::Task;

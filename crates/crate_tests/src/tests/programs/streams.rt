@@ -1,5 +1,5 @@
-//! Streams unlike any file: a reader that fails in the middle, and a writer that takes all and
-//! can't pass it on.
+//! Programs whose standard input fails, at once or after a few bytes, or whose standard output takes
+//! all bytes but can't pass them on.
 
 use super::{TWO, words_of};
 use ffoscores_program::list_program;
@@ -31,7 +31,7 @@ fn fails_with<T: Files + Clock + Threads + Wait + Sync, R: Read, W: Write>(
     Ok(status == 3 && errors.as_slice() == error.as_bytes())
 }
 
-// A reader that returns one byte a call, and whose call fails when none is left.
+// A reader that returns one byte a call, and fails once no call is left.
 #[derive(Drop)]
 struct FailingReader<'a> {
     bytes: &'a [u8],
@@ -104,7 +104,7 @@ const UNWRITTEN: &[(&str, &str)] = &[
     ),
 ];
 
-// No book is written.
+// The error is reported, and no book is written.
 #[test]
 fn unflushed_output_is_reported(rt: HostRuntime) -> Result<(), Fail> {
     for (line, error) in UNWRITTEN {

@@ -5,7 +5,7 @@ use Rattle.obf_text.specs.LineText.{texts_of}
 use Rattle.suite_runs.specs.Part.{part_view, part_view_of}
 use Rattle.suite_runs.proofs.PartLemmas.{parts_fit, views_step}
 use Rattle.program_settings.proofs.InputFaultLemmas.{small_at}
-use Rattle.suite_runs.proofs.serial.solve_texts.Goals as goal
+use Rattle.suite_runs.proofs.serial.solve_files_serially.Goals as goal
 
 pub solve_text-requires-clause-short : goal.solve_text-requires-clause-short
 solve_text-requires-clause-short c =
