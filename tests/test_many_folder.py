@@ -377,6 +377,12 @@ def test_a_folder_that_is_empty_or_was_just_begun_is_used(case):
         assert [*Path(at).glob("*.new")] == []
 
 
+def test_a_folder_whose_program_did_not_work_at_first_is_used(case):
+    spoiled = {"SPOIL_KNOWN": "lambda output: b''"}
+    case.many(*WORDS, by=case.ACTS, places=spoiled, status=4, message="on this machine the program can't solve ")
+    case.many(*WORDS)
+
+
 INTERRUPTED = "interrupted; the same command goes on with what is solved"
 SIGNALLED = ("--jobs=2", "--lines=5", *WORDS[1:])
 

@@ -301,7 +301,7 @@ def test_processes_are_kept_and_used_again(solver):
     assert process in kept() and 2 <= len(kept()) <= min(3, os.cpu_count())
     solver.solve_all([HARD] * 9, threads=9)
     assert len(kept()) <= os.cpu_count()
-    assert children() == kept()
+    within_a_second(lambda: children() == kept(), children, kept)  # a child of a thread that ends is listed late
 
 
 def test_calls_of_several_threads_do_not_stop_each_other(solver):

@@ -225,7 +225,7 @@ def options_of(command: argparse.Namespace, book: Optional[bytes]) -> Task:
 @contextlib.contextmanager
 def locked(folder: Path) -> Iterator[None]:
     """Makes a folder if needed, and locks it until this process ends. Refuses a folder that has files but no LOCK, or
-    that is locked. If the `with` block refuses, what was made vanishes."""
+    that is locked. If the `with` block refuses and leaves no file, what was made vanishes."""
     made = [path for path in (folder / LOCK, folder, *folder.parents) if not path.exists()]
     folder.mkdir(parents=True, exist_ok=True)
     found = sorted(os.listdir(folder))
@@ -248,8 +248,9 @@ def locked(folder: Path) -> Iterator[None]:
         yield
     except Refusal:
         with contextlib.suppress(OSError):
-            for path in made:
-                path.unlink() if path.name == LOCK else path.rmdir()
+            if os.listdir(folder) == [LOCK]:
+                for path in made:
+                    path.unlink() if path.name == LOCK else path.rmdir()
         raise
 
 
