@@ -3,6 +3,7 @@ import os
 from typing import BinaryIO, Iterator, Union
 
 MOST_BYTES = 1_048_576  # in a line with its end; ffosolve takes as many in a whole list
+BOOK_HEADER = "% ffobook 2 "  # the first line of a book is this and the scoring
 MARKS = (b"\xef\xbb\xbf", b"\xff\xfe", b"\xfe\xff")  # byte-order marks of UTF-8 and UTF-16
 ARCHIVES = (b"PK\3\4", b"\x1f\x8b")  # how a .zip and a .gz begin
 

@@ -9,9 +9,9 @@ from typing import BinaryIO, Counter, Dict, Iterable, Iterator, List, Mapping, T
 
 from ._games import EMPTIES_BYTE, FIRST_MOVE, HEADER, RECORD, read_header
 from ._positions import Position
-from ._text import NotText
+from ._text import BOOK_HEADER, NotText
 
-FIRST_LINE = b"% ffobook 2 winner"
+FIRST_LINE = f"{BOOK_HEADER}winner"
 ENTRY = re.compile(rb"[XO-]{64} X;(?: (?:PS|--):([+-]\d\d);| [A-H][1-8]:([+-]\d\d);(?: [A-H][1-8]:\2;)*)")
 YEAR = struct.Struct("<10x H")  # in the header of a WTHOR file
 NUMBERS = struct.Struct("<HHH")  # in a game's record: the numbers, from 0, of the tournament, of Black and of White
@@ -32,8 +32,8 @@ def exact_scores(book: Iterable[bytes], name: str, wanted: Iterable[Position]) -
 def entries(book: Iterable[bytes], name: str) -> Iterator[Tuple[Position, int]]:
     """Yields (canonical position, score for the mover) for each entry of a book."""
     lines, wrong = (line.rstrip(b"\r\n") for line in book), f"{name} is not a book of exact scores: it"
-    if next(lines, b"") != FIRST_LINE:
-        raise NotText(f"{wrong} does not begin with `{FIRST_LINE.decode()}`, as what ffosolve-many --book-out writes")
+    if next(lines, b"") != FIRST_LINE.encode():
+        raise NotText(f"{wrong} does not begin with `{FIRST_LINE}`, as what ffosolve-many --book-out writes")
     for number, line in enumerate(lines, 2):
         match = ENTRY.fullmatch(line)
         if match is None:

@@ -13,7 +13,8 @@ from .._command_line import MISUSED, Refusal
 from .._positions import BLACK, WHITE, Position
 from .._refusals import NoPosition
 from .._squares import NAMES
-from .folder import HEADER, Run
+from .._text import BOOK_HEADER
+from .folder import Run
 
 Entry = Tuple[List[int], Tuple[str, int], bytes]  # see `entries_of`
 READ = 4096  # bytes of a book that are read at once, and the rest of their last line
@@ -55,13 +56,13 @@ def merged(names: Sequence[str], books: Iterable[Iterable[bytes]]) -> Iterator[b
     these books. Refuses two scorings, and lines that disagree. Raises ValueError at a malformed or repeated line."""
     rests = [iter(book) for book in books]
     firsts = [next(book, b"") for book in rests]
-    scorings = [re.sub("^% ffobook 2 ", "", first.decode("latin-1")).rstrip() if first.startswith(b"% ffobook ")
+    scorings = [re.sub(f"^{BOOK_HEADER}", "", first.decode("latin-1")).rstrip() if first.startswith(b"% ffobook ")
                 else "winner" for first in firsts]
     for name, scoring in zip(names, scorings):
         if scoring != scorings[0]:
             raise Refusal(f"{names[0]} has the scoring {scorings[0]} and {name} {scoring}: only books of one scoring "
                           "can be merged", MISUSED)
-    yield HEADER.format(scorings[0]).encode()
+    yield f"{BOOK_HEADER}{scorings[0]}\n".encode()
     entries = (entries_of(itertools.chain([first], book), name) for name, first, book in zip(names, firsts, rests))
     for _, ((_, place, line), *others) in itertools.groupby(heapq.merge(*entries), lambda entry: entry[0]):
         for _, other_place, other in others:
@@ -75,7 +76,8 @@ def merged(names: Sequence[str], books: Iterable[Iterable[bytes]]) -> Iterator[b
 
 def book_of(run: Run) -> Iterator[bytes]:
     """Yields the lines of a run's book. Merges the parts' books, BATCH at a time, in a file without a name."""
-    books, header = (io.BytesIO(found.book) for found in run.solved()), HEADER.format(run.task["options"]["--scoring"])
+    books = (io.BytesIO(found.book) for found in run.solved())
+    header = f"{BOOK_HEADER}{run.task['options']['--scoring']}\n"
     place = run.folder if os.access(run.folder, os.W_OK) else None
     with tempfile.TemporaryFile(dir=place) as file:
         path, ends = Path(f"/proc/{os.getpid()}/fd/{file.fileno()}"), [0]

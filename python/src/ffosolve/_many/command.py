@@ -14,7 +14,7 @@ from typing import Any, Dict, Iterable, List, Optional, Tuple
 from .._command_line import (DONE, MISSING, MISUSED, REMARKED, UNREADABLE, Name, Parser, Refusal, counted, is_same,
                              path_of, print_all, regular, replace, say)
 from .._command_line import run as run_program
-from .._text import shown
+from .._text import BOOK_HEADER, shown
 from .books import book_lines, book_of, merged
 from .engine import Threads, solve_parts
 from .folder import Run, begin, options_of
@@ -191,7 +191,7 @@ def run_of(command: argparse.Namespace, programs: str) -> Run:
         raise misused(f"standard output is the list {shown(command.list)}: name another file")
     source = regular(command.list)
     with source.open("rb") as file:
-        book = re.match(rb"% ffobook 2 (discs|sign)\s", file.readline(99))
+        book = re.match(rf"{BOOK_HEADER}(discs|sign)\s".encode(), file.readline(99))
     if book and not command.scoring:
         scoring = book[1].decode()
         raise misused(f"{shown(command.list)} is a book of the scoring {scoring}: use --scoring {scoring}")

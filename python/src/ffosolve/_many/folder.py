@@ -15,11 +15,10 @@ from typing import Any, Callable, Dict, Iterable, Iterator, List, Optional, Sequ
 
 from . import solve
 from .._command_line import MISSING, MISUSED, Refusal, refusing, write_whole
-from .._text import MOST_BYTES, NotText, shown, text_lines
+from .._text import BOOK_HEADER, MOST_BYTES, NotText, shown, text_lines
 from .solve import Solved, Task, files_in, fit_program, read_record, read_task, sha256, task_text
 
 LOCK = "ffosolve-many.lock"
-HEADER = "% ffobook 2 {}\n"  # the first line of a book, with its scoring
 UNKNOWN = 255  # stands for the status of an unsolved part
 GROWTH = 2.35  # factor of the work for each further empty square, as measured from 14 to 22 of them
 SKIPPED = re.compile(rb"[ \t]*(?:%.*|\r?)", re.DOTALL)
@@ -164,7 +163,7 @@ class Run:
         if options["--scores"] is not None:
             is_whole = output.count(b"\n") == text.count(b"\n") + (text[-1:] != b"\n") and output.endswith(b"\n")
         else:
-            has_book = book.startswith(HEADER.format(options["--scoring"]).encode()) and book.endswith(b"\n")
+            has_book = book.startswith(f"{BOOK_HEADER}{options['--scoring']}\n".encode()) and book.endswith(b"\n")
             is_book = has_book == (options["--book-out"] is not None)
             is_whole = found.status == 0 and is_book and is_report(output, asked_lines(text))
         if is_whole:
