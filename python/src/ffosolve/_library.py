@@ -5,7 +5,6 @@ import contextlib
 import ctypes
 import functools
 import os
-import pickle
 import select
 import sys
 import threading
@@ -106,9 +105,10 @@ def search(library: ctypes.CDLL, name: str, scoring: int, entries: int, asked: A
 
 
 def serve() -> None:
-    """Makes calls until the end of standard input, a socket, and then ends even in a call. A pickled request has a
-    library's path, the name, the scoring and the number of entries of `search`, and the bytes of the positions and of
-    the claim. The reply has the status and the bytes of what the call found."""
+    """Makes calls until the end of standard input, a socket, and then ends even in a call. A request has a library's
+    path, the name, the scoring and the number of entries of `search`, and the bytes of the positions and of the claim.
+    The reply has the status and the bytes of what the call found."""
+    from multiprocessing.connection import Connection
 
     def end_with_the_socket() -> None:
         hangup = select.poll()
@@ -118,16 +118,16 @@ def serve() -> None:
 
     threading.stack_size(1 << 18)
     threading.Thread(target=end_with_the_socket, daemon=True).start()
-    with contextlib.suppress(EOFError, pickle.UnpicklingError):
+    connection = Connection(0)
+    with contextlib.suppress(EOFError):
         while True:
-            place, name, scoring, entries, positions, claim = pickle.load(sys.stdin.buffer)
+            place, name, scoring, entries, positions, claim = connection.recv()
             asked = (CPosition * (len(positions) // ctypes.sizeof(CPosition))).from_buffer_copy(positions)
             found = ((CMoveScores if name == "move_scores_all" else CAnswer) * len(asked))()
             both = (asked, found) if name.endswith("_all") else (asked[0], found[0])
             claimed = CAnswer.from_buffer_copy(claim)
             status = search(declared(place), name, scoring, entries, both[0], claimed, both[1])
-            pickle.dump((status, bytes(found)), sys.stdout.buffer)
-            sys.stdout.buffer.flush()
+            connection.send((status, bytes(found)))
 
 
 if __name__ == "__main__":

@@ -3,19 +3,17 @@ import atexit
 import contextlib
 import ctypes
 import math
+import multiprocessing
 import numbers
 import os
-import pickle
 import reprlib
-import select
 import signal
-import socket
 import subprocess
 import sys
 import threading
 import time
 from concurrent.futures import CancelledError
-from typing import Any, List, Optional, Set, Tuple
+from typing import Any, List, Optional, Set
 
 from . import _library
 from ._library import CAnswer, search
@@ -24,7 +22,6 @@ from ._library import CAnswer, search
 # positions for each empty square less, down to 8.
 BRIEF, LIGHTEST = 4096, 8
 CHECK_SECONDS = 0.2  # how often a waiting call finds out whether it has to stop, also by a signal to another thread
-CUT_OFF = EOFError, ConnectionError, pickle.UnpicklingError  # what talking to a process that has ended raises
 
 
 def is_brief(count: int, empties: int) -> bool:
@@ -39,7 +36,7 @@ class SearchProcess:
         if not sys.executable or hasattr(sys, "frozen"):
             raise FileNotFoundError("this program does not know the path of Python, so it can't start a process")
         words = [sys.executable, "-S", _library.__file__]
-        self.socket, theirs = socket.socketpair()
+        self.connection, theirs = multiprocessing.Pipe()
         masked = signal.pthread_sigmask(signal.SIG_BLOCK, {signal.SIGINT})  # Ctrl-C is for this process alone
         try:
             with theirs:
@@ -47,20 +44,6 @@ class SearchProcess:
             PROCESSES.add(self)
         finally:
             signal.pthread_sigmask(signal.SIG_SETMASK, masked)
-
-    def ask(self, *request: Any) -> None:
-        self.socket.sendall(pickle.dumps(request), socket.MSG_NOSIGNAL)
-
-    def is_ready(self, seconds: float) -> bool:
-        """Waits for the beginning of a reply, at most for `seconds`; returns whether it came."""
-        poll = select.poll()
-        poll.register(self.socket, select.POLLIN)
-        return bool(poll.poll(math.ceil(1000 * seconds)))
-
-    def reply(self) -> Tuple[int, bytes]:
-        with self.socket.makefile("rb") as replies:
-            status, found = pickle.load(replies)
-        return status, found
 
     def keep(self) -> None:
         """Keeps the process for later calls, unless there is already one for each processor."""
@@ -72,7 +55,7 @@ class SearchProcess:
     def end(self) -> int:
         """Ends the process and returns its status, or -N if the signal N had ended it."""
         PROCESSES.discard(self)
-        self.socket.close()
+        self.connection.close()
         self.process.kill()
         return self.process.wait()
 
@@ -99,7 +82,7 @@ def end_idle() -> None:
 def forget() -> None:
     """Closes what a forked process has of its parent's SearchProcesses, since only the parent may use and end them."""
     for process in PROCESSES:
-        process.socket.close()
+        process.connection.close()
         process.process.returncode = 0
     PROCESSES.clear()
     IDLE.clear()
@@ -140,20 +123,20 @@ class Run:
                 raise
             return search(self.library, name, scoring, entries, asked, claim, found)
         try:
-            process.ask(self.library._name, name, int(scoring), int(entries), bytes(asked), bytes(claim))
-            while not process.is_ready(self.wait_seconds()):
+            process.connection.send((self.library._name, name, int(scoring), int(entries), bytes(asked), bytes(claim)))
+            while not process.connection.poll(self.wait_seconds()):
                 pass
-            status, data = process.reply()
+            status, data = process.connection.recv()
         except BaseException as error:
             ended = process.end()
-            if not isinstance(error, CUT_OFF):
+            if not isinstance(error, (EOFError, ConnectionError)) and type(error) is not OSError:  # in a cut-off reply
                 raise
             how = f"was ended by signal {-ended}" if ended < 0 else f"ended with status {ended}"
             raise ChildProcessError(f"the process that solved {how}") from None
         process.keep()
         if not status:
             ctypes.memmove(ctypes.addressof(found), data, len(data))
-        return status
+        return int(status)
 
 
 def is_cancelled() -> bool:
