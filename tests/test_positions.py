@@ -1,5 +1,4 @@
 """The class Position: its rules, compared with bench/player.py, its text and pictures. The max_empties of a Solver."""
-import functools
 import io
 import itertools
 import os
@@ -14,7 +13,7 @@ from bench import player
 
 from .support import ROOT, built, need, run
 from .games import NAMES, positions_of, random_games, squares_of, transcript
-from .positions import random_positions
+from . import positions  # noqa: F401 - sets FFOSOLVE_LIBRARY
 import ffosolve
 from ffosolve import Position, Scoring, Solver
 
@@ -53,9 +52,9 @@ def test_a_transcript_plays_on_from_any_position():
     start = Position.start()
     for number, game in enumerate(random_games(100, seed=77)):
         squares, text = squares_of(game), transcript(game).upper()
-        cut, positions = number % len(squares), positions_of(squares)
-        middle, end = start.play_all(text[:2 * cut]), position_of(*positions[min(positions)])
-        assert middle.to_obf() == position_of(*positions[60 - cut]).to_obf()
+        cut, known = number % len(squares), positions_of(squares)
+        middle, end = start.play_all(text[:2 * cut]), position_of(*known[min(known)])
+        assert middle.to_obf() == position_of(*known[60 - cut]).to_obf()
         with_passes = [NAMES[move] if move is not None else "--" for move in game]
         noted = " ".join(with_passes) + " pass pass 33-31 % f5"
         for at, moves in ((middle, text[2 * cut:]), (middle, squares[cut:]), (start, with_passes), (start, noted)):
@@ -93,12 +92,9 @@ def test_an_answer_reads_as_its_row_of_a_report_and_its_board_names_a_pass_and_a
     ):
         position = Position.from_obf(line)
         answer = Solver().solve(position)
-        board = position.show(answer)
-        assert (str(answer), str(board).splitlines()[-1]) == (text, f"{position.side} {state}")
+        board, scores = position.show(answer), dict.fromkeys(answer.squares, answer.score)
+        assert (str(answer), str(board)) == (text, str(position.show(scores)).replace("is to move", state))
         assert board._repr_svg_().count(f">{mover} {state}</text>") == 1
-
-
-def test_an_answer_names_all_best_moves():
     two = ffosolve.Answer(0, ffosolve.Kind.MOVES, 0x81)
     assert (str(two), f"{two}") == ("+00 A1,H1", "+00 A1,H1")
     assert repr(two) == "Answer(score=0, kind=<Kind.MOVES: 0>, best=129)"
@@ -148,26 +144,3 @@ def test_the_default_is_that_of_the_programs():
     text = run(built(), "--help", check=True).stdout.decode()
     default = re.search(r"--max-empties.*?\[default: (\d+)\]", text, re.DOTALL)[1]
     assert Solver().max_empties == int(default)
-
-
-def test_more_empty_squares_are_refused_before_anything_is_solved():
-    """The first position of a list would take hours if it were solved."""
-    solver, positions = Solver(max_empties=33), random_positions(2, [33, 34])
-    wide = positions[1]
-    arrays = pytest.importorskip("numpy").array(positions, "uint64").T
-    why = "34 empty squares are more than max_empties=33 of the Solver"
-    for index, call, *given in (
-        (None, solver.solve, wide),
-        (None, solver.move_scores, wide),
-        (None, solver.confirm, wide, ffosolve.Answer(0, ffosolve.Kind.OVER, 0)),
-        *((1, functools.partial(call, threads=threads), positions)
-          for call in (solver.solve_all, solver.move_scores_all) for threads in (1, 2)),
-        (1, solver.solve_arrays, *arrays),
-        (1, solver.move_scores_arrays, *arrays),
-        (0, next, solver.solve_iter([wide])),
-        (0, next, solver.move_scores_iter([wide])),
-    ):
-        with pytest.raises(ffosolve.TooManyEmpties) as refused:
-            call(*given)
-        text = why if index is None else f"position at index {index}: {why}"
-        assert (str(refused.value), refused.value.index) == (text, index)

@@ -1,36 +1,46 @@
 """Tests of the package ffosolve, installed or on PYTHONPATH, with the library that `Solver()` loads: its calls, their
-refusals, and lines of OBF text.
+refusals, perfect play, games turn by turn, arrays of positions, Solvers in other processes, and lines of OBF text.
 
     python3 -m pytest python/tests
 """
 import copy
 import doctest
 import gc
+import inspect
 import io
 import os
 import pathlib
 import pickle
 import re
 import sys
+import textwrap
 import tracemalloc
+from concurrent.futures import ProcessPoolExecutor
 from unittest import mock
 
 import pytest
 
 import ffosolve
-from ffosolve import START, Answer, Kind, Position, Scoring, Solver, parse_lines, read_lines
+from ffosolve import START, Answer, Game, Kind, Position, Scoring, Solver, masks_of, parse_lines, read_lines
 from ffosolve._library import places
 
 CORNERS = "-OXXXXX-XXXXXXXOXXXXXXXXXXXXXXXXXXXOXXXXXXXXXXXXXXXXXXXXXXXXXXXX X; H1:+62;"
 POSITION = Position(0xFFFFFFF7FFFF7F7C, 0x0000000800008002)
 ANSWER = Answer(62, Kind.MOVES, 0x80)
-SHARED, WIDE, AT_PASS = Position(3, 2), Position(1, 6), Position(0x7E, ~0x7F & 2**64 - 1)
+AT_PASS = Position.from_obf("-OOOOOOXXXXXXXXXXXXXXXXXXXXXXXXXXXXXXXXXXXXXXXXXXXXXXXXXXXXXXXXX O;")
+OVER = Position.from_obf("XXXXXXXXXXXXXXXXXXXXXXXXXXXXXXXX----------------OOOOOOOOOOOOOOOO X;")
+EIGHT = Position.from_obf("XOOOO-O-XOOO-OO-XOOOO-OXXXXXXXO-XXOXXXO-OOOOXOOOOXXXOOOOOX-XXXXO X;")  # 8 empty squares
+SHARED, WIDE, WIDER = Position(3, 2), Position(1, 2**31 - 2), Position(1, 2**30 - 2)  # 33 and 34 empty squares
 # Calls of a solver: those that search one position, all those for one position, and those for many.
 SEARCHES = (Solver.solve, Solver.move_scores, lambda solver, position: solver.confirm(position, ANSWER),
             Solver.best_line, Solver.scored_line)
 ONE = (*SEARCHES, Solver.moves, lambda solver, position: solver.play(position, "A1"))
-MANY = (Solver.solve_all, Solver.move_scores_all, lambda solver, positions: list(solver.solve_iter(positions)),
-        lambda solver, positions: list(solver.move_scores_iter(positions)))
+ITERATORS = tuple(lambda solver, positions, call=call: list(call(solver, positions))
+                  for call in (Solver.solve_iter, Solver.move_scores_iter))
+MANY = (Solver.solve_all, Solver.move_scores_all, *ITERATORS)
+LISTS = (*MANY[:2], lambda solver, positions: solver.solve_arrays(*masks_of(positions)),
+         lambda solver, positions: solver.move_scores_arrays(*masks_of(positions)))
+MORE = "34 empty squares are more than max_empties=33 of the Solver"
 
 
 def library_that_returns(status):
@@ -50,7 +60,7 @@ def refused(error, call, *given):
 def test_each_call_returns_what_the_rules_say():
     solver = Solver()
     answers = [solver.solve(POSITION), solver.confirm(POSITION, ANSWER)]
-    answers += solver.solve_all([POSITION, AT_PASS, Position(0xFFFFFFFF, 0xFFFF << 48)])
+    answers += solver.solve_all([POSITION, AT_PASS, OVER])
     assert answers == [ANSWER] * 3 + [Answer(-64, Kind.PASS, 0), Answer(32, Kind.OVER, 0)]
     assert ({type(answer.kind) for answer in answers}, ANSWER.squares) == ({Kind}, ["H1"])
     assert solver.confirm(POSITION, Answer(1000, 7, 3)) == ANSWER
@@ -66,6 +76,141 @@ def test_each_call_returns_what_the_rules_say():
 def test_the_examples_of_the_help_print_what_it_shows():
     failed, attempted = doctest.testmod(ffosolve)
     assert (failed, attempted > 5) == (0, True)
+
+
+def first_moves(position):
+    """Plays always the first legal move. Returns the positions before each move, passes left out, and the moves."""
+    turns = []
+    while not position.is_over:
+        position = position.passed() if position.must_pass else position
+        turns.append((position, position.legal_moves[0]))
+        position = position.play(position.legal_moves[0])
+    return turns
+
+
+@pytest.mark.parametrize("scoring", Scoring)
+@pytest.mark.parametrize("position", [POSITION, AT_PASS, OVER, EIGHT, EIGHT.passed()])
+def test_the_best_line_is_of_best_moves_to_the_end_and_each_score_is_that_of_its_position(position, scoring):
+    solver, at = Solver(scoring=scoring), position
+    line = solver.best_line(position)
+    for move, score in line:
+        answer = solver.solve(at)
+        assert (score, at.is_legal(move)) == (answer.score, True)
+        assert move == (answer.squares[0] if answer.kind == Kind.MOVES else "PS")
+        at = at.play(move)
+    assert at.is_over and (not line) == position.is_over
+    if line:
+        assert at.score(scoring) == -line[-1][1]
+
+
+@pytest.mark.parametrize("position, text", [
+    (POSITION, " H1:+62; A1:+52;"), (POSITION.passed(), None), (AT_PASS, " PS:-64;"), (OVER, " --:+32;")])
+def test_a_scored_line_has_the_best_moves_first(position, text):
+    solver = Solver()
+    line = solver.scored_line(position)
+    if text is not None:
+        assert line == position.to_obf() + text
+    read = Position.from_obf(line)
+    assert (read, read.side) == (position, position.side)
+    scores = [score for _, score in read.listed]
+    assert scores == sorted(scores, reverse=True) and scores[0] == solver.solve(position).score
+    if position.legal_moves:
+        assert dict(read.listed) == solver.move_scores(position)
+    assert solver.scored_line(tuple(position)) == Position(*position).to_obf() + line[67:]
+
+
+def test_the_turns_of_a_game_are_the_positions_in_which_its_moves_are_made():
+    turns = first_moves(START)
+    game = Game.of_text("".join(move for _, move in turns))
+    assert [(position.to_obf(), move) for position, move in game.turns()] == [
+        (position.to_obf(), move) for position, move in turns]
+    passes = sum(before.side == after.side for (before, _), (after, _) in zip(turns, turns[1:]))
+    assert passes > 0
+    assert all(move in position.legal_moves for position, move in game.turns())
+    for wrong in ("f5f5", "z9"):
+        with pytest.raises(ffosolve.GameRefused):
+            Game.of_text(wrong).turns()
+    assert Game(1).turns() == []
+
+
+def test_the_example_of_turns_prints_the_moves_that_lose_discs(capsys):
+    """The scores of the positions after D7 and the other moves are those of plain minimax."""
+    game = Game.of_text("d3c5f6e3c4e6c6b7c7c2f3c3e2b4e7f2f1g2c1b3f5e1g3h3f4g1d2b1a1e8a8g6h2d1"
+                        "a2h1b2g4b5a3g5a6a5c8d8b6f7d6h7h4h6h5a7h8d7b8g7f8a4g8")
+    exec(textwrap.dedent(inspect.getdoc(Game.turns).split(":\n\n")[1]), {"game": game, "solver": Solver(max_empties=6)})
+    assert capsys.readouterr().out == "X D7 2 instead of 10\n"
+
+
+def test_a_game_of_moves_without_words_has_squares():
+    game = Game(1, moves=[37, 43, 64, 18])
+    assert game.squares == ["F5", "D6", "C3"]
+    assert Game(1, moves=[37, 43, 18]).turns() == Game.of_text("f5d6c3").turns()
+    for move in (255, -1, 256 + 43, "D6"):
+        with pytest.raises(ffosolve.GameRefused, match=rf"^game 1, move 2: {move!r} is not a square$"):
+            Solver().positions(Game(1, moves=[37, move]))
+        assert Game(1, moves=[37, move]).squares == ["F5", str(move)]
+
+
+def test_positions_become_arrays_and_arrays_positions():
+    numpy = pytest.importorskip("numpy")
+    white = EIGHT.passed()
+    positions = [POSITION, white, START, Position(2**64 - 1, 0), Position(0, 2**64 - 1), Position(2**63 + 1, 2**53 + 2)]
+    own, opp = masks_of(positions)
+    assert (own.dtype, opp.dtype, own.shape, opp.shape) == (numpy.uint64, numpy.uint64, (6,), (6,))
+    assert list(zip(own.tolist(), opp.tolist())) == positions
+    back = ffosolve.positions_from(own, opp)
+    assert (back, {position.side for position in back}) == (positions, {"X"})
+    assert {position.side for position in ffosolve.positions_from(own, opp, "O")} == {"O"}
+    for empty in ([], iter(())):
+        assert ffosolve.positions_from(*masks_of(empty)) == []
+    assert Solver().solve(Position(own[0], opp[0])) == Solver().solve(POSITION)
+    answers = Solver().solve_arrays(*masks_of(iter([POSITION, EIGHT, white])))
+    assert answers.score.tolist() == [answer.score for answer in Solver().solve_all([POSITION, EIGHT, white])]
+
+
+def test_arrays_that_numpy_rounds_are_refused_by_the_name_of_the_call_that_makes_exact_ones():
+    numpy = pytest.importorskip("numpy")
+    own, opp = numpy.array([POSITION, START]).T
+    why = r"^the masks are arrays of uint64, as masks_of\(positions\) returns them, not of "
+    for wrong in (own, numpy.array([1, 2]), [1, 2]):
+        for call in (Solver().solve_arrays, Solver().move_scores_arrays, ffosolve.positions_from):
+            with pytest.raises(TypeError, match=why):
+                call(wrong, opp)
+    for wrong in ([(1, 2, 3)], [5], [(0.5, 1)], ["ab"], [(own[0], opp[0])]):
+        with pytest.raises(TypeError, match="^a position is two masks, "):
+            masks_of(wrong)
+    with pytest.raises(TypeError, match=r"^positions are a list or .*, as \[position\], not a single one$"):
+        masks_of(POSITION)
+    for wrong in ([(-1, 0)], [(0, 2**64)]):
+        with pytest.raises(ValueError, match=r"^a mask is a number from 0 to 2\*\*64 - 1$"):
+            masks_of(wrong)
+
+
+def library_path():
+    """Returns the path of the library that a Solver loads."""
+    Solver()
+    with open("/proc/self/maps") as maps:
+        return next(line.split(maxsplit=5)[5].rstrip("\n") for line in maps if "libffosolve" in line)
+
+
+SOLVERS = [Solver(), Solver(scoring="sign", entries=7, max_empties=9), Solver(library_path())]
+
+
+@pytest.mark.parametrize("solver", SOLVERS)
+def test_a_solver_is_copied_and_pickled(solver):
+    for copied in (copy.copy(solver), copy.deepcopy(solver), pickle.loads(pickle.dumps(solver))):
+        assert (repr(copied), copied.library_version) == (repr(solver), solver.library_version)
+        assert copied.solve(POSITION) == solver.solve(POSITION)
+    with ProcessPoolExecutor(2) as pool:
+        assert list(pool.map(solver.solve, [POSITION, AT_PASS])) == solver.solve_all([POSITION, AT_PASS])
+
+
+def test_a_solver_shows_its_settings():
+    assert [repr(solver) for solver in SOLVERS[:2]] == [
+        "Solver(scoring='winner', max_empties=20)", "Solver(scoring='sign', entries=7, max_empties=9)"]
+    path = SOLVERS[2]._path
+    assert repr(SOLVERS[2]) == f"Solver({path!r}, scoring='winner', max_empties=20)"
+    assert [repr(eval(repr(solver))) for solver in SOLVERS] == list(map(repr, SOLVERS))
 
 
 def test_equal_positions_and_answers_have_one_hash():
@@ -91,14 +236,15 @@ def test_a_position_keeps_its_colours():
     assert at.passed().to_obf() == board + " X;"
     assert Solver().play(tuple(START), "f5").side == "O"
     white = Position(1, 2, "O")
-    for copied in (pickle.loads(pickle.dumps(white)), copy.deepcopy(white), white._replace(own=4)):
-        assert copied.side == "O"
     for text in (white.to_obf(), "oB" + "." * 62 + "w;A1:+2;"):
         assert Position.from_obf(text).to_obf() == "OX" + "-" * 62 + " O;"
     assert white.to_obf("X") == "XO" + "-" * 62 + " X;"
 
 
-def test_scorings_limits_and_versions_are_those_of_the_library():
+def test_scorings_limits_and_versions_are_those_of_the_library_and_scorings_and_kinds_print_as_their_names():
+    assert [f"{it} {it!s:>7}" for it in Scoring] == ["winner  winner", "discs   discs", "sign    sign"]
+    assert [f"{it}" for it in Kind] == ["moves", "pass", "over"]
+    assert list(Scoring) == [0, 1, 2]
     for scoring in Scoring:
         for name in (scoring, int(scoring), scoring.name, scoring.name.lower()):
             assert Solver(scoring=name).scoring is scoring
@@ -125,6 +271,17 @@ def test_the_library_gets_the_scoring_the_size_of_the_table_and_the_claim(settin
     assert given == (0xFF0, 0xF, -3, Kind.OVER, 4)
 
 
+@pytest.mark.parametrize("call", [Solver.solve_all, Solver.move_scores_all])
+def test_one_thread_makes_one_table_for_all_positions(call, monkeypatch):
+    monkeypatch.setattr("ffosolve._solvers.is_brief", lambda *_: True)
+    solver = Solver(max_empties=60)
+    for threads, counts in (1, [8]), (2, [1] * 8):
+        solver._library = library_that_returns(0)
+        call(solver, [START] * 8, threads=threads)
+        made = getattr(solver._library, f"ffosolve_{call.__name__}").call_args_list
+        assert [it.args[1] for it in made] == counts
+
+
 def test_calls_keep_no_memory():
     calls = [
         *((call, Solver(), POSITION) for call in ONE), *((call, Solver(), [POSITION] * 9) for call in MANY),
@@ -144,14 +301,18 @@ def test_calls_keep_no_memory():
         tracemalloc.stop()
 
 
-@pytest.mark.parametrize("calls, given, error, index", [
-    (ONE, SHARED, ffosolve.SharedSquare, None),
-    (SEARCHES, WIDE, ffosolve.TooManyEmpties, None),
-    (MANY, [POSITION, WIDE, SHARED], ffosolve.TooManyEmpties, 1),
+@pytest.mark.parametrize("calls, given, error, why, index", [
+    (ONE, SHARED, ffosolve.SharedSquare, "the masks share a square", None),
+    (SEARCHES, WIDER, ffosolve.TooManyEmpties, MORE, None),
+    (LISTS, [WIDE, WIDER, SHARED], ffosolve.TooManyEmpties, f"position at index 1: {MORE}", 1),
+    (ITERATORS, [POSITION, WIDER, SHARED], ffosolve.TooManyEmpties, f"position at index 1: {MORE}", 1),
 ])
-def test_positions_are_refused_by_each_call(calls, given, error, index):
+def test_positions_are_refused_by_each_call(calls, given, error, why, index):
+    """In a list, before anything is solved: the first position would take hours."""
+    pytest.importorskip("numpy")
     for call in calls:
-        assert refused(error, call, Solver(), given).index == index
+        refusal = refused(error, call, Solver(max_empties=33), given)
+        assert (str(refusal), refusal.index) == (why, index)
 
 
 def test_the_greatest_settings_are_taken():
@@ -222,13 +383,6 @@ def test_a_single_position_is_no_list(call):
         call(Solver(), POSITION)
     with pytest.raises(TypeError, match="^a position is two masks, .* not [0-9.]+$"):
         call(Solver(), tuple(POSITION))
-
-
-def test_a_board_shows_an_answer():
-    line = Position.from_obf(CORNERS)
-    assert str(line.show(ANSWER)) == str(line.show({"H1": 62}))
-    for score, kind, state in (-64, Kind.PASS, "has to pass: -64"), (32, Kind.OVER, "scores +32: the game is over"):
-        assert str(line.show(Answer(score, kind, 0))) == str(line).replace("is to move", state)
 
 
 @pytest.mark.parametrize("path", ["/nowhere/libffosolve.so", pathlib.Path("/nowhere/libffosolve.so"), __file__])
