@@ -23,16 +23,12 @@ static size_t read_positions(void) {
     return count;
 }
 
-static void print_square(int square) { printf("%c%c", 'A' + square % 8, '1' + square / 8); }
-
 static void print_squares(uint64_t mask) {
     const char *between = "";
     for (int square = 0; square < 64; square++) {
-        if (mask >> square & 1) {
-            printf("%s", between);
-            print_square(square);
-            between = ",";
-        }
+        if (!(mask >> square & 1)) continue;
+        printf("%s%c%c", between, 'A' + square % 8, '1' + square / 8);
+        between = ",";
     }
 }
 
@@ -52,34 +48,27 @@ static int is_confirmed(ffosolve_position position, ffosolve_answer claim) {
            && answer.score == claim.score && answer.kind == claim.kind && answer.best == claim.best;
 }
 
-static int lowest(uint64_t mask) {
-    int square = 0;
-    while (!(mask >> square & 1)) square++;
-    return square;
-}
-
 /* Plays on to the end, and prints each move with all the legal ones. */
 static int32_t play_on(ffosolve_position position) {
     for (;;) {
         ffosolve_answer answer;
         uint64_t moves;
+        uint8_t square = 0;
         int32_t status = ffosolve_solve(position, FFOSOLVE_WINNER, 0, &answer);
-        if (status != FFOSOLVE_DONE) return status;
-        if (answer.kind == FFOSOLVE_OVER) return FFOSOLVE_DONE;
+        if (status == FFOSOLVE_DONE) status = ffosolve_moves(position, &moves);
+        if (status != FFOSOLVE_DONE || answer.kind == FFOSOLVE_OVER) return status;
         if (answer.kind == FFOSOLVE_PASS) {
-            uint64_t own = position.own;
-            position.own = position.opp;
-            position.opp = own;
+            ffosolve_position passed = {position.opp, position.own};
+            position = passed;
             printf("PS\n");
             continue;
         }
-        status = ffosolve_moves(position, &moves);
-        if (status != FFOSOLVE_DONE) return status;
-        print_square(lowest(answer.best));
+        while (!(answer.best >> square & 1)) square++;
+        print_squares(UINT64_C(1) << square);
         printf(" of ");
         print_squares(moves);
         printf("\n");
-        status = ffosolve_play(position, (uint8_t)lowest(answer.best), &position);
+        status = ffosolve_play(position, square, &position);
         if (status != FFOSOLVE_DONE) return status;
     }
 }

@@ -12,6 +12,8 @@ SQUARE, MARGIN, FOOT = 44, 22, 34  # pixels
 BOARD = 8 * SQUARE
 COLOURS = {"X": "#111111", "O": "#fafafa"}
 GREEN, LINES, INK, MARK, LAST = "#2f8f5b", "#14472c", "#333333", "#ffd54a", "#d0402b"
+GRID = f"M{{0}} {MARGIN}v{BOARD}M{MARGIN} {{0}}h{BOARD}"
+LABEL = f'<text x="{{}}" y="{{}}" fill="{INK}">{{}}</text>'
 
 
 def checked_side(side: str) -> str:
@@ -85,7 +87,10 @@ class Board:
             f'<rect width="{width}" height="{height}" fill="#ffffff"/>',
             f'<rect x="{MARGIN}" y="{MARGIN}" width="{BOARD}" height="{BOARD}" fill="{GREEN}"/>',
             *(part for at in range(64) for part in self._square(at)),
-            *(line for at in range(9) for line in grid_lines(at)),
+            f'<path d="{"".join(map(GRID.format, range(MARGIN, MARGIN + BOARD + 1, SQUARE)))}" stroke="{LINES}"/>',
+            *(LABEL.format(x, y, name) for at in range(8) for x, y, name in (
+                (MARGIN + at * SQUARE + SQUARE // 2, MARGIN - 7, NAMES[at][0]),
+                (MARGIN // 2, MARGIN + at * SQUARE + SQUARE // 2 + 5, at + 1))),
             disc(self.side, MARGIN + 10, height - FOOT // 2, 9),
             f'<text x="{MARGIN + 26}" y="{height - FOOT // 2 + 5}" text-anchor="start" fill="{INK}">{state}</text>',
             "</svg>",
@@ -104,16 +109,6 @@ class Board:
                 yield f'<rect x="{left}" y="{top}" width="{SQUARE}" height="{SQUARE}" fill="{MARK}"/>'
             how = f'fill="{INK}" font-weight="bold"' if is_best else 'fill="#ffffff"'
             yield f'<text x="{x}" y="{y + 5}" {how}>{self.scores[at]:+}</text>'
-
-
-def grid_lines(number: int) -> Iterator[str]:
-    """Yields SVG for the line left of column `number` and the line above row `number`, counted from 0, and then for the
-    labels of this column and this row, such as `A` and `1`. For 8, yields only the board's right and bottom lines."""
-    at, end = MARGIN + number * SQUARE, MARGIN + BOARD
-    yield f'<path d="M{at} {MARGIN}V{end}M{MARGIN} {at}H{end}" stroke="{LINES}"/>'
-    if number < 8:
-        yield f'<text x="{at + SQUARE // 2}" y="{MARGIN - 7}" fill="{INK}">{NAMES[number][0]}</text>'
-        yield f'<text x="{MARGIN // 2}" y="{at + SQUARE // 2 + 5}" fill="{INK}">{number + 1}</text>'
 
 
 def disc(side: str, x: int, y: int, radius: int) -> str:
