@@ -205,9 +205,6 @@ REFUSED = [
     (2, "--book-out is not an option of --scores", "--scores", "list.obf", "--book-out=b"),
     (2, "--jobs is not an option of --scheduler", "list.obf", "--scheduler=tcp://h1:8786", "--jobs=3"),
     (2, "--cut is not an option of --scheduler", "list.obf", "--scheduler=tcp://h1:8786", "--cut"),
-    (2, "--hosts is gone: start a cluster with `dask ssh --hostfile FILE`", "list.obf", "--hosts", "h"),
-    (2, "--hosts is gone: ", "list.obf", "--hosts=h"),
-    (2, "--sweep is gone: a cluster removes its own files", "--sweep", "work"),
     (2, "--book-out out is standard output", "list.obf", "--book-out", "out"),
     (2, "--book-out ./list.obf is the list", "list.obf", "--book-out", "./list.obf"),
     (3, "cannot write none/book", "list.obf", "--book-out", "none/book"),
@@ -321,11 +318,6 @@ def test_more_books_than_may_be_open_are_merged_and_the_program_runs_once(case):
     assert Path("words").read_text().count("--book-in=") == 1
     other = header + b"% X\n" + entries[30][:64] + entries[30][64:].translate(bytes.maketrans(b"+-", b"-+"))
     case.refused(3, "- line 3 and 30.book line 2 disagree: ", "--merge-books", *names, "-", input=other, **few)
-
-
-def test_the_books_of_many_parts_are_merged_in_batches(case):
-    by = case.install("batches", ("books", "BATCH = 256", "BATCH = 7"))
-    case.many("--lines=1", *WORDS[1:], by=by)
 
 
 def test_a_book_in_another_spelling_is_merged(case):

@@ -1,4 +1,5 @@
 """ffosolve-many cuts a list into parts, goes on after any interruption, and uses only complete results of a part."""
+import fcntl
 import os
 import random
 import re
@@ -60,10 +61,20 @@ def test_a_file_is_on_the_disk_before_it_has_its_name(folder):
 
 def test_the_lock_of_a_run_that_ends_is_waited_for(tmp_path):
     with folder.locked(tmp_path / "work"):
-        (lock,) = (path for path in Path("/proc/self/fd").iterdir() if path.resolve().name == folder.LOCK)
+        pass
+    (lock,) = (path for path in Path("/proc/self/fd").iterdir() if path.resolve() == tmp_path / "work" / folder.LOCK)
     threading.Timer(0.5, os.close, [int(lock.name)]).start()
     with folder.locked(tmp_path / "work"):
         pass
+
+
+@pytest.mark.parametrize("module, call", [(os, "listdir"), (fcntl, "flock")])
+def test_a_folder_that_another_command_removes_when_it_is_refused_is_made_again(tmp_path, module, call):
+    work, real = tmp_path / "new/work", getattr(module, call)
+    removing = iter([work.parent])  # at the first call
+    with mock.patch.object(module, call, lambda *words: (*map(shutil.rmtree, removing), real(*words))[-1]):
+        with folder.locked(work):
+            assert [path.name for path in work.iterdir()] == [folder.LOCK]
 
 
 def test_a_part_whose_results_are_not_complete_is_solved_again(case):
@@ -378,9 +389,13 @@ def test_a_folder_that_is_empty_or_was_just_begun_is_used(case):
 
 
 def test_a_folder_whose_program_did_not_work_at_first_is_used(case):
-    spoiled = {"SPOIL_KNOWN": "lambda output: b''"}
-    case.many(*WORDS, by=case.ACTS, places=spoiled, status=4, message="on this machine the program can't solve ")
-    case.many(*WORDS)
+    fails = {"SPOIL_KNOWN": "lambda text: sys.exit('broken') if b'H1' in text else text"}
+    case.many(*WORDS[:3], by=case.ACTS, places=fails, status=4, message="can't solve a known line: broken\n")
+    case.many(*WORDS[:3])
+    shutil.rmtree("work")
+    case.many(*WORDS[:3], by=case.ACTS, places=fails, status=4)
+    case.write_list(case.SMALL[68:])  # which may be another list, since nothing of the first one is solved
+    case.many(*WORDS[:3])
 
 
 INTERRUPTED = "interrupted; the same command goes on with what is solved"

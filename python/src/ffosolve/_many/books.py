@@ -2,10 +2,7 @@
 import heapq
 import io
 import itertools
-import os
 import re
-import sys
-import tempfile
 from pathlib import Path
 from typing import Iterable, Iterator, List, Sequence, Tuple
 
@@ -18,19 +15,17 @@ from .folder import Run
 
 Entry = Tuple[List[int], Tuple[str, int], bytes]  # see `entries_of`
 READ = 4096  # bytes of a book that are read at once, and the rest of their last line
-BATCH = 256  # parts whose books are merged in memory at a time
 # A line of a book, as ffosolve writes it, except that the moves may be in another order.
 ENTRY = re.compile(rb"[XO-]{64} X;(?: (?:PS|--):[+-]\d\d;| [A-H][1-8]:([+-]\d\d);(?: [A-H][1-8]:\1;)*)\n")
 
 
-def book_lines(path: Path, at: int = 0, end: int = sys.maxsize) -> Iterator[bytes]:
-    """Yields the lines of a book, which stands in a file between two offsets. Closes the file between reads, since too
-    many might be open otherwise."""
-    lines = [b""]
-    while lines and at < end:
+def book_lines(path: Path) -> Iterator[bytes]:
+    """Yields the lines of a book. Closes the file between reads, since too many might be open otherwise."""
+    at, lines = 0, [b""]
+    while lines:
         with path.open("rb") as file:
             file.seek(at)
-            lines, at = file.readlines(min(READ, end - at)), file.tell()
+            lines, at = file.readlines(READ), file.tell()
         yield from lines
 
 
@@ -75,15 +70,7 @@ def merged(names: Sequence[str], books: Iterable[Iterable[bytes]]) -> Iterator[b
 
 
 def book_of(run: Run) -> Iterator[bytes]:
-    """Yields the lines of a run's book. Merges the parts' books, BATCH at a time, in a file without a name."""
-    books = (io.BytesIO(found.book) for found in run.solved())
-    header = f"{BOOK_HEADER}{run.task['options']['--scoring']}\n"
-    place = run.folder if os.access(run.folder, os.W_OK) else None
-    with tempfile.TemporaryFile(dir=place) as file:
-        path, ends = Path(f"/proc/{os.getpid()}/fd/{file.fileno()}"), [0]
-        while batch := list(itertools.islice(books, BATCH)):
-            file.writelines(merged([*map(str, range(BATCH))], batch))
-            ends.append(file.tell())
-        file.flush()
-        merges = (book_lines(path, *place) for place in zip(ends, ends[1:]))
-        yield from merged([*map(str, ends)], [[header.encode()], *merges])  # the header is all if there are no lines
+    """Yields the lines of a run's book, merged from the parts' books."""
+    header = f"{BOOK_HEADER}{run.task['options']['--scoring']}\n".encode()  # all of the book if there are no lines
+    parts = [io.BytesIO(found.book) for found in run.solved()]
+    yield from merged([*map(str, range(1 + len(parts)))], [[header], *parts])

@@ -24,9 +24,6 @@ NAME = "ffosolve-many"
 NO_DISCS = b"-" * 64 + b" X;"  # refused with any options; the message has the limit of empty squares
 LIMITS = {"ffosolve": rb"\[1\]\n1 refused: 64 empties, limit (\d+)\nsolved 0 refused 1\n",
           "ffoscores": rb"%% refused: 64 empties, limit (\d+): %b\n" % NO_DISCS}
-GONE = {
-    "--hosts": "start a cluster with `dask ssh --hostfile FILE`, and use --scheduler (nor is PARALLEL_SSH read)",
-    "--sweep": "a cluster removes its own files; those of an earlier version are folders run-* in your home folder"}
 EXCLUDED = {"scheduler": {"jobs", "cut"}, "scores": {"book_in", "book_out"}}  # {option: those refused with it}
 WITH_MERGE_BOOKS = {"merge_books", "book_out", "quiet"}
 
@@ -105,8 +102,6 @@ def parse(words: List[str]) -> argparse.Namespace:
     end = words.index("--") if "--" in words else len(words)
     command, others = parser.parse_known_args(words[:end])
     for word in others:
-        if instead := GONE.get(word.partition("=")[0]):
-            raise misused(f"{word.partition('=')[0]} is gone: {instead}")
         if word.startswith("-") and word != "-":
             raise misused(f"'{shown(word)}' is not an option; a file of that name is ./{shown(word)}")
     given = {name for name, value in vars(command).items() if value}
@@ -138,7 +133,7 @@ def try_run(program: Path, *words: str, stdout: int = subprocess.DEVNULL) -> Tup
     """Runs a program, which inherits a shell's /dev/fd/63. Returns its status and, in one line, its messages."""
     ran = subprocess.run([program, *words], close_fds=False, stdin=subprocess.DEVNULL, stdout=stdout,
                          stderr=subprocess.PIPE)
-    lines = ran.stderr.decode(errors="replace").splitlines()
+    lines = ran.stderr.decode(errors="replace").splitlines() or [f"{program} ended with status {ran.returncode}"]
     return ran.returncode, ": ".join(re.sub("^ffosolve: ", "", line) for line in lines)
 
 
@@ -169,9 +164,9 @@ def check_options(program: Path, options: List[str]) -> str:
     ran = subprocess.run(guarded([str(program), *options, "/dev/stdin"]), input=NO_DISCS, stdout=subprocess.PIPE)
     if found := re.fullmatch(LIMITS[program.name], ran.stdout):
         return found[1].decode()
-    if ran.returncode:
-        raise SystemExit(ran.returncode if ran.returncode > 0 else MISSING)
-    raise Refusal(f"{program} is not the program {program.name}", MISSING)
+    if ran.returncode > 0:
+        raise SystemExit(ran.returncode)
+    raise Refusal(f"{program} is not the program {program.name}: it ended with status {ran.returncode}", MISSING)
 
 
 def run_of(command: argparse.Namespace, programs: str) -> Run:

@@ -224,28 +224,27 @@ def options_of(command: argparse.Namespace, book: Optional[bytes]) -> Task:
 @contextlib.contextmanager
 def locked(folder: Path) -> Iterator[None]:
     """Makes a folder if needed, and locks it until this process ends. Refuses a folder that has files but no LOCK, or
-    that is locked. If the `with` block refuses and leaves no file, what was made vanishes."""
-    made = [path for path in (folder / LOCK, folder, *folder.parents) if not path.exists()]
-    folder.mkdir(parents=True, exist_ok=True)
-    found = sorted(os.listdir(folder))
-    if found and LOCK not in found:
-        raise Refusal(f"{shown(folder)} has files that are not ffosolve-many's, or those of an earlier version, such "
-                      f"as {shown(found[0])}: name a new or an empty folder", MISUSED)
-    try:
-        descriptor = os.open(folder / LOCK, os.O_RDWR | os.O_CREAT, 0o666)
-    except OSError:  # such as a disk that may only be read
-        descriptor = os.open(folder / LOCK, os.O_RDONLY)
-    end = time.monotonic() + 2  # in which a run that was killed has to release the lock
+    that is locked. If the `with` block fails and leaves no file, what was made vanishes."""
+    lock, end = folder / LOCK, time.monotonic() + 2  # in which a run that was killed has to release the lock
     while True:
-        with contextlib.suppress(BlockingIOError):
-            fcntl.flock(descriptor, fcntl.LOCK_EX | fcntl.LOCK_NB)
-            break
+        made = [path for path in (lock, folder, *folder.parents) if not path.exists()]
+        folder.mkdir(parents=True, exist_ok=True)
+        with contextlib.suppress(BlockingIOError, FileNotFoundError):  # a run that ends may have removed the folder
+            found = sorted(os.listdir(folder))
+            if found and LOCK not in found:
+                raise Refusal(f"{shown(folder)} has files that are not ffosolve-many's, or those of an earlier version,"
+                              f" such as {shown(found[0])}: name a new or an empty folder", MISUSED)
+            file = lock.open("rb" if found and not os.access(lock, os.W_OK) else "ab")
+            fcntl.flock(file, fcntl.LOCK_EX | fcntl.LOCK_NB)
+            if os.path.samestat(os.fstat(file.fileno()), lock.stat()):
+                os.dup(file.fileno())  # which stays open
+                break
         if time.monotonic() > end:
             raise Refusal(f"another run works in {shown(folder)}")
         time.sleep(0.05)
     try:
         yield
-    except Refusal:
+    except (OSError, Refusal):
         with contextlib.suppress(OSError):
             if os.listdir(folder) == [LOCK]:
                 for path in made:
@@ -255,12 +254,11 @@ def locked(folder: Path) -> Iterator[None]:
 
 def earlier_task(folder: Path, options: Dict[str, Any]) -> Task:
     """Returns what task.json in `folder` has, or {} if it can't be read. Refuses `options` that contradict it."""
-    try:
-        task = read_task(folder) if (folder / "task.json").is_file() else {"options": {}}
-    except (OSError, ValueError):
-        return {}
+    task: Task = {}
+    with contextlib.suppress(OSError, ValueError):
+        task = read_task(folder) if (folder / "task.json").is_file() else {}
     differing = [f"with {name} {kept}".strip() if kept is not None else f"without {name}"
-                 for name, kept in task["options"].items() if kept != options.get(name)]
+                 for name, kept in task.get("options", {}).items() if kept != options.get(name)]
     if differing:
         raise Refusal(f"{shown(folder)} was begun {' and '.join(differing)}: use another folder, or the same options",
                       MISUSED)
@@ -274,6 +272,8 @@ def begin(command: argparse.Namespace, source: Path, programs: Callable[[], List
     folder, asked = command.folder, options_of(command, book)
     with refusing("write", folder), locked(folder):
         before = earlier_task(folder, asked["options"])
+        if not before and not any(folder.glob("results/*")):
+            (folder / "list").unlink(missing_ok=True)  # of a command that ended before it had begun
         run = Run(folder, {**asked, "programs": before.get("programs")})
         cut = functools.partial(run.cut, source, shown(command.list), before.get("list"))
         try:
