@@ -21,8 +21,9 @@ PR_SET_CHILD_SUBREAPER = 36  # of prctl(2)
 
 def pytest_configure():
     """Makes this process the parent of programs whose parent ends. SIGINT and SIGTERM interrupt the tests. What would
-    have to be proved is refused by scripts/prove."""
+    have to be proved is refused by scripts/prove. New files have the usual modes."""
     os.environ["PROVE"] = "no"
+    os.umask(0o022)
     ctypes.CDLL(None).prctl(PR_SET_CHILD_SUBREAPER, 1, 0, 0, 0)
     for number in (signal.SIGINT, signal.SIGTERM):
         signal.signal(number, signal.default_int_handler)
@@ -71,12 +72,10 @@ own_folder, shared_folder = pytest.fixture(new_folder), pytest.fixture(scope="mo
 
 
 @pytest.fixture
-def folder(own_folder):
-    """A new folder in which the test runs, with umask 022."""
-    umask = os.umask(0o022)
-    with contextlib.chdir(own_folder):
-        yield own_folder
-    os.umask(umask)
+def folder(own_folder, monkeypatch):
+    """A new folder in which the test runs."""
+    monkeypatch.chdir(own_folder)
+    return own_folder
 
 
 @pytest.fixture

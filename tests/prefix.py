@@ -1,7 +1,4 @@
-"""The library and its packages as users have them, installed under a prefix, and copies of the built checkout.
-
-TEST_PREFIX in the environment names the prefix; if it is not set, `make install` installs under a temporary one.
-"""
+"""The library and its packages as users have them, installed under a prefix, and copies of the built checkout."""
 import functools
 import os
 import re
@@ -64,13 +61,11 @@ class Prefix:
     """The installed files, and the folder `work`, in which tests build programs that use them."""
 
     def install(self, work):
-        """Installs under a prefix in `work` if TEST_PREFIX is not set. Copies the installed documents, which include
-        the packages for Python and Rust, into `work`."""
+        """Installs under a prefix in `work`. Copies the installed documents, which include the packages for Python and
+        Rust, into `work`."""
         vars(self).clear()
-        self.work = work
-        self.folder = folder = Path(os.environ.get("TEST_PREFIX", work / "a prefix")).resolve()
-        if "TEST_PREFIX" not in os.environ:
-            build("make", "--silent", "-C", ROOT, "install", f"PREFIX={folder}", "DESTDIR=")
+        self.work, self.folder = work, (folder := work / "a prefix")
+        build("make", "--silent", "-C", ROOT, "install", f"PREFIX={folder}", "DESTDIR=")
         self.libraries, self.header = folder / "lib", folder / "include/ffosolve.h"
         self.archive, self.shared = self.libraries / "libffosolve.a", self.libraries / "libffosolve.so"
         self.shipped = folder / "share/doc/ffosolve"

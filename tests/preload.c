@@ -37,6 +37,7 @@ int rename(const char *from, const char *to) {
 }
 
 int pthread_create(pthread_t *made, const pthread_attr_t *how, void *(*call)(void *), void *with) {
-    if (getenv("COUNTED")) dprintf(STDERR_FILENO, "thread ");
-    return NEXT(pthread_create)(made, how, call, with);
+    int status = NEXT(pthread_create)(made, how, call, with);
+    if (!status && getenv("COUNTED")) dprintf(STDERR_FILENO, "thread ");
+    return status;
 }

@@ -117,36 +117,30 @@ def test_other_files_with_the_names_of_temporary_files_are_left_alone():
         keeps({**OVER, **dict.fromkeys(others, b"of another")}, wanted, {"it.book": book})
 
 
-def changed_meanwhile(start, change, cause, files):
-    """Calls `change` while ffosolve prints its report. Asserts that the program then can't write it.book, reports
-    `cause`, and leaves exactly the list and `files`, which is {name: content}, in the test's folder."""
-    lines, here = TEXT * 2000, os.getcwd()  # a report for them is more than a pipe holds
-    write("list", lines)
+@pytest.mark.parametrize("before, new, closed, mode, cause", (
+    (OVER, {"it.book": NOTES}, "it.book", 0o666, IN_THE_WAY), (OVER, {"it.book": BOOK}, "it.book", 0o444, DENIED),
+    (OVER, {"it.book": OLD}, "it.book", 0o222, DENIED),
+    (OVER, {"it.book.0.part": NOTES}, "it.book.0.part", 0o666, IN_THE_WAY),
+    (OVER, {}, ".", 0, DENIED), ({}, {}, ".", 0, DENIED),
+))
+def test_what_is_there_stays_if_a_file_appears_or_the_folder_is_closed_during_the_run(
+        start, before, new, closed, mode, cause):
+    before = {"list": TEXT * 2000, **before}  # the report is more than a pipe holds
+    here = os.getcwd()
     os.chmod(here, 0o777)
+    for name, text in before.items():
+        write(name, text, 0o666)
     program = start(PROGRAM, "--book-out", "it.book", "list", **NOBODY)
     first = program.stdout.read(1)
-    change()
+    for name, text in new.items():
+        write(name, text)
+    os.chmod(closed, mode)
     report, error = program.communicate(timeout=SECONDS)
     assert (first, report[-3:]) == (b"[", b" 0\n")
     assert (program.returncode, b"", error) == unwritten(cause)
-    for path in (here, *files):
-        os.chmod(path, 0o755)
-    left({"list": lines, **files})
-
-
-@pytest.mark.parametrize("name, new, mode, cause", (
-    ("it.book", NOTES, 0o666, IN_THE_WAY), ("it.book", BOOK, 0o444, DENIED),
-    ("it.book", OLD, 0o222, DENIED), ("it.book.0.part", NOTES, 0o666, IN_THE_WAY),
-))
-def test_a_file_that_appears_during_the_run_stays(start, name, new, mode, cause):
-    write("it.book", OLD, 0o666)
-    changed_meanwhile(start, lambda: write(name, new, mode), cause, {"it.book": OLD, name: new})
-
-
-def test_a_folder_that_is_closed_during_the_run_keeps_the_old_book(start):
-    changed_meanwhile(start, lambda: os.chmod(".", 0), DENIED, {})
-    write("it.book", OLD, 0o666)
-    changed_meanwhile(start, lambda: os.chmod(".", 0), DENIED, {"it.book": OLD})
+    for name in (here, *before, *new):
+        os.chmod(name, 0o755)
+    left({**before, **new})
 
 
 def test_a_long_name_a_missing_folder_and_a_folder_are_refused():

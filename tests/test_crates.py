@@ -1,12 +1,12 @@
-"""Runs the crates' own tests with `rt try`: with all runtime checks, but unproved. `rt ci` proves the tests."""
+"""The crates' own tests, proved and with refused memory, and unproved by `rt try`, with all runtime checks."""
 import re
 
 import pytest
 
-from tests.support import ROOT, need, run
+from tests.prefix import LEVELS
+from tests.support import ROOT, build, is_v3, need, run
 from tests.test_out_of_memory import outcomes
 
-CRATE_TESTS = ROOT / "crates/crate_tests/out/crate_tests_tests"  # the program that runs the tests of the crates
 # Parts of the names of the tests that are run here. Others go on after a refused request, or need two threads.
 TESTS = (
     "written_lines::", "fault_texts::", "tables::", "searches::", "books::find::", "boards::limits::",
@@ -23,21 +23,15 @@ ENDED = {
 REPORTS = ("AllocError", "AllocFailed { .. }", "Kind(OutOfMemory)", "Memory")  # how these tests report out of memory
 
 
-@pytest.mark.timeout(2700)
 def test_a_crates_test_passes_or_reports_only_out_of_memory_at_each_refused_request(folder):
-    """Builds CRATE_TESTS by `rt test` if it is missing or older than a source of the crates. `rt test` proves the
-    crates first, which takes minutes unless `rt test` or `rt ci` has proved them before."""
-    newest = max(path.stat().st_mtime for path in ROOT.glob("crates/*/src/**/*.rt"))
-    if not CRATE_TESTS.exists() or CRATE_TESTS.stat().st_mtime < newest:
-        need("rt")
-        how = {"stdout": None, "stderr": None, "timeout": 2700, "check": True}
-        run("rt", "test", "--", TESTS[0], cwd=ROOT / "crates/crate_tests", **how)
-    listed = run(CRATE_TESTS, "--list", check=True, text=True).stdout
+    program = ROOT / "out" / LEVELS[is_v3()] / "crate_tests_tests"
+    build("make", "-s", "-C", ROOT, program.relative_to(ROOT))
+    listed = run(program, "--list", check=True, text=True).stdout
     assert [part for part in TESTS if part not in listed] == []
     tests = re.findall(rf"^(tests::\S*(?:{'|'.join(TESTS)})\S*): test$", listed, re.M)
     assert ENDED.keys() <= set(tests)
     for test in tests:
-        *refused, last = outcomes(CRATE_TESTS, test, text=True)
+        *refused, last = outcomes(program, test, text=True)
         ended = [run for run in enumerate(refused, 1) if run[1][0] != 0]
         assert last[0] == 0, (test, last)
         for number, (_, _, errors, _) in ended:

@@ -404,15 +404,15 @@ def test_apt_installs_them_and_removes_all_of_them(dist, packages, folder):
 
 
 def test_an_empty_debian_upgrades_the_single_package_of_before_and_goes_back(dist, packages, folder):
-    """Version 1.1.0 had one package with the files of all."""
+    """Up to version 1.1, one package had the files of all."""
     need("debootstrap")
     system, empty = System(str(folder / "empty")), folder / "empty"
     if run("debootstrap", "--variant=minbase", "bookworm", empty, timeout=800).returncode:
         lack("a mirror of Debian, or a right that debootstrap needs,")
     for package in packages.values():
         run("dpkg-deb", "-x", package, "one", check=True)
-    fields = "Package: ffosolve\nVersion: 1.1.0\nArchitecture: amd64\nMaintainer: A <a@b>\nDescription: a\n"
-    provided = ", ".join(f"{name} (= 1.1.0)" for name in PACKAGES[1:])
+    fields = f"Package: ffosolve\nVersion: {VERSION}\nArchitecture: amd64\nMaintainer: A <a@b>\nDescription: a\n"
+    provided = ", ".join(f"{name} (= {VERSION})" for name in PACKAGES[1:])
     write("one/DEBIAN/control", f"{fields}Depends: python3\nProvides: {provided}\n")
     run("dpkg-deb", "--root-owner-group", "--build", "one", check=True)
     single = {"ffosolve": folder / "one.deb"}

@@ -1,5 +1,4 @@
 """make install, uninstall and library in a built copy of the checkout; make constants; manual pages, completions."""
-import ctypes
 import os
 import re
 import shutil
@@ -79,29 +78,25 @@ def test_everything_is_installed(place):
         assert re.findall("@[A-Z]+@", (place.root / name).read_text()) == []
 
 
-def test_in_other_folders_everything_is_found(place):
-    """The scripts find their package, and the files for pkg-config and CMake name the folder of the header."""
+@pytest.mark.parametrize("bins, libs, include", (
+    ("/b", "/usr/lib/x86_64-linux-gnu", "/usr/include"), (f"{PREFIX}/bin", f"{PREFIX}/lib64", "/i"),
+    (f"{PREFIX}/bin", f"{PREFIX}/lib", f"{PREFIX}/include"), (f"{PREFIX}/b/b", f"{PREFIX}/lib/here", f"{PREFIX}/i"),
+))
+def test_in_other_folders_everything_is_found(place, bins, libs, include):
+    """The scripts find package and library, and the files for pkg-config and CMake name the folder of the header."""
     need("pkg-config")
-    of_c = ("LIBDIR=/usr/lib/x86_64-linux-gnu", "INCLUDEDIR=/usr/include")
-    place.install("BINDIR=/b", "MANDIR=/m", *of_c, prefix="/usr")
-    libraries = place.stage / "usr/lib/x86_64-linux-gnu"
-    for name in ("b/ffosolve", libraries / "libffosolve.a", "usr/include/ffosolve.h", "m/man1/ffosolve.1"):
-        assert (place.stage / name).is_file(), name
-    for name in ("ffosolve-many", "ffosolve-games"):
-        assert run(place.stage / "b" / name, "--help").returncode == 0, name
-    os.environ["PKG_CONFIG_PATH"] = f"{libraries}/pkgconfig"
+    place.install(f"BINDIR={bins}", "MANDIR=/m", f"LIBDIR={libs}", f"INCLUDEDIR={include}")
+    bins, libs, include = (Path(f"{place.stage}{folder}") for folder in (bins, libs, include))
+    for name in (bins / "ffosolve", libs / "libffosolve.a", include / "ffosolve.h", place.stage / "m/man1/ffosolve.1"):
+        assert name.is_file()
+    assert run(bins / "ffosolve-many", "--help").returncode == 0
+    ran = run(bins / "ffosolve-games", "--empties=59", input=b"f5")
+    assert (ran.returncode, ran.stdout[64:]) == (0, b" O; % -, game 1\n"), ran
+    os.environ["PKG_CONFIG_PATH"] = f"{libs}/pkgconfig"
     ran = run("pkg-config", "--cflags", "ffosolve", text=True)
-    assert os.path.samefile(ran.stdout.strip()[2:], place.stage / "usr/include"), ran
-    assert '_libraries}/../../include"' in (libraries / "cmake/ffosolve/ffosolve-config.cmake").read_text()
-
-
-def test_ffosolve_games_finds_the_library_in_each_folder(place):
-    for bin_folder, lib_folder in (("bin", "lib"), ("bin", "lib64"), ("b/b", "lib/here")):
-        words = (f"BINDIR={PREFIX}/{bin_folder}", f"LIBDIR={PREFIX}/{lib_folder}")
-        place.install(*words)
-        ran = run(place.root / bin_folder / "ffosolve-games", "--empties=59", input=b"f5")
-        assert (ran.returncode, ran.stdout[64:]) == (0, b" O; % -, game 1\n"), ran
-        place.make("uninstall", *words)
+    assert os.path.samefile(ran.stdout.strip()[2:].replace("\\ ", " "), include), ran
+    named = re.search('_libraries}(/.*)"', (libs / "cmake/ffosolve/ffosolve-config.cmake").read_text())[1]
+    assert os.path.samefile(f"{libs}{named}", include)
 
 
 def test_files_may_be_read_by_everybody(place):
@@ -253,14 +248,12 @@ def test_ffosolve_many_runs_without_the_documents(place):
 def test_programs_pages_library_and_texts_have_the_version_of_the_file_version(place):
     place.install()
     assert re.search(r"\A\d+\.\d+\.\d+\Z", VERSION)
-    assert ctypes.CDLL(place.root / "lib/libffosolve.so").ffosolve_version() == NUMBER
     for name in COMMANDS:
         ends((0, f"{name} {VERSION}\n", ""), place.root / "bin" / name, "--version")
         page = (place.root / f"share/man/man1/{name}.1").read_text()
         assert page.startswith(f'.TH {name.upper()} 1 "" "ffosolve {VERSION}"'), page[:99]
     for place, text in (
         (place.root / "include/ffosolve.h", f'_VERSION_TEXT "{VERSION}"\n#define FFOSOLVE_VERSION {NUMBER}\n'),
-        (place.root / "lib/pkgconfig/ffosolve.pc", f"Version: {VERSION}\n"),
         (place.root / "lib/cmake/ffosolve/ffosolve-config-version.cmake", f'set(PACKAGE_VERSION "{VERSION}")\n'),
         (ROOT / "rust/Cargo.toml", f'\nversion = "{VERSION}"\n'),
         (ROOT / "CHANGELOG.md", f"\n## [{VERSION}] - "),

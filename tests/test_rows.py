@@ -94,7 +94,7 @@ def test_a_terminal_is_refused_as_a_book():
     numbers = os.openpty()
     name = os.ttyname(numbers[1])
     error = f"ffosolve: cannot read {name}\nffosolve: it is neither a file nor a pipe\n"
-    ends((3, "", error), built(), "--book-in", name, timeout=20)
+    ends((3, "", error), built(), "--book-in", name)
     for number in numbers:
         os.close(number)
 
@@ -109,7 +109,7 @@ def test_a_terminal_is_refused_as_a_book():
 ))
 def test_the_first_fault_of_an_endless_pipe_is_refused(lines, error):
     words = f"{lines} 2>/dev/null | (ulimit -v 1000000; exec '{built()}' --book-in /dev/stdin)"
-    ends((3, "", f"ffosolve: book line {error}\n"), "sh", "-c", words, timeout=20)
+    ends((3, "", f"ffosolve: book line {error}\n"), "sh", "-c", words)
 
 
 def test_the_largest_file_and_64_files_are_read_but_not_65():

@@ -42,13 +42,13 @@ def project(folder):
 def test_each_fault_of_a_test_is_reported(project, ci, skipped, counts):
     write("tests/test_faults.py", FAULTS)
     write("tests/test_missing.py", "import pytest\npytest.importorskip('no_such')\n")
-    words = (sys.executable, "-m", "pytest", "-n", "2", "-o", "timeout=7", "-o", "testpaths=tests")
-    ran = run("sh", "-c", 'trap "" INT; exec "$@"', "sh", *words, env={**NO_CI, **ci}, text=True)
+    words = (sys.executable, "-m", "pytest", "-n", "2", "-o", "timeout=12", "-o", "testpaths=tests")
+    ran = run("sh", "-c", 'trap "" INT; exec "$@"', "sh", *words, env={**NO_CI, **ci}, text=True, timeout=5 * SECONDS)
     found = set(re.findall(r"^(?:FAILED|ERROR) (?:tests/)?(\S+)", ran.stdout, re.M))
     wrong = {"test_faults.py::test_wrong", "test_faults.py::test_hangs", "git", "test_faults.py::Some::test_leaves"}
     assert (ran.returncode, found) == (1, wrong | skipped), ran.stdout
     assert re.search(rf"^=+ {counts} in .*=\Z", ran.stdout.strip(), re.M), ran.stdout
-    for text in ("?? new", "Timeout >7.0s", "sleep 1000", *(["no-such is missing, but with CI=true"] * bool(ci))):
+    for text in ("?? new", "Timeout >12.0s", "sleep 1000", *(["no-such is missing, but with CI=true"] * bool(ci))):
         assert text in ran.stdout
 
 
@@ -60,7 +60,7 @@ def test_an_interrupt_from_the_terminal_and_a_signal_to_pytest_alone_end_all_pro
     wait_until(Path("begun").exists)
     kill(runner.pid, number)
     assert runner.wait(timeout=SECONDS) != 0
-    assert not processes_in(project)
+    wait_until(lambda: not processes_in(project))
 
 
 GOOD = ("7 passed, 0 failed", 0)

@@ -3,11 +3,12 @@ import os
 import random
 import signal
 import time
+from pathlib import Path
 
 import pytest
 
-from tests.support import (ROOT, SECONDS, built, ends, limited, positions, processes_in, refuse_threads, run, stored,
-                           wait_until, write)
+from tests.support import (ROOT, SECONDS, built, ends, limited, positions, preload, processes_in, refuse_threads, run,
+                           stored, wait_until, write)
 
 pytestmark = pytest.mark.usefixtures("folder")
 WORKERS = (0, 1, 3, 64)
@@ -21,25 +22,25 @@ def threads_of(process):
     return len(os.listdir(f"/proc/{process.pid}/task"))
 
 
-def solve(start, *words, **how):
-    """Runs ffosolve, with its book on standard error. Returns ((report, book), the most threads seen at once)."""
-    process, seen = start(built(), "--book-out", "/dev/stderr", *words, **how), []
-    wait_until(lambda: seen.append(threads_of(process)) or process.poll() is not None)
-    assert process.returncode == 0
-    return process.communicate(), max(seen)
+def solve(*words, **how):
+    """Runs ffosolve, with its book on standard error. Returns ((report, book), the number of threads that it started).
+    """
+    words = (built(), "--book-out", "/dev/stderr", *words)
+    ran = run(*words, env=preload(Path.cwd(), COUNTED="yes"), check=True, **how)
+    return (ran.stdout, ran.stderr.replace(b"thread ", b"")), ran.stderr.count(b"thread ")
 
 
-def test_each_file_and_each_worker_has_a_thread_and_the_report_is_the_same_if_none_can_be_started(start):
+def test_each_file_and_each_worker_has_a_thread_and_the_report_is_the_same_if_none_can_be_started():
     easy = b"".join(EASY)
     files = [write("0.obf", HARD + easy + HARD), write("1.obf", easy + HARD)]
-    wanted, _ = solve(start, *files)
+    wanted, _ = solve(*files)
     for workers in (0, 1, 4, 64):
         words = ["--workers", workers, *files]
-        assert solve(start, *words) == (wanted, 1 + workers + len(files))
-        assert solve(start, *words, preexec_fn=refuse_threads) == (wanted, 1)
+        assert solve(*words) == (wanted, workers + len(files))
+        assert solve(*words, preexec_fn=refuse_threads) == (wanted, 0)
     words += [write(f"{number}.obf", easy) for number in range(2, 64)]
-    wanted, _ = solve(start, *words)
-    assert solve(start, *words, preexec_fn=refuse_threads) == (wanted, 1)
+    wanted, _ = solve(*words)
+    assert solve(*words, preexec_fn=refuse_threads) == (wanted, 0)
 
 
 @pytest.mark.parametrize("workers", (1, 64))
@@ -47,14 +48,14 @@ def test_workers_end_if_there_is_no_position(workers):
     ends((0, "[1]\nsolved 0 refused 0\n", ""), built(), "--workers", workers, "/dev/null")
 
 
-def test_64_files_with_64_workers_always_have_the_same_report(start):
+def test_64_files_with_64_workers_always_have_the_same_report():
     files = [write(f"{number}.obf", b"".join(EASY[number % 4:] + EASY)) for number in range(64)]
     words = ["--workers", 64, *files]
-    wanted, _ = solve(start, *words)
+    wanted, _ = solve(*words)
     assert wanted[0].endswith(b"refused 0\n") and wanted[0].count(b"[") == 64
-    assert solve(start, *words, preexec_fn=refuse_threads) == (wanted, 1)
+    assert solve(*words, preexec_fn=refuse_threads) == (wanted, 0)
     for _ in range(100):
-        assert solve(start, *words)[0] == wanted
+        assert solve(*words)[0] == wanted
 
 
 def same(*lists, **how):
