@@ -8,10 +8,11 @@ clean = change=$$(git status --porcelain | head -n 1) || exit; [ -z "$$change" ]
 room = room=$$(mktemp -d); trap 'rm -rf "$$room"' EXIT; umask 022
 seconds = $$(git log -1 --format=%ct 2>/dev/null || stat -c %Y "$(CURDIR)/VERSION")
 
-# $(call starters,FOLDER) writes programs into FOLDER/bin which start those for the processor's level, in FOLDER/libexec.
+# $(call starters,FOLDER) writes programs into FOLDER/bin which start those for the processor's level. These are all in one
+# folder, since pip leaves a folder of folders behind.
 starters = for program in $(programs); do \
     install -D packaging/start "$1/bin/$$program"; \
-    for level in $(levels); do install -D "out/$$level/$$program" "$1/libexec/ffosolve/$$level/$$program"; done; done
+    for level in $(levels); do install -D "out/$$level/$$program" "$1/lib/ffosolve/$$program-$$level"; done; done
 
 stage: install
 	$(call starters,$(DESTDIR)$(PREFIX))
@@ -60,7 +61,7 @@ wheel: levels ## makes out/ffosolve-VERSION-py3-none-manylinux_2_34_x86_64.whl, 
 	$(clean)
 	$(room)
 	$(call starters,$$room)
-	for level in $(levels); do install -D -m 644 out/$$level/libffosolve.so "$$room/lib/$$level/libffosolve.so.$(major)"; done
+	for level in $(levels); do install -D -m 644 out/$$level/libffosolve.so "$$room/package/$$level/libffosolve.so.$(major)"; done
 	(cd python && FFOSOLVE_STAGE="$$room" SOURCE_DATE_EPOCH="$(seconds)" $(PYTHON) -Bm hatchling build --target wheel --directory ../out >/dev/null)
 	made="$$PWD/out/ffosolve-$(package)-py3-none-manylinux_2_34_x86_64.whl"
 	chmod 644 "$$made"

@@ -22,5 +22,5 @@ class Files(BuildHookInterface):
         stage = os.environ.get("FFOSOLVE_STAGE")
         if stage:
             build_data.update(pure_python=False, tag="py3-none-manylinux_2_34_x86_64")  # programs need glibc 2.34
-            places = {"bin": f"{head}.data/scripts", "libexec": f"{head}.data/data/libexec", "lib": "ffosolve"}
+            places = {"bin": f"{head}.data/scripts", "lib": f"{head}.data/data/lib", "package": "ffosolve"}
             files.update({f"{stage}/{folder}": place for folder, place in places.items()})

@@ -353,7 +353,8 @@ def test_each_level_is_proved_once_and_a_new_version_only_links_the_library_agai
         run("cc", "-fPIC", "-c", "-o", "one.o", "-x", "c", "-", input=text.encode(), check=True)
         run("ar", "rcs", checkout.kit / name, "one.o", check=True)
     for level in LEVELS:
-        assert checkout.make(f"CPU={level}").returncode == 0
+        ran = checkout.make(f"CPU={level}")
+        assert (ran.returncode, ran.stderr.count(": 0 min, crate 1 of 2, othello_rules\n")) == (0, 3), ran
         assert f"start run --cpu={level}\nstart lib --cpu={level}\n" in checkout.starts.read_text()
     python = write(checkout.tools / "python", '#!/bin/sh\n[ "$1" = -c ] || echo "$2" "<$MAKEFLAGS$MFLAGS$MAKELEVEL>"\n')
     assert checkout.make("-j9", "check", f"PYTHON={python}").stdout == "pytest <>\n"

@@ -143,7 +143,7 @@ def test_the_file_proved_names_commit_kit_and_the_crates_of_each_program_lowest_
 
 def test_no_program_has_a_path_of_the_build(dist):
     for name in files_below(dist.unpacked):
-        if name.startswith(("bin/", "lib/", "libexec/")):
+        if name.startswith(("bin/", "lib/")):
             for place in (ROOT, dist.first, dist.unpacked, os.sep + "tmp."):
                 assert os.fsencode(place) not in (dist.unpacked / name).read_bytes()
 
@@ -174,7 +174,7 @@ def test_the_commands_of_readme_print_what_it_shows(dist):
 def test_ffosolve_many_has_the_programs_of_both_levels(dist, folder):
     ends((0, FIRST, ""), dist.unpacked / "bin/ffosolve-many", "--quiet", "work", FIRST_OBF, env=dist.without_rt)
     programs = [path.read_bytes() for path in sorted(Path("work").glob("program-?"))]
-    wanted = [dist.unpacked / "libexec/ffosolve" / level / "ffosolve" for level in LEVELS[::-1]]
+    wanted = [dist.unpacked / f"lib/ffosolve/ffosolve-{level}" for level in LEVELS[::-1]]
     assert programs == [path.read_bytes() for path in wanted]
 
 
@@ -183,7 +183,7 @@ def test_the_program_for_the_level_that_the_loader_reports_is_started(dist, fold
     text = (dist.unpacked / "bin/ffosolve").read_text()
     write(start, text.replace("/lib64/ld-linux-x86-64.so.2", str(folder / "loader")))
     for level in LEVELS:
-        write(folder / f"top/libexec/ffosolve/{level}/ffosolve", f'#!/bin/sh\necho {level} "$#" "$@"\nexit 3\n')
+        write(folder / f"top/lib/ffosolve/ffosolve-{level}", f'#!/bin/sh\necho {level} "$#" "$@"\nexit 3\n')
     os.symlink(start, "linked")
     for line, level in (("  x86-64-v3 (supported, searched)", LEVELS[1]), ("  x86-64-v3", LEVELS[0])):
         write("loader", f"#!/bin/sh\necho '{line}'\n")
@@ -201,18 +201,18 @@ def needs_libc_alone(path):
 
 
 def test_the_programs_need_only_the_c_library(dist, folder):
-    for program in (dist.unpacked / "libexec/ffosolve").glob("*/*"):
+    for program in (dist.unpacked / "lib/ffosolve").iterdir():
         needs_libc_alone(program)
     empty = folder / "empty"
-    shutil.copytree(dist.unpacked / "libexec", empty / "opt")
+    shutil.copytree(dist.unpacked / "lib/ffosolve", empty / "opt")
     shutil.copy(FIRST_OBF, empty)
-    libraries = re.findall(r"(/\S+) \(0x", run("ldd", empty / "opt/ffosolve/x86-64-v2/ffosolve", text=True).stdout)
+    libraries = re.findall(r"(/\S+) \(0x", run("ldd", empty / f"opt/ffosolve-{LEVELS[0]}", text=True).stdout)
     run("cp", "--dereference", "--parents", *libraries, empty, check=True)
     words = ["/usr/sbin/chroot"] if os.getuid() == 0 else ["unshare", "-r", "/usr/sbin/chroot"]
     if run(*words, "/", "/bin/true").returncode:
         lack("a right to change the root")
     for level in LEVELS[:1 + is_v3()]:
-        ends((0, FIRST, ""), *words, empty, f"/opt/ffosolve/{level}/ffosolve", "/first.obf", env={})
+        ends((0, FIRST, ""), *words, empty, f"/opt/ffosolve-{level}", "/first.obf", env={})
 
 
 def is_used(start, version, place):
@@ -250,18 +250,18 @@ def test_the_wheel_has_the_same_bytes_again(dist, wheel):
 def test_an_empty_environment_needs_only_the_wheel(dist, wheel, folder):
     if run("/usr/bin/python3", "-m", "venv", "empty", timeout=300).returncode:
         lack("venv for /usr/bin/python3 (Debian: python3-venv)")
-    pip, before = ("empty/bin/pip", "--disable-pip-version-check", "-q"), files_below("empty")
+    pip, before = ("empty/bin/pip", "--disable-pip-version-check", "-q"), {*folder.glob("empty/**/*")}
     run(*pip, "install", "--no-index", wheel, timeout=300, check=True)
     package, = folder.glob("empty/lib/*/site-packages/ffosolve")
     libraries = [package / level / "libffosolve.so.1" for level in LEVELS]
-    for path in (*libraries, *folder.glob("empty/libexec/ffosolve/*/*")):
+    for path in (*libraries, *folder.glob("empty/lib/ffosolve/*")):
         needs_libc_alone(path)
     for library in libraries[is_v3()::-1]:  # the other one, too, as if the processor were of the lower level
         env = {"PATH": f"{folder}/empty/bin:/usr/bin:/bin"}
         assert is_used(partial(run, env=env, text=True), dist.version, package.parent) == str(library)
         library.unlink()
     run(*pip, "uninstall", "-y", "ffosolve", check=True)
-    assert files_below("empty") == before
+    assert {*folder.glob("empty/**/*")} == before
 
 
 def test_without_git_and_at_the_release_the_version_is_plain(folder):
@@ -321,7 +321,7 @@ def test_they_have_what_the_archive_has_and_run_when_unpacked(dist, packages, fo
         if "/" in name and not name.startswith((f"{documents}/python", f"{documents}/LICENSE", f"{documents}/VERSION",
                                                 "share/ffosolve")):
             name = name.replace("zsh/site-functions", "zsh/vendor-completions") + ".gz" * ("/man1/" in name)
-            wanted.add(re.sub("^lib/", "lib/x86_64-linux-gnu/", name))
+            wanted.add(re.sub("^lib/(?!ffosolve/)", "lib/x86_64-linux-gnu/", name))
     for name in files_below(dist.unpacked / "share/ffosolve/python/src"):
         wanted.add(f"lib/python3/dist-packages/{name}")
     wanted |= {f"{documents}/{name}" for name in ("README.md", "PROVED")}

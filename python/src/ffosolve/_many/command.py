@@ -124,8 +124,8 @@ def program_in(folder: str, name: str) -> Path:
 
 def builds_of(program: Path) -> List[Path]:
     """Returns the paths of a program's builds for levels of x86-64, highest first; without any, only `program`."""
-    root, files = program.parent.parent, f"x86-64-v?/{program.name}"
-    found = [*root.glob(f"out/{files}"), *root.glob(f"libexec/ffosolve/{files}")]
+    root, name = program.parent.parent, program.name
+    found = [*root.glob(f"out/x86-64-v?/{name}"), *root.glob(f"lib/ffosolve/{name}-x86-64-v?")]
     return sorted(found, reverse=True) or [program]
 
 
