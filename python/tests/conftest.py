@@ -17,5 +17,5 @@ def end_processes():
     yield
     for thread in threading.enumerate():
         if thread.name == "ffosolve":
-            thread.join(60)  # on a busy machine
+            thread.join(10)
     ffosolve._processes.end_idle()

@@ -179,18 +179,6 @@ def with_empties(empties):
     return Position(discs & 0x5555555555555555, discs & 0xAAAAAAAAAAAAAAAA)
 
 
-@pytest.mark.parametrize("leave", [by_signal, by_ctrl_c])
-@pytest.mark.parametrize("name, position, count", [
-    ("solve_all", with_empties(12), 100_000), ("solve_arrays", with_empties(8), 300_000),
-    ("solve", Position.from_obf("--O-X---O-OOX-XX-OOOOXXOXXOXXOOO-OXOXOOO-OOXXOOO--OOXO----O--O-- O;"), 1)])
-def test_a_call_without_a_table_stops(name, position, count, leave):
-    """Each position of a list takes some milliseconds or less, and the single one, with 21 empty squares, seconds."""
-    solver, positions = Solver(entries=0, max_empties=21), [position] * count
-    given = {"solve": [position], "solve_all": [positions], "solve_arrays": ffosolve.masks_of(positions)}
-    leave(lambda: getattr(solver, name)(*given[name]))
-    assert_no_processor_works()
-
-
 @pytest.mark.parametrize("changed", ["other name", "other frame"])
 def test_on_another_executor_asyncio_does_not_stop_a_call_but_its_timeout_does(changed, solver, monkeypatch):
     found, run = [], executors._WorkItem.run
@@ -238,12 +226,13 @@ def test_an_iterator_yields_what_is_finished_before_the_timeout(threads, solver)
 
 @on_threads
 @pytest.mark.parametrize("position, count", [(HARD, 1000), (EASY, 500_000)], ids=["hard", "easy"])
+@pytest.mark.parametrize("leave", [by_timeout, by_signal, by_ctrl_c])
 @each_list
-def test_a_timeout_is_for_all_positions_together(name, position, count, threads):
+def test_a_call_for_many_positions_stops_between_them_and_a_timeout_is_for_all_together(
+        name, leave, position, count, threads):
     """Without a table, a hard position takes some hundredths of a second; an iterator solves easy ones in brief calls.
     """
-    with pytest.raises(TimeoutError):
-        LISTS[name](Solver(entries=0), [position] * count, threads=threads, timeout=0.3)
+    leave(lambda **how: LISTS[name](Solver(entries=0), [position] * count, threads=threads, **how))
     assert_no_processor_works()
 
 
