@@ -1,6 +1,7 @@
 """A call that is left stops, and calls that may last are made in processes, which are kept and end with the program."""
 import asyncio
 import contextlib
+import gc
 import os
 import resource
 import signal
@@ -51,6 +52,7 @@ on_threads = pytest.mark.parametrize("threads", [1, 3])
 @pytest.fixture(autouse=True)
 def solver():
     pytest.importorskip("numpy")
+    gc.collect()  # of earlier tests' threads: it calls Python code, in which the exception of a handler gets lost
     return Solver(max_empties=60)
 
 
@@ -226,7 +228,7 @@ def test_an_iterator_yields_what_is_finished_before_the_timeout(threads, solver)
 
 @on_threads
 @pytest.mark.parametrize("position, count", [(HARD, 1000), (EASY, 500_000)], ids=["hard", "easy"])
-@pytest.mark.parametrize("leave", [by_timeout, by_signal, by_ctrl_c])
+@pytest.mark.parametrize("leave", [by_timeout, by_signal])
 @each_list
 def test_a_call_for_many_positions_stops_between_them_and_a_timeout_is_for_all_together(
         name, leave, position, count, threads):
