@@ -3,9 +3,10 @@ from typing import Any, List, NamedTuple, Optional, Tuple
 
 import numpy
 
-from ._bulk import MOST_WEIGHT, checked_threads, in_order
+from ._bulk import MOST_WEIGHT, in_order
 from ._library import CPosition
 from ._processes import LIGHTEST, Run
+from ._refusals import checked_number
 from ._rules import refusal_for
 from ._solvers import NO_CLAIM, Solver
 
@@ -63,5 +64,5 @@ def found_by(solver: Solver, name: str, record: Any, own: Any, opp: Any, threads
         solver._fill(run, name, count, asked, NO_CLAIM, results, empties)
         return ()  # the results are in `found`
 
-    list(in_order(run, call_for, slices_of(solver, masks, checked_threads(threads)), threads))
+    list(in_order(run, call_for, slices_of(solver, masks, checked_number("threads", threads, 1)), threads))
     return [numpy.ascontiguousarray(found[field]) for field, _ in record._fields_]

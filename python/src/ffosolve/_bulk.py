@@ -7,7 +7,7 @@ from concurrent.futures import Future, wait
 from typing import Any, Callable, Deque, Iterable, Iterator, List, NamedTuple, Sequence, TypeVar, Union
 
 from ._processes import LIGHTEST, Run
-from ._refusals import Refused, checked_number
+from ._refusals import Refused
 from ._rules import checked_positions, not_a_position, refusal_for, size_of
 
 A = TypeVar("A")
@@ -57,10 +57,6 @@ def parts_of(positions: Iterable[Sequence[int]], max_empties: int, whole: bool =
             part, most, weight, end = [], 0, 0, clock() + MOST_SECONDS
     if part:
         yield Part(part, most)
-
-
-def checked_threads(threads: int) -> int:
-    return checked_number("threads", threads, 1)
 
 
 def in_order(run: Run, call: Callable[[Run, A], Iterable[B]], parts: Iterable[A], threads: int) -> Iterator[B]:

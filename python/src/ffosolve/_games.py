@@ -172,15 +172,10 @@ def records(file: BinaryIO, count: int, empties: int) -> Iterator[Game]:
             where = f"after {len(record)} of the {RECORD} bytes of this game" if record else "before this game"
             yield Game(number, fault=f"the file ends {where}, but {counts}")
             return
-        yield game_of(number, record)._replace(empties=empties or None)
+        written = record[FIRST_MOVE:].rstrip(b"\0")
+        yield Game(number, written.translate(SQUARES), written, record[SCORE], record[REAL], empties=empties or None)
     if file.read(1):
         yield Game(count + 1, fault=f"the file goes on, but {counts}")
-
-
-def game_of(number: int, record: bytes) -> Game:
-    """The game in a record of a WTHOR file, without `empties`. `number` is the record's place in the file, from 1."""
-    written = record[FIRST_MOVE:].rstrip(b"\0")
-    return Game(number, written.translate(SQUARES), written, record[SCORE], record[REAL])
 
 
 def positions_of(game: Game) -> List[Position]:

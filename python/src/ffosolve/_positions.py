@@ -79,8 +79,13 @@ class Position(NamedTuple("Masks", [("own", int), ("opp", int)])):
         position's `listed`, for example, or what `Solver.move_scores` returns. If `side` is given and not the
         position's, all colours are exchanged. Raises ValueError for a side other than "X" and "O" and for another word
         than a move, TypeError for a score that is not a number."""
-        pairs = moves.items() if isinstance(moves, Mapping) else moves
-        return self.show(side=side).to_obf() + "".join(listed_move(*pair) for pair in pairs)
+        text = self.show(side=side).to_obf()
+        for move, score in moves.items() if isinstance(moves, Mapping) else moves:
+            name = MOVES.get(str(move).upper().encode())
+            if name is None:
+                raise ValueError(f"a move is listed by the name of a square, as PS or as --, not as {move!r}")
+            text += f" {name}:{checked_score(name, score):+03};"
+        return text
 
     @property
     def side(self) -> str:
@@ -248,14 +253,6 @@ START = Position(0x0000000810000000, 0x0000001008000000)  # Black, on E4 and D5,
 
 def is_pass(move: object) -> bool:
     return isinstance(move, str) and move.lower() in PASSES
-
-
-def listed_move(move: str, score: float) -> str:
-    """The text of a move and its score in an OBF line, such as ` H1:+62;`. Raises what `Position.to_obf` does."""
-    name = MOVES.get(str(move).upper().encode())
-    if name is None:
-        raise ValueError(f"a move is listed by the name of a square, as PS or as --, not as {move!r}")
-    return f" {name}:{checked_score(name, score):+03};"
 
 
 def following(before: P, own: int, opp: int, side: str, move: str) -> P:

@@ -5,7 +5,7 @@ import struct
 from typing import TYPE_CHECKING, Any, Dict, Iterable, Iterator, List, Optional, Sequence, Tuple, Union
 
 from ._answers import ENDS, Answer, Kind, Scoring, scoring_of
-from ._bulk import Part, PartOrRefusal, checked_threads, in_order, parts_of
+from ._bulk import Part, PartOrRefusal, in_order, parts_of
 from ._games import Game, positions_of
 from ._library import MOST_EMPTIES, MOST_ENTRIES, CAnswer, CMoveScores, load, search
 from ._positions import P, Position
@@ -135,26 +135,24 @@ class Solver:
         """The answers for positions, in their order. One thread uses one table for all positions; for several threads,
         the list is cut into parts, each with its own table. Raises the same as `solve`. SharedSquare and TooManyEmpties
         come before any position is solved, and have the `index` of the first refused position."""
-        return list(self._all(self._solve_part, positions, threads, timeout))
+        return list(self._each(self._solve_part, positions, threads, timeout, at_once=True))
 
     def solve_iter(self, positions: Iterable[Position], *, threads: int = 1, timeout: Optional[float] = None
                    ) -> Iterator[Answer]:
         """Yields the answers for positions, in their order, and reads only some positions ahead. Raises the same as
         `solve`. SharedSquare and TooManyEmpties have the `index` of the refused position, and come after the answers
         for the positions before it; so does TimeoutError, `timeout` seconds after the call."""
-        run = Run(self._library, timeout)
-        return in_order(run, self._solve_part, parts_of(positions, self._max_empties), checked_threads(threads))
+        return self._each(self._solve_part, positions, threads, timeout)
 
     def move_scores_all(self, positions: Iterable[Position], *, threads: int = 1, timeout: Optional[float] = None
                         ) -> List[Dict[str, int]]:
         """What `move_scores` returns for each position, in the same order; tables and errors are as for `solve_all`."""
-        return list(self._all(self._score_part, positions, threads, timeout))
+        return list(self._each(self._score_part, positions, threads, timeout, at_once=True))
 
     def move_scores_iter(self, positions: Iterable[Position], *, threads: int = 1, timeout: Optional[float] = None
                          ) -> Iterator[Dict[str, int]]:
         """Yields what `move_scores` returns for each position, in the way that `solve_iter` yields answers."""
-        run = Run(self._library, timeout)
-        return in_order(run, self._score_part, parts_of(positions, self._max_empties), checked_threads(threads))
+        return self._each(self._score_part, positions, threads, timeout)
 
     def solve_arrays(self, own: Any, opp: Any, *, threads: int = 1, timeout: Optional[float] = None) -> "Answers":
         """The answers for positions in arrays of uint64, as `masks_of` returns them: `own`, the masks of the discs of
@@ -193,9 +191,6 @@ class Solver:
     def _run(self, timeout: Optional[float]) -> Optional[Run]:
         return None if timeout is None else Run(self._library, timeout)
 
-    def _entries_for(self, empties: int) -> int:
-        return table_entries(empties) if self._entries is None else self._entries
-
     def _checked_empties(self, position: Sequence[int]) -> int:
         """Returns how many squares are empty, or raises SharedSquare, TooManyEmpties, TypeError or ValueError."""
         empties, (own, opp) = empties_of(position), position
@@ -209,12 +204,16 @@ class Solver:
         self._fill(run, name, 1, c_position(position), claimed, found, empties)
         return Answer(found.score, KINDS[found.kind], found.best)
 
-    def _all(self, call: Any, positions: Iterable[Position], threads: int, timeout: Optional[float]) -> Iterator[Any]:
-        """Yields what `call` finds for positions. Raises a Refused before the first call if a position is refused."""
-        run = Run(self._library, timeout)
-        parts = list(parts_of(positions, self._max_empties, whole=checked_threads(threads) == 1))
-        if parts and isinstance(parts[-1], Refused):
-            raise parts[-1]
+    def _each(self, call: Any, positions: Iterable[Position], threads: int, timeout: Optional[float],
+              at_once: bool = False) -> Iterator[Any]:
+        """Yields what `call` finds for positions. If `at_once`, reads all of them before the first call, raises a
+        Refused if one is refused, and makes one call of all if `threads` is 1."""
+        run, threads = Run(self._library, timeout), checked_number("threads", threads, 1)
+        parts: Iterable[PartOrRefusal] = parts_of(positions, self._max_empties, whole=at_once and threads == 1)
+        if at_once:
+            parts = list(parts)
+            if parts and isinstance(parts[-1], Refused):
+                raise parts[-1]
         return in_order(run, call, parts, threads)
 
     def _solve_part(self, run: Optional[Run], part: PartOrRefusal) -> List[Answer]:
@@ -238,7 +237,8 @@ class Solver:
               ) -> None:
         """Makes a call as `search` does for `count` positions with at most `empties` empty squares, with the Solver's
         scoring and table. Unless the call is brief, `run` makes it. Raises a Refused if the library refuses it."""
-        words = name, self._scoring, self._entries_for(empties), asked, claim, found
+        entries = table_entries(empties) if self._entries is None else self._entries
+        words = name, self._scoring, entries, asked, claim, found
         if is_brief(count, empties):
             accept(search(self._library, *words))
         else:
