@@ -69,6 +69,15 @@ def write(path, text, mode=None):
 
 
 @functools.cache
+def unshared():
+    """The words before a command that may mount file systems and change its root. Skips the test if that is refused."""
+    words = ("unshare", *["--map-root-user"] * bool(os.getuid()), "--mount")
+    if run(*words, "mount", "-t", "tmpfs", "none", "/tmp").returncode:
+        lack("a right to mount file systems")
+    return words
+
+
+@functools.cache
 def positions(*words):
     """Returns what `bench/positions COUNT LEAST MOST [SEED]` prints: OBF lines with LEAST to MOST empties, as bytes."""
     return run(sys.executable, ROOT / "bench/positions", *words, check=True).stdout

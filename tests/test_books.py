@@ -6,8 +6,8 @@ from pathlib import Path
 
 import pytest
 
-from tests.support import (MOST_BYTES, NOBODY, SECONDS, built, copy_many, ends, limited, need, positions, preload, run,
-                           stored, write)
+from tests.support import (MOST_BYTES, NOBODY, SECONDS, built, copy_many, ends, limited, positions, preload, run,
+                           stored, unshared, write)
 
 pytestmark = pytest.mark.usefixtures("folder")
 TEXT, REPORT, BOOK = (stored("examples", f"first.{end}") for end in ("obf", "report", "book"))
@@ -191,14 +191,12 @@ def test_a_list_that_is_read_is_not_overwritten_under_any_of_its_names():
     left({"list": TEXT, "other": TEXT, "twin": TEXT, "link": "list"})
 
 
-@pytest.mark.skipif(os.geteuid() != 0, reason="only root mounts file systems")
 def test_files_with_one_inode_number_on_two_file_systems_are_two_files():
-    need("unshare")
     write("list", TEXT)
     script = """mkdir one two; mount -t tmpfs none one; mount -t tmpfs none two; cp list one; : >two/it.book
         [ $(stat -c %i one/list) = $(stat -c %i two/it.book) ]
         "$0" --book-out two/it.book one/list >&2; cat two/it.book"""
-    ends((0, BOOK, REPORT), "unshare", "--mount", "sh", "-ec", script, PROGRAM)
+    ends((0, BOOK, REPORT), *unshared(), "sh", "-ec", script, PROGRAM)
 
 
 @pytest.mark.parametrize("place, wanted", (

@@ -10,7 +10,8 @@ from unittest import mock
 import pytest
 
 from tests.prefix import LEVELS, path_without
-from tests.support import NOBODY, ROOT, SECONDS, as_at_a_login, is_v3, need, processes_in, run, wait_until, write
+from tests.support import (NOBODY, ROOT, SECONDS, as_at_a_login, is_v3, need, processes_in, run, unshared, wait_until,
+                           write)
 
 # A fake rt. Writes its arguments, descriptors and standard input to files, and runs the shell code $ACTS. The program
 # that it builds prints what it was made of, its words, its folder and its input.
@@ -292,12 +293,9 @@ def test_a_full_disk_is_reported_and_the_next_run_builds(checkout):
     """The disk with out/ is full from the start, or has less room than the program needs."""
     small = 'mount -t tmpfs -o size=40k none out && head -c "$1" /dev/zero >out/filled; shift; exec "$@"'
     (checkout.root / "out").mkdir()
-    space = ["unshare", "-m"] if os.getuid() == 0 else ["unshare", "-r", "-m"]
-    if run(*space, "mount", "-t", "tmpfs", "none", checkout.root / "out").returncode:
-        pytest.skip("a right to mount a disk is missing")
     write(checkout.rt, RT + 'head -c 30000 /dev/zero >>out/${PWD##*/}.o\n')
     for filled in (40960, 20000):
-        words = [*space, "sh", "-c", small, "sh", filled, checkout.script]
+        words = [*unshared(), "sh", "-c", small, "sh", filled, checkout.script]
         is_refused(run(*words, **{**HOW, "cwd": checkout.root}), "written")
     checkout.started(checkout.use(), 1)
 

@@ -185,6 +185,7 @@ def test_a_library_of_another_version_or_without_a_call_is_refused():
 def archives(source, *kinds):
     """Builds archives of the package for Python in the folder `source`, one of each of `kinds`, such as "sdist", by
     the build backend. Returns the archives' paths."""
+    need_module("hatchling")
     hooks = "import sys, hatchling.build as made\n"
     hooks += "for kind in sys.argv[2:]: print(getattr(made, f'build_{kind}')(sys.argv[1]))"
     names = PREFIX.make(sys.executable, "-Bc", hooks, PREFIX.work, *kinds, cwd=source).stdout.split()
