@@ -17,6 +17,8 @@ from tests.support import as_at_a_login  # noqa: E402 - pytest rewrites the asse
 
 ROOT = Path(__file__).parent
 PR_SET_CHILD_SUBREAPER = 36  # of prctl(2)
+LONGEST = ["test_crates", "test_clients", "test_dist", "test_documents", "test_install", "test_many_cluster",
+           "test_threads", "test_rows", "test_slurm", "test_many_folder", "test_runner", "test_stopping"]
 
 
 def pytest_configure():
@@ -109,8 +111,8 @@ pytest_make_collect_report = pytest_runtest_makereport
 
 
 def pytest_collection_modifyitems(items):
-    """Puts tests with a mark `timeout`, which may take longest, first."""
-    items.sort(key=lambda item: -max((mark.args[0] for mark in item.iter_markers("timeout")), default=0))
+    """Puts the modules that take longest first, so that no processor is left with one of them at the end."""
+    items.sort(key=lambda item: LONGEST.index(item.path.stem) if item.path.stem in LONGEST else len(LONGEST))
 
 
 def pytest_sessionstart(session):

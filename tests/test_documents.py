@@ -16,7 +16,7 @@ from tests.support import ROOT, built, ends, run, stored
 DOCUMENTS = ["README.md", "CONTRIBUTING.md", *sorted(f"docs/{path.name}" for path in ROOT.glob("docs/*.md"))]
 TEXTS = {name: stored(name).decode() for name in DOCUMENTS}
 END = "\x01end\x01"
-LONGEST = 600  # seconds that the commands of a document may take, since some solve hard positions
+LONGEST = 800  # seconds that the commands of a document may take, since some solve hard positions
 MADE = re.compile(r"(?: -o |[^<>&\d]>|bin/ffosolve-many (?:--scheduler \S+ )?)([\w./-]+)")  # in a block `sh`
 # A line that declares NAME as a definition, field, function, constant, type or variant.
 DECLARES = (r"(?m)^ *(?:(?:[\w()]+ )*(?:NAME *:|(?:record|data|fn|const|struct|enum|trait|type) NAME\b)|NAME[,({]|"
