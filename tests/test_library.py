@@ -1,7 +1,9 @@
-"""The library for C and C++: its files, header and calls, and the statuses in C, C++, Python and Rust."""
+"""The library for C and C++: its files, header and calls, and the statuses in C, C++, Python and Rust. Python, C and
+ffosolve read lines with random faults alike; Python and C read tests/rows/ffosolve/lines.tsv, too."""
 import functools
 import itertools
 import os
+import random
 import re
 import subprocess
 from concurrent.futures import ThreadPoolExecutor
@@ -9,10 +11,10 @@ from concurrent.futures import ThreadPoolExecutor
 import pytest
 
 import ffosolve
-from ffosolve._refusals import refusal_of
+from ffosolve._refusals import REFUSALS, refusal_of
 from tests.positions import random_positions
 from tests.prefix import CXX, NUMBER, PREFIX, STRICT, TESTS, VERSION, C, installed  # noqa: F401 - a fixture
-from tests.support import limited, need, need_module
+from tests.support import built, limited, need, need_module, run, worked_rows
 
 COMPILERS = [*itertools.product(("cc", "clang"), ("c90", "c99", "c11", "c17", "c2x"), ("c",)),
              *itertools.product(("c++", "clang++"), ("c++11", "c++14", "c++17", "c++20"), ("cpp",))]
@@ -33,6 +35,8 @@ NAMES = {
     "VERSION": VERSION, "NUMBER": NUMBER, "ENTRIES": ffosolve.MOST_ENTRIES, "MORE": ffosolve.MOST_ENTRIES + 1,
     "TEXTS": ", ".join(TEXTS_OF_LINES.get(it.name) or refusal_of(it).reason for it in ffosolve.Status if it.value),
 }
+LINES, COLUMNS = worked_rows("ffosolve/lines")
+PIECES = b"| w|ps:-4;|--:0;|I1:+1|h8:64 ;|B2:+65;| |\t|%|;|:|?|-|X|O|b|\r|\0|\x80|\xff".split(b"|")
 # What tests/library_nulls.c must print.
 NULLS = "".join(f"{count} 2 65 {room}: {pointers} 7\n" * 3 for count, room, pointers in (
     (0, 0, "other other other"), (1, 1, "given given given"), (0, 1, "other given given"), (1, 0, "given other given"),
@@ -208,3 +212,76 @@ def test_the_stack_that_the_header_names_is_enough():
     with pytest.raises(subprocess.TimeoutExpired):
         call = "solve {START} 0 1024".format_map(NAMES)
         PREFIX.called([call], env={}, preexec_fn=limited(RLIMIT_STACK=128 << 10), timeout=2)
+
+
+def odd_line(chance, lines):
+    """Returns a random line of `lines` with up to three PIECES, each inserted or put in place of some bytes."""
+    line = chance.choice(lines)
+    for _ in range(chance.randrange(4)):
+        at = chance.choice((chance.randrange(64), chance.randrange(64, 80)))
+        line = line[:at] + chance.choice(PIECES) + line[at + chance.choice((0, 0, 1, 5, 99)):]
+    return line
+
+
+def read(source, reader=ffosolve.parse_lines):
+    """Reads `source` by `reader`, a function of the Python package. Returns {line number: row} without blank lines and
+    comments. A row is `OWN OPP SIDE MOVE:SCORE ..`, with masks of 16 hex digits, or `refused: ` and the reason."""
+    refused = []
+    rows = {line.number: f"{line.own:016x} {line.opp:016x} {line.side}" + "".join(" %s:%s" % it for it in line.listed)
+            for line in reader(source, refused=refused.append)}
+    return rows | {error.line: "refused: " + str(error).split(": ", 1)[1] for error in refused}
+
+
+def read_in_c(text):
+    """Returns what `read` returns for a text, but reads each line by the library's function ffosolve_read_line."""
+    rows, lines = {}, [line.removesuffix(b"\r") for line in text.split(b"\n")]
+    printed = PREFIX.called(f"read_line 8 {line.hex()}" for line in lines)
+    for number, (status, *words) in enumerate(map(str.split, printed), 1):
+        if status == "0":
+            own, opp, side, _, *listed = words
+            rows[number] = f"{own:0>16} {opp:0>16} {'XO'[int(side)]}"
+            for kind, square, score in (map(int, it.split("/")) for it in listed):
+                rows[number] += f" {('PS', '--')[kind - 1] if kind else ffosolve.square_name(square)}:{score}"
+        elif status != "8":
+            rows[number] = f"refused: {REFUSALS[int(status)](int(words[1]))}"
+    return rows
+
+
+@pytest.fixture(scope="module")
+def text():
+    chance = random.Random(5)
+    return b"\n".join(odd_line(chance, LINES) for _ in range(10_000))
+
+
+def test_python_and_c_read_worked_and_odd_lines_alike(text):
+    rows = {number: cell.decode() for number, cell in enumerate(COLUMNS["read"], 1) if cell}
+    for lines, wanted in ((b"\n".join(LINES), rows), (text, read(text))):
+        assert read(lines) == wanted
+        assert read((line + b"\n" for line in lines.split(b"\n")), ffosolve.read_lines) == wanted
+        assert read_in_c(lines) == wanted
+
+
+def test_the_report_of_odd_lines_is_what_python_finds(text):
+    report = run(built(), "--max-empties=20", input=text, check=True).stdout.decode().splitlines()[1:-1]
+    solver = ffosolve.Solver(str(PREFIX.shared))
+    assert report == [f"{number} {reported(solver, row)}" for number, row in sorted(read(text).items())]
+    kinds = {re.sub(r"\d+", "N", row.partition(" ")[2]) if "refused" in row else row.split()[-1] for row in report}
+    refused = ("N empties, limit N", "board has N of N squares", "bad square at column N", "bad side at column N")
+    assert kinds >= {"agree", "differ", "unlisted", *(f"refused: {why}" for why in refused)}
+
+
+def reported(solver, row):
+    """Returns what ffosolve --max-empties=20 prints after the number of a line for which `read` returns `row`."""
+    if "refused" in row:
+        return row
+    own, opp, _, *listed = row.split()
+    position = ffosolve.Position(int(own, 16), int(opp, 16))
+    if position.empties > 20:
+        return f"refused: {position.empties} empties, limit 20"
+    answer = solver.solve(position)
+    best = str(answer).split()[1].split(",")
+    claims = [(int(score), move) for move, score in (word.split(":") for word in listed)]
+    most, _ = max(claims, default=(None, None))
+    is_right = most == answer.score and all(move in best for score, move in claims if score == most)
+    check = "unlisted" if not claims else "agree" if is_right else "differ"
+    return f"{answer} {check}"
