@@ -13,7 +13,7 @@ import pytest
 import ffosolve
 from ffosolve._refusals import REFUSALS, refusal_of
 from tests.positions import random_positions
-from tests.prefix import CXX, NUMBER, PREFIX, STRICT, TESTS, VERSION, C, installed  # noqa: F401 - a fixture
+from tests.prefix import CXX, LONGEST, NUMBER, PREFIX, STRICT, TESTS, VERSION, C, installed  # noqa: F401 - a fixture
 from tests.support import built, limited, need, need_module, run, worked_rows
 
 COMPILERS = [*itertools.product(("cc", "clang"), ("c90", "c99", "c11", "c17", "c2x"), ("c",)),
@@ -262,7 +262,8 @@ def test_python_and_c_read_worked_and_odd_lines_alike(text):
 
 
 def test_the_report_of_odd_lines_is_what_python_finds(text):
-    report = run(built(), "--max-empties=20", input=text, check=True).stdout.decode().splitlines()[1:-1]
+    ran = run(built(), "--max-empties=20", input=text, check=True, timeout=LONGEST)
+    report = ran.stdout.decode().splitlines()[1:-1]
     solver = ffosolve.Solver(str(PREFIX.shared))
     assert report == [f"{number} {reported(solver, row)}" for number, row in sorted(read(text).items())]
     kinds = {re.sub(r"\d+", "N", row.partition(" ")[2]) if "refused" in row else row.split()[-1] for row in report}

@@ -1,7 +1,7 @@
 """Output worked out from the rules, books that are read or refused, and files and streams that end or fail.
 
 In the tables of tests/rows/PROGRAM, a row's last cell is a line of a list. Each other cell is what PROGRAM prints for
-that line, without the line's number, with the options that head the column. `read` is for test_odd_lines.py."""
+that line, without the line's number, with the options that head the column. `read` is for test_library.py."""
 import os
 import re
 from pathlib import Path
