@@ -51,9 +51,7 @@ def random_game(rng):
 
 def random_lines(number, least, most, seed=1):
     """Yields OBF lines of `number` positions, each from a random game of its own that is not over yet. The positions
-    have `least` to `most` empty squares in turn. Raises ValueError if no such game has that many."""
-    if not 1 <= least <= most <= 60:
-        raise ValueError(f"{least} to {most} empty squares are not within 1 to 60")
+    have `least` to `most` empty squares in turn, 1 to 60. The same arguments give the same lines."""
     rng, found = random.Random(seed), 0
     while found < number:
         empties = least + found % (most - least + 1)

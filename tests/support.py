@@ -12,6 +12,8 @@ from pathlib import Path
 
 import pytest
 
+from bench import player
+
 ROOT = Path(__file__).resolve().parent.parent
 NOBODY = {"user": 65534, "group": 65534, "extra_groups": []} if os.getuid() == 0 else {}  # drops root's rights
 SECONDS = 55  # the time limit of a command or a wait, unless a test sets its own
@@ -79,8 +81,8 @@ def unshared():
 
 @functools.cache
 def positions(*words):
-    """Returns what `bench/positions COUNT LEAST MOST [SEED]` prints: OBF lines with LEAST to MOST empties, as bytes."""
-    return run(sys.executable, ROOT / "bench/positions", *words, check=True).stdout
+    """Returns the lines of `random_lines` in bench/player.py for COUNT, LEAST, MOST and maybe SEED, as bytes."""
+    return "".join(f"{line}\n" for line in player.random_lines(*words)).encode()
 
 
 def is_v3():
