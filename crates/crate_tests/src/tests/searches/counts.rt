@@ -66,7 +66,7 @@ fn searches_probe_and_store_as_often_as_in_plain_rust(rt: HostRuntime) -> Result
 
 // The mover's discs and the opponent's in two positions for each number of empty squares from 8 to 17,
 // and in one or two for each from 18 to 20.
-const POSITIONS: [Discs; 24] = [
+const POSITIONS: [Discs; 25] = [
     (0x3f7b_3a00_3a5a_2e0f, 0xc084_85ff_4525_1110),
     (0x1000_6203_0f19_bf41, 0xa5bf_9cfc_70e6_401e),
     (0x2a40_8083_8b87_8ebf, 0x1f_5f7c_7478_7040),
@@ -88,14 +88,15 @@ const POSITIONS: [Discs; 24] = [
     (0x7bfe_df84_9f4b_d7fd, 0x2_2000_0000),
     (0x4ffc_ae37_fbd3_f9f6, 0x2_0000_0000_0200),
     (0x40_0000_0004, 0xf2f4_f8ba_fafe_fcf8),
+    (0xfcfc_f8f8_fcfe_c6a0, 0x200_3810),
     (0x2929_b5ca_9513_0704, 0x606_0a34_282c_3828),
     (0xff7f_df5f_d81c_1a11, 0x2020_2020_0000),
-    (0x8886_8a90_a8d8_b800, 0x2719_706f_5702_0010),
+    (0x41c_1018_0400_0000, 0x1_0707_7bff_7fff),
 ];
 
 // Of each position the counts under Winner, Discs and Sign. `bench/run counts` prints them. With fewer
 // than 10 empty squares nothing is stored.
-const COUNTS: [[[u32; 3]; 3]; 24] = [
+const COUNTS: [[[u32; 3]; 3]; 25] = [
     [[899, 0, 899], [899, 0, 899], [642, 0, 642]],
     [[625, 0, 625], [625, 0, 625], [563, 0, 563]],
     [[936, 0, 936], [936, 0, 936], [848, 0, 848]],
@@ -117,11 +118,8 @@ const COUNTS: [[[u32; 3]; 3]; 24] = [
     [[515, 37, 5], [728, 53, 5], [1654, 47, 5]],
     [[81, 25, 5], [91, 30, 5], [89, 21, 5]],
     [[125716, 774, 5], [125720, 774, 5], [76026, 628, 5]],
+    [[13547, 440, 8], [21875, 621, 8], [21251, 1144, 8]],
     [[152167, 2702, 9], [152167, 2702, 9], [152167, 2702, 9]],
     [[396, 43, 5], [4575, 140, 5], [2471, 31, 5]],
-    [
-        [1037628, 17192, 9],
-        [1037628, 17192, 9],
-        [1037628, 17192, 9],
-    ],
+    [[7065, 234, 5], [9895, 405, 5], [969, 92, 5]],
 ];
