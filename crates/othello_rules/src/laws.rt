@@ -42,7 +42,8 @@ pub fn value_is_minimax()
     ensures in_range { (g : Scoring) (P : GridView) → length P.cells ≤ 64 → IsScore (value g P) }
 {}
 
-/// Swapping all discs and the side to move keeps the moves, the value and the answer.
+/// The position with every disc of the other colour, and with the other side to move, has the same
+/// moves, the same value and the same answer.
 pub fn colours_are_alike()
     ensures moves { (P : GridView) → moves (colour_swap P) ≡ moves P }
     ensures value { (g : Scoring) (P : GridView) → value g (colour_swap P) ≡ value g P }
