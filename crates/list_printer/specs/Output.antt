@@ -8,8 +8,6 @@ use Rattle.scored_lines.specs.Lines.{are_right, lines_text, lists_right, lists_t
 use Rattle.program_settings.specs.declared.criteria.Criteria.{Criteria}
 use Rattle.scored_lines.specs.declared.lines.LinesText.{LinesText}
 use Rattle.list_printer.specs.declared.chunk_threads.ChunkPromise.{ChunkPromise}
-use Rattle.list_printer.specs.declared.chunk_threads.ChunkOutput.{ChunkOutput}
-use Rattle.list_printer.specs.declared.chunk_threads.ChunkOutput.TheVariants.{Pending, Ready}
 
 -- the text that is printed for some lines, and whether these lines are right
 pub record Output : Type 0 where
@@ -48,11 +46,6 @@ HasOutput output r = IfOk r (λ found. (found.bytes.items ≡ output.text) × (f
 -- the output that a chunk's thread promises
 abbrev pub promised_output : ChunkPromise → Output
 promised_output promise = text_output promise.scoring promise.criteria promise.text.now
-
--- the chunk's thread promises this output, or the calling thread made it
-abbrev pub IsOutputOf : Output → ChunkOutput → Type 0
-IsOutputOf output (Pending handle work) = promised_output handle.promise ≡ output
-IsOutputOf output (Ready text) = HasOutput output text
 
 -- a writer's known bytes grow by a front of `all`, of which `rest` is left
 pub record WritesBefore (old now : Option (List ℕ)) (rest all : List ℕ) : Type 0 where

@@ -3,19 +3,20 @@
 ghost use Rattle.std.specs.Prelude.{◌≡◌, ◌≤◌, IfOk};
 ghost use Rattle.std.specs.Arc.{arc_value};
 ghost use Rattle.endgame_search.specs.Limits.{most_empties};
-ghost use Rattle.list_printer.specs.Output.{HasOutput, IsOutputOf, promised_output, text_output};
+ghost use Rattle.list_printer.specs.Output.{HasOutput, promised_output, text_output};
 
 use crate::chunks::Chunk;
 use bound_table::{BoundTable, Bounds};
 use othello_rules::Scoring;
 use program_settings::Criteria;
 use scored_lines::{LinesText, lines_text};
+use started_threads::{Making, Started};
 use std::alloc::{AllocError, Global};
 use std::marker::Model;
 use std::sync::Arc;
 use std::sync::atomic::{AtomicU64, Ordering};
 use std::thread;
-use std::thread::{Promise, PromisedHandle, Threads};
+use std::thread::{Promise, Threads};
 
 /// What all threads that score lines share.
 #[derive(Drop)]
@@ -67,38 +68,28 @@ impl ChunkWork {
     }
 }
 
-/// What is printed for a chunk: pending on its thread, beside what that works with; or ready, if
-/// the chunk has no thread.
-#[derive(Drop)]
-pub enum ChunkOutput<'a> {
-    Pending(PromisedHandle<Result<LinesText, AllocError>, ChunkPromise<'a>>, Arc<ChunkWork>),
-    Ready(Result<LinesText, AllocError>),
-}
-
-/// A chunk whose scoring was started, and what its thread promises. If it is dropped, its thread
-/// runs on.
+/// A chunk whose scoring was started. If it is dropped, its thread runs on.
 #[derive(Drop)]
 pub struct StartedChunk<'a> {
-    pub promise: ChunkPromise<'a>,
-    pub output: ChunkOutput<'a>,
+    pub output: Started<Result<LinesText, AllocError>, ChunkPromise<'a>>,
+    /// What the chunk's thread works with, if one was to be started.
+    pub work: Option<Arc<ChunkWork>>,
 }
 
 impl<'a> Model for StartedChunk<'a> {
-    ghost use Rattle.list_printer.specs.Output.{Output, IsOutputOf, promised_output};
+    ghost use Rattle.list_printer.specs.Output.{Output, promised_output};
 
     ghost Value = { Output };
 
-    ghost view = { λ s. promised_output s.promise };
-
-    ghost invariant = { λ s. IsOutputOf (promised_output s.promise) s.output };
+    ghost view = { λ s. promised_output s.output };
 }
 
 impl<'a> StartedChunk<'a> {
     // Whether the chunk is scored.
     pub(crate) fn is_ready(&self) -> bool {
-        match &self.output {
-            ChunkOutput::Pending(_, work) => work.done.load(Ordering::SeqCst) != 0,
-            ChunkOutput::Ready(_) => true,
+        match &self.work {
+            Some(work) => work.done.load(Ordering::SeqCst) != 0,
+            None => true,
         }
     }
 
@@ -106,11 +97,8 @@ impl<'a> StartedChunk<'a> {
     pub(crate) fn join<R: Threads>(self, rt: &R) -> Result<LinesText, AllocError>
         ensures { HasOutput self.entry result }
     {
-        let StartedChunk { promise: _, output } = self;
-        match output {
-            ChunkOutput::Pending(handle, _) => handle.join(rt),
-            ChunkOutput::Ready(text) => text,
-        }
+        let StartedChunk { output, work: _ } = self;
+        output.join(rt)
     }
 }
 
@@ -134,11 +122,11 @@ fn spawn_chunk<'a, R: Threads>(
     scorer: &Arc<Scorer>,
     alloc: Global,
     promise: ChunkPromise<'a>,
-) -> Result<ChunkOutput<'a>, AllocError>
+) -> Result<StartedChunk<'a>, AllocError>
     requires limit { (arc_value scorer.now).criteria.limit ≤ most_empties }
     requires scoring { promise.scoring ≡ (arc_value scorer.now).table.scoring }
     requires criteria { promise.criteria ≡ (arc_value scorer.now).criteria }
-    ensures { IfOk result (λ output. IsOutputOf (promised_output promise.entry) output) }
+    ensures { IfOk result (λ chunk. chunk ≡ promised_output promise.entry) }
 {
     let work = Arc::new(alloc, work_of(scorer, alloc, promise.text)?)?;
     let own = Arc::try_clone(&work)?;
@@ -152,10 +140,14 @@ fn spawn_chunk<'a, R: Threads>(
                 (arc_value (arc_value own).scorer).criteria (arc_value own).text.items) result }
         { own.run() },
     );
-    match spawned {
-        Ok(handle) => Ok(ChunkOutput::Pending(handle, work)),
-        Err(refused) => Ok(ChunkOutput::Ready((refused.value)())),
-    }
+    let making = match spawned {
+        Ok(handle) => Making::Pending(handle),
+        Err(refused) => Making::Ready((refused.value)()),
+    };
+    Ok(StartedChunk {
+        output: Started { promise, making },
+        work: Some(work),
+    })
 }
 
 /// Starts the scoring of a chunk: on a thread of its own, or on the calling thread if the chunk
@@ -177,13 +169,14 @@ pub(crate) fn start<'a, R: Threads>(
         text: chunk.front,
     };
     if !chunk.is_for_caller {
-        if let Ok(output) = spawn_chunk(rt, scorer, alloc, promise) {
-            return StartedChunk { promise, output };
+        if let Ok(started) = spawn_chunk(rt, scorer, alloc, promise) {
+            return started;
         }
     }
     let found = lines_text(&shared.table, alloc, shared.criteria, chunk.front);
+    let making = Making::Ready(found);
     StartedChunk {
-        promise,
-        output: ChunkOutput::Ready(found),
+        output: Started { promise, making },
+        work: None,
     }
 }

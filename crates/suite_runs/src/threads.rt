@@ -7,7 +7,6 @@ ghost use Rattle.suite_runs.specs.Part.{GivesPart, GivesParts};
 ghost use Rattle.obf_text.specs.LineText.{texts_of};
 ghost use Rattle.program_settings.specs.InputFault.{first_large};
 ghost use Rattle.suite_runs.specs.Runs.{Answers, AreFilesOf};
-ghost use Rattle.suite_runs.specs.Threads.{started_view};
 
 use crate::client::client_part_by_criteria;
 use crate::gate::Gate;
@@ -16,10 +15,11 @@ use crate::part::Part;
 use crate::run_fault::RunFault;
 use crate::shared::Shared;
 use crate::solved_files::SolvedFiles;
-use crate::started_client::{ClientThread, PartPromise, StartedClient};
+use crate::started_client::{PartPromise, StartedClient};
 use bound_table::Bounds;
 use program_settings::{Settings, check_files};
 use solved_book::Claims;
+use started_threads::{Making, Started};
 use std::alloc::Global;
 use std::sync::Wait;
 use std::thread;
@@ -45,8 +45,9 @@ fn start<'a, E, R: Threads + Wait + Sync, G: Gate>(
     text: &'a [u8],
 ) -> StartedClient<'a>
     requires { length text.now ≤ most_bytes }
-    ensures { result ≡ started_view crew.now.shared.now.table.scoring
-        (criteria_of crew.now.shared.now.settings) text.now }
+    ensures scoring { result.scoring ≡ crew.now.shared.now.table.scoring }
+    ensures criteria { result.criteria ≡ criteria_of crew.now.shared.now.settings }
+    ensures text { result.text.now ≡ text.now }
 {
     let &Crew {
         rt,
@@ -72,11 +73,11 @@ fn start<'a, E, R: Threads + Wait + Sync, G: Gate>(
             client_part_by_criteria(rt, shared.alloc, text, sender, criteria, &worker)
         },
     );
-    let thread = match spawned {
-        Ok(handle) => ClientThread::Spawned(handle),
-        Err(refused) => ClientThread::Done((refused.value)()),
+    let making = match spawned {
+        Ok(handle) => Making::Pending(handle),
+        Err(refused) => Making::Ready((refused.value)()),
     };
-    StartedClient { promise, thread }
+    Started { promise, making }
 }
 
 // Starts the workers of the settings. A worker whose thread can't be started is left out.

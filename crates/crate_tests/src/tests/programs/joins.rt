@@ -5,18 +5,19 @@ ghost use Rattle.suite_runs.specs.declared.run_fault.RunFault.TheVariants.{Memor
 
 use othello_rules::Scoring;
 use program_settings::Criteria;
+use started_threads::{Making, Started};
 use std::alloc::{AllocError, Global};
 use std::test::Fail;
 use std::thread::Threads;
 use suite_runs::joined::{Joined, join_all};
-use suite_runs::started_client::{ClientThread, PartPromise, StartedClient};
+use suite_runs::started_client::{PartPromise, StartedClient};
 use suite_solver::RunFault;
 
 // A client that has ended with a fault.
 fn ended_with(fault: RunFault) -> StartedClient<'static>
     requires { (fault ≡ Memory) ⊎ (fault ≡ Mixed) }
 {
-    StartedClient {
+    Started {
         promise: PartPromise {
             scoring: Scoring::Winner,
             criteria: Criteria {
@@ -25,7 +26,7 @@ fn ended_with(fault: RunFault) -> StartedClient<'static>
             },
             text: b"",
         },
-        thread: ClientThread::Done(Err(fault)),
+        making: Making::Ready(Err(fault)),
     }
 }
 

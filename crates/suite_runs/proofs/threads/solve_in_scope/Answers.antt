@@ -4,7 +4,7 @@ use Rattle.std.proofs.lemmas.List.{take_all}
 use Rattle.obf_text.specs.LineText.{texts_of}
 use Rattle.program_settings.specs.Settings.{criteria_of}
 use Rattle.program_settings.proofs.InputFaultLemmas.{small_at}
-use Rattle.suite_runs.specs.Threads.{started_view}
+use Rattle.suite_runs.specs.Part.{part_view}
 use Rattle.suite_runs.proofs.JoinLemmas.{parts_given}
 use Rattle.suite_runs.proofs.threads.solve_in_scope.Goals as goal
 
@@ -23,5 +23,5 @@ returns g c =
     let by = criteria_of c.args.crew.now.shared.now.settings in
     let files = c.args.files.now in
     parts_given scoring by (texts_of files) c.loop-file.clients.items c.join_all.new.joined.parts c.join_all.new.joined.fault c.into_parts.result
-    (c.loop-file.invariant.started ∙ ap (λ l. map (started_view scoring by) (texts_of l)) (take_all c.loop-file.file-index files c.loop-file-test.false))
+    (c.loop-file.invariant.started ∙ ap (λ l. map (part_view scoring by) (texts_of l)) (take_all c.loop-file.file-index files c.loop-file-test.false))
     c.join_all.ensures c.into_parts.ensures.ok c.into_parts.ensures.err
