@@ -60,14 +60,14 @@ def test_results_come_before_an_endless_or_slow_iterable_ends(threads, wanted):
 
     def endless():
         for position in itertools.cycle(POSITIONS):
-            time.sleep(0.02 if len(taken) < 50 else 0)  # slow at first
+            time.sleep(0.2 if len(taken) < 15 else 0)  # slow at first
             taken.append(position)
             yield position
 
     found = Solver().solve_iter(endless(), threads=threads)
     assert iter(found) is found
     assert next(found) == answers[0]
-    assert len(taken) < 50
+    assert len(taken) < 15
     assert list(itertools.islice(found, 499)) == answers[1:] + answers[:100]
     found.close()
     assert len(taken) < 100_000

@@ -252,6 +252,8 @@ def test_scorings_limits_and_versions_are_those_of_the_library_and_scorings_and_
     limit = Solver()._library.ffosolve_limit
     assert [limit(0), limit(1), limit(2)] == [ffosolve.MOST_ENTRIES, ffosolve.MOST_EMPTIES, len(Scoring)]
     assert Solver().library_version == ffosolve.__version__.split("+")[0]
+    assert Solver(entries=ffosolve.MOST_ENTRIES).solve(POSITION) == ANSWER
+    assert [Solver(max_empties=most).max_empties for most in (0, 60)] == [0, 60]
 
 
 @pytest.mark.parametrize("settings, scoring, entries", [
@@ -313,11 +315,6 @@ def test_positions_are_refused_by_each_call(calls, given, error, why, index):
     for call in calls:
         refusal = refused(error, call, Solver(max_empties=33), given)
         assert (str(refusal), refusal.index) == (why, index)
-
-
-def test_the_greatest_settings_are_taken():
-    assert Solver(entries=ffosolve.MOST_ENTRIES).solve(POSITION) == ANSWER
-    assert [Solver(max_empties=most).max_empties for most in (0, 60)] == [0, 60]
 
 
 @pytest.mark.parametrize("refusal", [
@@ -385,15 +382,12 @@ def test_a_single_position_is_no_list(call):
         call(Solver(), tuple(POSITION))
 
 
-@pytest.mark.parametrize("path", ["/nowhere/libffosolve.so", pathlib.Path("/nowhere/libffosolve.so"), __file__])
+@pytest.mark.parametrize("path", [
+    "/nowhere/libffosolve.so", pathlib.Path("/nowhere/libffosolve.so"), __file__, "libc.so.6"])
 def test_a_missing_library_is_named_by_its_path(path):
-    with pytest.raises(ffosolve.LibraryNotFound, match=f"^{path}: "):
+    """A name without a folder is a file in the current folder, and no library of the system."""
+    with pytest.raises(ffosolve.LibraryNotFound, match=f"^{re.escape(os.path.abspath(path))}: "):
         Solver(path)
-
-
-def test_a_name_without_a_folder_is_a_file_in_the_current_folder_and_no_library_of_the_system():
-    with pytest.raises(ffosolve.LibraryNotFound, match=f"^{re.escape(os.getcwd())}/libc.so.6: "):
-        Solver("libc.so.6")
 
 
 def test_places_are_searched_in_the_order_of_the_help(monkeypatch):
@@ -420,12 +414,13 @@ def test_a_line_may_have_other_letters_blanks_and_pieces():
 
 
 @pytest.mark.parametrize("end", ["\n", "\r\n"])
-def test_lines_are_numbered_skipped_and_refused(end):
+def test_lines_are_numbered_skipped_and_refused(end, tmp_path):
     lines = ["", CORNERS, "% H1", CORNERS[:63], CORNERS[:64] + " O;", "?" + CORNERS]
-    text = end.join(lines) + end
+    text, path = end.join(lines) + end, tmp_path / "it.obf"
+    path.write_bytes(text.encode())
     for read, given in ((parse_lines, text), (parse_lines, text.encode()), (read_lines, lines),
                         (read_lines, [line + end for line in lines]), (read_lines, io.StringIO(text)),
-                        (read_lines, io.BytesIO(text.encode()))):
+                        (read_lines, io.BytesIO(text.encode())), (read_lines, path), (read_lines, str(path))):
         wrong = []
         found = pickle.loads(pickle.dumps(list(read(given, refused=wrong.append))))
         assert [(line, line.number, line.side, line.listed) for line in found] == [
@@ -443,13 +438,6 @@ def test_no_lines_have_no_positions():
     for nothing in ("", b"", "\n", b"% X", "% \udcff"):
         assert list(parse_lines(nothing)) == []
     assert list(read_lines([])) == []
-
-
-def test_a_file_is_read_by_its_path(tmp_path):
-    path = tmp_path / "it.obf"
-    path.write_text(f"% X\n{CORNERS}\n")
-    for source in (path, str(path)):
-        assert [(line, line.number) for line in read_lines(source)] == [(POSITION, 2)]
 
 
 def test_squares_have_names_and_numbers():
