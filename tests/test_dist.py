@@ -262,6 +262,7 @@ def test_an_empty_environment_needs_only_the_wheel(dist, wheel, folder):
 
 
 def test_without_git_and_at_the_release_the_version_is_plain(folder):
+    need_module("hatchling")
     checkout = copied_checkout(folder / "plain")
     wheel = checkout / f"out/ffosolve-{VERSION}-py3-none-manylinux_2_34_x86_64.whl"
     for prepare in ("true", COMMIT_ALL):
