@@ -33,9 +33,9 @@ all: $(programs:%=out/%) library ## proves and builds the programs and the libra
 changed = $(if $(shell find crates crates.txt -name out -prune -o -name must-fail -prune -o -cnewer $1.sum -print -quit 2>&1),always)
 level = $(notdir $(@D))
 objects := $(foreach level,$(levels),$(programs:%=out/$(level)/%.o))
-tests = out/$(CPU)/crate_tests_tests
+crate_tests = out/$(CPU)/crate_tests_tests
 
-$(objects) $(levels:%=out/%/libffosolve_c.a) $(tests): $$(call changed,$$@)
+$(objects) $(levels:%=out/%/libffosolve_c.a) $(crate_tests): $$(call changed,$$@)
 	exec scripts/prove $@ $(tell)
 
 # What is linked from these. Each file is written under another name first, since another make may be running.
@@ -125,7 +125,7 @@ look: ## solves three positions in about a minute, with nothing proved; LIST=FIL
 
 PYTHON ?= python3
 TESTS =
-check: tools levels $(tests) ## tests everything; the last line counts what passed. TESTS='-k books': arguments for pytest
+check: tools levels $(crate_tests) ## tests everything; the last line counts what passed. TESTS='-k books': arguments for pytest
 	exec env -u MAKEFLAGS -u MFLAGS -u MAKELEVEL $(PYTHON) -m pytest -n auto --durations 20 $(TESTS)
 
 tools:
