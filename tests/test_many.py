@@ -413,30 +413,29 @@ def test_the_time_left_is_known_within_a_factor_of_two_from_a_tenth_of_the_work_
         assert 0.5 < end / clock.now < 2, (end, clock.now)
 
 
-def test_the_longest_part_at_work_is_waited_for(clock):
-    one = progress([FULL, FULL, 10 * FULL, FULL])
-    at_work(one, {0: "h1", 2: "h2"})
-    clock.now = 30.0
-    one.end(0, 30)
-    one.end(3, 30)
-    at_work(one, {1: "h1", 2: "h2"})
-    assert one.left() == 270  # not 150, which it would be if two machines could share a part
+# Times of four parts: at each, {part that ended: its seconds}, and {part that is at work since then: its host}.
+LOST = [(0, {}, {0: "h1", 1: "h2"}), (100, {0: 100}, {1: "h2", 2: "h1"}), (190, {}, {2: "h1"}), (193, {}, {})]
 
 
-def test_a_part_of_a_lost_machine_waits_again(clock):
-    one = progress([FULL] * 4)
-    at_work(one, {0: "h1", 1: "h2"})
-    clock.now = 100.0
-    one.end(0, 100)
-    at_work(one, {1: "h2", 2: "h1"})
-    assert one.left() == 100
-    clock.now = 190.0
-    at_work(one, {2: "h1"})
-    assert one.left() == 210
-    assert one.text("") == "25%, 4 min left, 1 machine at work, parts 1 of 4"
-    clock.now = 193.0
-    at_work(one, {})
-    assert one.text("") == "25%, no machine at work, parts 1 of 4"
+@pytest.mark.parametrize("parts, lines, times, text", [
+    # The last two parts would take 150 seconds if two machines could share a part.
+    ([FULL, FULL, 10 * FULL, FULL], 1, [(0, {}, {0: "h1", 2: "h2"}), (30, {0: 30, 3: 30}, {1: "h1", 2: "h2"})],
+     "50%, 4 min left, 2 machines at work, parts 2 of 4"),
+    (4 * [FULL], 1, LOST[:2], "25%, 100 s left, 2 machines at work, parts 1 of 4"),
+    (4 * [FULL], 1, LOST[:3], "25%, 4 min left, 1 machine at work, parts 1 of 4"),  # a part waits again
+    (4 * [FULL], 1, LOST, "25%, no machine at work, parts 1 of 4"),
+    (4 * [FULL], 3, [*LOST[:1], (720, {}, LOST[0][2])],
+     "0%, 2 machines at work, parts 0 of 4; part 0000000 (lines 1 to 3) has been running for 12 min on h1"),
+    (1200 * [FULL], 200, [(0, {}, {659: "h1"}), (55.4, dict.fromkeys(range(659), 55.4), {659: "h1"})],
+     "54%, 8 h 19 min left, 1 machine at work, parts 659 of 1200"),
+])
+def test_progress_shows_the_time_left_the_machines_and_a_part_that_runs_long(clock, parts, lines, times, text):
+    one = progress(parts, lines)
+    for clock.now, ended, hosts in times:
+        for number, seconds in ended.items():
+            one.end(number, seconds)
+        at_work(one, hosts)
+    assert one.text("") == text
 
 
 def test_work_grows_with_the_empty_squares_of_both_spellings():
@@ -453,24 +452,10 @@ def test_times_are_shown_in_words():
         assert engine.span_of(seconds) == words
 
 
-def test_the_line_fits_a_terminal(clock):
-    one = progress([FULL] * 1200, 200)
-    at_work(one, {659: "h1"})
-    clock.now = 55.4
-    for number in range(659):
-        one.end(number, 55.4)
+def test_the_line_fits_a_terminal():
     whole = "54%, 8 h 19 min left, 1 machine at work, parts 659 of 1200"
-    assert one.text("") == whole
     for columns, line in ((64, whole), (39, "54%, 8 h 19 min left"), (200, whole)):
         size = mock.patch.object(os, "get_terminal_size", return_value=os.terminal_size((columns, 24)))
         with size, mock.patch.object(_command_line, "name", "it"), mock.patch.object(os, "write") as written:
             _command_line.show(whole)
         written.assert_called_once_with(2, f"\r\033[Kit: {line}".encode())
-
-
-def test_a_part_that_runs_long_is_named(clock):
-    one = progress([FULL] * 4, 3)
-    at_work(one, {0: "h1", 1: "h2"})
-    clock.now = 720.0
-    line = "0%, 2 machines at work, parts 0 of 4; part 0000000 (lines 1 to 3) has been running for 12 min on h1"
-    assert one.text("") == line

@@ -26,7 +26,7 @@ pytest_plugins = ["tests.many"]
 def test_a_report_is_taken_if_it_is_complete(case):
     whole, numbers = b"[1]\n1 +02 A1 right\n2 refused: bad side at column 65\nsolved 1 refused 1\n", [1, 2]
     assert folder.is_report(whole, numbers)
-    assert [*folder.rows_of(whole)] == [(1, b"+02 A1 right"), (2, b"refused: bad side at column 65")]
+    assert folder.rows_of(whole, 7) == [(8, b"+02 A1 right"), (9, b"refused: bad side at column 65")]
     for end in range(len(whole)):
         assert not folder.is_report(whole[:end], numbers), end
     for old, new in ((b"[1]", b"[2]"), (b"1 +", b"2 +"), (b"1 +", b"01 +"), (b"A1", b"\0\0"), (b" right", b""),
@@ -433,7 +433,7 @@ def test_a_signal_ends_all_processes_within_a_second_and_the_command_goes_on(cas
         assert (ran.returncode, output) == (-number, b"")
         interrupted = "interrupted; the same command goes on with what is solved\n" in errors
         assert (interrupted, "Traceback" in errors) == (number != signal.SIGKILL, False)
-    case.many(*SIGNALLED, by=case.ACTS, message="lines in 12 parts, 8 of them solved before")
+    case.many(*SIGNALLED, by=case.ACTS, message=f"lines in 12 parts, {case.parts_solved()} of them solved before")
 
 
 def test_a_signal_ends_the_run_while_python_ignores_exceptions(case):

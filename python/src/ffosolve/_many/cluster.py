@@ -23,6 +23,9 @@ from .solve import Task, fit_program, solve
 
 try:
     import cloudpickle
+    import dask
+    # Otherwise, Dask reads the source of this module for each part, and adds up the sizes of all objects that it sends.
+    dask.config.set({"distributed.diagnostics.computations.ignore-modules": [""], "distributed.comm.offload": False})
     import distributed
 except ImportError as fault:
     raise Refusal(f"--scheduler needs the package distributed, which {sys.executable} lacks ({fault}): apt-get install "

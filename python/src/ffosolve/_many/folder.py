@@ -22,41 +22,41 @@ LOCK = "ffosolve-many.lock"
 UNKNOWN = 255  # stands for the status of an unsolved part
 GROWTH = 2.35  # factor of the work for each further empty square, as measured from 14 to 22 of them
 SKIPPED = re.compile(rb"[ \t]*(?:%.*|\r?)", re.DOTALL)
+FRONT = re.compile(rb"^(?![ \t]*(?:%|\r?$))[ \t]*(.{1,64})", re.MULTILINE)  # of a line that a report does not leave out
 ROW = re.compile(rb"(\d+) ([+-]\d\d (?:[A-H][1-8](?:,[A-H][1-8])*|PS|--) [a-z]+|refused: [^\0\n]+)\n")
 UNFINISHED = re.compile(r"(list|book-in|program-\d|solve\.py|task\.json|\d{7})\.[0-9a-f]{8}\.new")  # see write_whole
 
 
-def asked_lines(part: bytes) -> Dict[int, bytes]:
-    """Returns {number in the part, from 1: line} without blank lines and comments, which a report leaves out, too."""
-    return {number: line for number, line in enumerate(part.split(b"\n"), 1) if not SKIPPED.fullmatch(line)}
+def asked_lines(part: bytes) -> List[int]:
+    """Returns the numbers, from 1, of a part's lines without blank lines and comments, which a report leaves out."""
+    return [number for number, line in enumerate(part.split(b"\n"), 1) if not SKIPPED.fullmatch(line)]
 
 
 def weight_of(text: bytes, most: int) -> float:
     """Returns the expected work for the lines `text`: GROWTH ** n for a line with n empty squares, 1 if n > `most`."""
-    fronts = [line.lstrip()[:64] for line in asked_lines(text).values()]
-    empties = [front.count(b"-") + front.count(b".") for front in fronts]
-    return sum(GROWTH ** count if count <= most else 1 for count in empties)
+    empties = collections.Counter([front.count(b"-") + front.count(b".") for front in FRONT.findall(text)])
+    return sum((times * GROWTH ** count if count <= most else times for count, times in empties.items()), 0.0)
 
 
-def report_lines(rows: Iterable[Tuple[int, bytes]]) -> Iterator[bytes]:
-    """Yields the lines of a report with these rows, each a pair: a line's number, and the rest of the row as bytes."""
+def report_of(parts: Iterable[List[Tuple[int, bytes]]]) -> Iterator[bytes]:
+    """Yields a report, in pieces. For each part, it has rows from `rows_of`."""
     count = refused = 0
     yield b"[1]\n"
-    for number, rest in rows:
-        count, refused = count + 1, refused + rest.startswith(b"refused: ")
-        yield b"%d %b\n" % (number, rest)
+    for rows in parts:
+        count, refused = count + len(rows), refused + [rest[:9] for _, rest in rows].count(b"refused: ")
+        yield b"".join([b"%d %b\n" % row for row in rows])
     yield b"solved %d refused %d\n" % (count - refused, refused)
 
 
-def rows_of(report: bytes) -> List[Tuple[int, bytes]]:
-    """Returns the rows of a report as pairs that `report_lines` takes. Leaves out lines that are not rows."""
-    return [(int(number), rest) for number, rest in ROW.findall(report)]
+def rows_of(report: bytes, before: int = 0) -> List[Tuple[int, bytes]]:
+    """Returns the rows of a report, each as the number of its line, with `before` added, and the rest of the row."""
+    return [(before + int(number), rest) for number, rest in ROW.findall(report)]
 
 
-def is_report(text: bytes, numbers: Iterable[int]) -> bool:
+def is_report(text: bytes, numbers: List[int]) -> bool:
     """Returns whether a text is the complete report on lines with these numbers."""
     rows = rows_of(text)
-    return text == b"".join(report_lines(rows)) and [number for number, _ in rows] == [*numbers]
+    return text == b"".join(report_of([rows])) and [number for number, _ in rows] == numbers
 
 
 def content_of(path: Path) -> bytes:
@@ -199,8 +199,7 @@ class Run:
         outputs = (found.output for found in self.solved())
         if self.task["options"]["--scores"] is not None:
             return outputs
-        return report_lines((number * self.lines + line, rest)
-                            for number, output in enumerate(outputs) for line, rest in rows_of(output))
+        return report_of(rows_of(output, number * self.lines) for number, output in enumerate(outputs))
 
     def sweep(self) -> None:
         """Removes unfinished files, which killed processes left in the folder and in results."""
