@@ -265,9 +265,9 @@ def test_a_program_that_fails_three_times_in_a_row_and_then_for_a_known_line_end
     assert errors.count(" failed part ") == 2
     assert errors.endswith("on this machine the program can't solve a known line: broken\n")
     assert case.parts_solved() == 3
-    case.write_list(case.SMALL + b"% FAIL\n" * 7 + case.SMALL)
+    case.write_list(case.SMALL[:68 * 3] + b"% FAIL\n" * 7 + case.SMALL[:68 * 3])
     errors = case.many("--jobs=1", "--lines=1", "other", *WORDS[2:], by=case.ACTS, status=1)
-    assert (errors.count(" failed part "), "not solved: 7 of 127 parts" in errors) == (7, True)
+    assert (errors.count(" failed part "), "not solved: 7 of 13 parts" in errors) == (7, True)
 
 
 def test_copies_of_files_that_others_may_not_read_may_not_be_read_by_others(case):
@@ -309,7 +309,8 @@ def test_a_full_disk_ends_the_run_and_it_goes_on_when_there_is_room(case):
     by = case.install("full", ("../_command_line", writes, fails_late))
     words = ("--jobs=1", "--lines=5", *WORDS[1:])
     case.many(*words, by=by, status=3, message="cannot write work: No space left on device\n")
-    case.many(*words, message=", 5 of them solved before")
+    assert case.parts_solved() >= 5  # a part that was begun may have been solved meanwhile
+    case.many(*words, message=f", {case.parts_solved()} of them solved before")
 
 
 def test_a_list_is_read_from_standard_input(case):
