@@ -231,10 +231,7 @@ def final_discs(found: List[Tuple[CPosition, str]]) -> Optional[int]:
     """The number of Black's discs at the end of a game, 32 after a draw; the winner also gets the empty squares. It is
     None if the game is not over. `found` is what `played` returned for the game."""
     last = position_of(*found[-1])
-    if last.empties and not last.is_over:
-        return None
-    black, white = last.discs
-    return 32 if black == white else black if black < white else MOST_DISCS - white
+    return discs_of_black(last.score(), last.side) if last.is_over else None
 
 
 def discs_of_black(score: int, side: str) -> int:
