@@ -51,8 +51,7 @@ from ._answers import Answer, Kind, Scoring
 from ._boards import Board
 from ._games import Game, GameRefused, read_games
 from ._library import MOST_EMPTIES, MOST_ENTRIES, LibraryNotFound
-from ._masks import masks_of, positions_from
-from ._positions import START, Discs, Position, parse_lines, read_lines
+from ._positions import START, Discs, Position, masks_of, parse_lines, positions_from, read_lines
 from ._refusals import (
     BadSide, BadSquare, LineRefused, NoMemory, NoMove, NoPosition, OtherRefusal, Refused, SharedSquare, ShortBoard,
     Status, TooManyEmpties, TooManyEntries, UnequalLengths, UnknownScoring, UnknownSymmetry)

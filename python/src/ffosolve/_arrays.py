@@ -1,4 +1,4 @@
-"""Solves positions in NumPy arrays. Only two methods of Solver import this module, so the others need no NumPy."""
+"""Solves positions in NumPy arrays. Only calls for arrays import this module, so the others need no NumPy."""
 from typing import Any, List, NamedTuple, Optional, Tuple
 
 import numpy

@@ -1,4 +1,4 @@
-"""Positions, and the lines of text that hold them, in the format OBF, which `Position.from_obf` explains."""
+"""Positions; lines of text that hold them, in the format OBF, which `Position.from_obf` explains; and their arrays."""
 import os
 import re
 import reprlib
@@ -9,7 +9,8 @@ from ._answers import Answer, Kind, Scoring, scoring_of
 from ._boards import OTHER, Board, checked_score, checked_side
 from ._library import CAnswer, loaded
 from ._refusals import BadSide, BadSquare, LineRefused, NoMemory, NoMove, NoPosition, ShortBoard
-from ._rules import accept, c_position, illegal_move, moves, play, size_of
+from ._rules import (
+    accept, c_position, c_positions, checked_positions, empties_of, illegal_move, moves, play, size_of)
 from ._squares import NAMES, number_of, square_names, square_of
 from ._symmetries import Symmetry, canonical_form, image
 from ._transcripts import PASSES, words_of
@@ -348,3 +349,26 @@ def lines_of(source: Source) -> Lines:
 def lines_in(file: BinaryIO) -> Iterator[bytes]:
     with file:
         yield from file
+
+
+def masks_of(positions: Iterable[Position]) -> Tuple[Any, Any]:
+    """Returns (own, opp) for positions: arrays of uint64 with the masks of the discs of the side to move and of the
+    other side, as `Solver.solve_arrays` takes them. `numpy.array(positions)` would round masks to floats. Raises
+    ValueError for a mask outside 0 to 2**64 - 1, and TypeError for an object that is not a position."""
+    import numpy
+
+    listed = list(checked_positions(positions))
+    for position in listed:
+        empties_of(position)  # raises TypeError for another object
+    # To read the type of a ctypes array, NumPy runs Python code that takes an exception of a signal for a wrong type.
+    masks = numpy.frombuffer(c_positions(listed), numpy.uint64).reshape(-1, 2)
+    return masks[:, 0].copy(), masks[:, 1].copy()
+
+
+def positions_from(own: Any, opp: Any, side: str = "X") -> List[Position]:
+    """Returns the positions in arrays such as `masks_of` returns; `side` is to move in each. Raises TypeError and
+    ValueError for other arrays, and ValueError for another side than "X" and "O"."""
+    from ._arrays import checked
+
+    own, opp = checked(own, opp)
+    return [Position(*masks, side) for masks in zip(own.tolist(), opp.tolist())]
