@@ -11,7 +11,7 @@ import os
 import re
 import time
 from pathlib import Path
-from typing import Any, Callable, Dict, Iterable, Iterator, List, Optional, Sequence, Tuple
+from typing import Any, BinaryIO, Callable, Dict, Iterable, Iterator, List, Optional, Sequence, Tuple
 
 from . import solve
 from .._command_line import MISSING, MISUSED, Refusal, refusing, write_whole
@@ -76,11 +76,12 @@ class Run:
         self.lines: int = task["options"]["--lines"]
 
     def cut(self, source: Path, name: str, before: Optional[List[Any]]) -> Iterator[bytes]:
-        """Yields the text of each part of the list `source`, and notes it. Refuses a file that is no text, a part that
-        is too large, and a list that is not the one in the folder, perhaps grown at its end. `before` has the size and
-        the SHA-256 of that one, if they are known."""
+        """Yields the text of each part of the list `source`. Notes the parts, and which are solved. Refuses a file that
+        is no text, a part that is too large, and a list that is not the one in the folder, perhaps grown at its end.
+        `before` has the size and the SHA-256 of that one, if they are known."""
         self.starts, self.weights, self.count = array.array("Q", [0]), array.array("d"), 0
         self.digests: List[str] = []
+        self.parts, self.statuses = 0, bytearray()
         whole, begin, (size, digest) = hashlib.sha256(), hashlib.sha256(), before or (0, "")
         with refusing("read", name), source.open("rb") as file:
             try:
@@ -93,10 +94,14 @@ class Run:
                     self.digests.append(sha256(text))
                     self.weights.append(weight_of(text, int(self.task["options"]["--max-empties"])))
                     self.count += len(lines)
+                    self.statuses.append(UNKNOWN)
+                    if record := content_of(self.path(self.parts)):
+                        self.check(self.parts, text, record)
+                    self.parts += 1
                     yield text
             except NotText as why:
                 raise Refusal(str(why)) from None
-        self.task.update(parts=len(self.digests), list=[self.starts[-1], whole.hexdigest()])
+        self.task.update(parts=self.parts, list=[self.starts[-1], whole.hexdigest()])
         kept = self.folder / "list"
         if begin.hexdigest() == digest or not kept.is_file():
             return
@@ -113,19 +118,14 @@ class Run:
         size = 0
         for line in itertools.islice(texts, self.lines):
             if (size := size + len(line)) > MOST_BYTES:
-                raise Refusal(f"part {len(self.digests):07d} (from line {self.count + 1} of {name} on) has more than "
+                raise Refusal(f"part {self.parts:07d} (from line {self.count + 1} of {name} on) has more than "
                               f"{MOST_BYTES} bytes: use fewer lines, such as --lines {len(lines)}", MISUSED)
             lines.append(line)
         return lines
 
-    def load(self) -> None:
-        """Notes which parts are solved."""
-        self.list, self.parts = (self.folder / "list").open("rb"), len(self.digests)
-        self.mode = os.fstat(self.list.fileno()).st_mode & 0o666
-        self.statuses = bytearray([UNKNOWN]) * self.parts
-        for number in range(self.parts):
-            if record := content_of(self.path(number)):
-                self.check(number, self.text(number), record)
+    @functools.cached_property
+    def list(self) -> BinaryIO:
+        return (self.folder / "list").open("rb")
 
     def test(self) -> None:
         """Sets `files` and `program`, the path of one that works on this machine; refuses if none does."""
@@ -175,8 +175,9 @@ class Run:
         `why`."""
         found = self.check(number, text, record)
         if found:
+            mode = os.fstat(self.list.fileno()).st_mode & 0o666
             with refusing("write", self.folder):
-                write_whole({str(self.path(number)): [record]}, replaces=True, mode=self.mode)
+                write_whole({str(self.path(number)): [record]}, replaces=True, mode=mode)
         return found, "" if found else why or "its results are not complete"
 
     def solve(self, number: int) -> Tuple[Optional[Solved], str]:
@@ -277,13 +278,11 @@ def begin(command: argparse.Namespace, source: Path, programs: Callable[[], List
         cut = functools.partial(run.cut, source, shown(command.list), before.get("list"))
         try:
             write_whole({f"{folder}/list": cut()}, replaces=True, mode=modes[0])
-            run.load()
             prepare(run, programs, book, modes[1])
         except OSError:  # such as on a full disk, which does not matter if all parts are solved
             if not (folder / "list").exists():
                 raise
             collections.deque(cut(), 0)
-            run.load()
             if command.cut or run.unsolved():
                 raise
     return run
