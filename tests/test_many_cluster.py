@@ -27,6 +27,16 @@ OTHER_PYTHON = """if True:
     del sys.argv[:2]
     runpy.run_module(sys.argv[0], run_name="__main__")
 """
+# A server of Dask's that prints its address, and never answers what it is.
+SILENT = """if True:
+    import asyncio, distributed.core
+    async def main():
+        server = distributed.core.Server({"identity": lambda: asyncio.sleep(1000)})
+        await server.listen("tcp://127.0.0.1:0")
+        print(server.address, flush=True)
+        await asyncio.sleep(1000)
+    asyncio.run(main())
+"""
 INTERRUPTED = "interrupted; the same command goes on with what is solved\n"
 
 
@@ -364,11 +374,13 @@ def test_what_is_no_scheduler_is_named(case, impatient, many_python, address, wh
 
 def test_a_server_that_is_no_scheduler_is_named(cluster, case, impatient):
     cluster.start_workers("worker1")
-    log = Path("worker1.log").read_text()
+    cluster.daemon("silent", cluster.python, "-c", SILENT)
+    wait_until(lambda: "\n" in Path("silent.log").read_text())
+    log, silent = Path("worker1.log").read_text(), Path("silent.log").read_text().strip()
     with socket.create_server(("127.0.0.1", 0)) as held:
         for address, why in ((re.search(r"Start worker at: +(\S+)", log)[1], " is not a scheduler, but a worker\n"),
                              (re.search(r"Start Nanny at: +'(\S+)'", log)[1], " is not a scheduler, but a nanny\n"),
-                             (f"tcp://127.0.0.1:{held.getsockname()[1]}", NO_ANSWER)):
+                             (f"tcp://127.0.0.1:{held.getsockname()[1]}", NO_ANSWER), (silent, NO_ANSWER)):
             case.many("--scheduler", address, "--quiet", "work", "list.obf", by=impatient, status=3, message=why)
 
 
