@@ -159,7 +159,7 @@ def test_the_packages_own_tests_pass():
     assert (PREFIX.site / "ffosolve/py.typed").exists()
     need_module("pytest")
     words = (sys.executable, "-m", "pytest", "-q", "-p", "no:cacheprovider", PREFIX.work / "python/tests")
-    assert re.search(r"(?m)^[1-9]\d* passed", PREFIX.make(*words).stdout)
+    assert re.search(r"(?m)^[1-9]\d* passed", PREFIX.make(*words, timeout=800).stdout)  # on a busy machine
 
 
 def test_pip_installs_the_packages_program():
