@@ -229,13 +229,20 @@ def test_an_iterator_yields_what_is_finished_before_the_timeout(threads, solver)
 
 @on_threads
 @pytest.mark.parametrize("position, count", [(HARD, 1000), (QUICK, 500_000)], ids=["hard", "quick"])
-@pytest.mark.parametrize("leave", [by_timeout, by_signal])
+@pytest.mark.parametrize("leave", [by_timeout, by_signal, by_ctrl_c])
 @each_list
 def test_a_call_for_many_positions_stops_between_them_and_a_timeout_is_for_all_together(
         name, leave, position, count, threads):
     """Without a table, a hard position takes some hundredths of a second; an iterator solves quick ones in brief calls.
     """
     leave(lambda **how: LISTS[name](Solver(entries=0), [position] * count, threads=threads, **how))
+    assert_no_processor_works()
+
+
+@pytest.mark.parametrize("leave", [by_signal, by_ctrl_c])
+def test_a_call_for_one_position_without_a_table_stops(leave):
+    position = Position.from_obf("--O-X---O-OOX-XX-OOOOXXOXXOXXOOO-OXOXOOO-OOXXOOO--OOXO----O--O-- O;")  # takes seconds
+    leave(lambda: Solver(entries=0, max_empties=21).solve(position))
     assert_no_processor_works()
 
 
