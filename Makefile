@@ -135,7 +135,7 @@ tools:
 	for need in cc:gcc ld:binutils flock:util-linux git:git; do
 	    command -v "$${need%:*}" >/dev/null || lacks "$${need%:*} is missing" "$${need#*:}"
 	done
-	for need in pytest:pytest xdist:pytest-xdist pytest_timeout:pytest-timeout; do
+	for need in psutil:psutil pytest:pytest xdist:pytest-xdist pytest_timeout:pytest-timeout; do
 	    $(PYTHON) -c "import $${need%:*}" 2>/dev/null ||
 	        lacks "$(PYTHON) has no module $${need%:*}" "python3-$${need#*:}" ' for PYTHON=/usr/bin/python3'
 	done

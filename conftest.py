@@ -7,9 +7,9 @@ import signal
 import subprocess
 import sys
 import tempfile
-import time
 from pathlib import Path
 
+import psutil
 import pytest
 
 pytest.register_assert_rewrite("tests.support", "tests.games", "tests.many")
@@ -31,22 +31,18 @@ def pytest_configure():
         signal.signal(number, signal.default_int_handler)
 
 
-def children():
-    """Returns {process ID: command line} of the programs below this process that run."""
-    found = {}
-    for listed in Path("/proc/self/task").glob("*/children"):
-        for place in map(Path("/proc").joinpath, listed.read_text().split()):
-            with contextlib.suppress(OSError):  # it has ended
-                if ") Z " not in place.joinpath("stat").read_text():  # a zombie has ended, too
-                    found[int(place.name)] = place.joinpath("cmdline").read_text(errors="replace").replace("\0", " ")
-    return found
+def programs():
+    """Returns the processes below this one, ended ones among them if their parent has not noticed."""
+    return psutil.Process().children(recursive=True)
 
 
 def pytest_unconfigure():
     """Kills what is left, as after an interrupt."""
-    while children():
-        for number in children():
-            os.kill(number, signal.SIGKILL)
+    while left := programs():
+        for program in left:
+            with contextlib.suppress(psutil.NoSuchProcess):
+                program.kill()
+        psutil.wait_procs(left)
 
 
 @pytest.fixture(scope="module", autouse=True)
@@ -55,12 +51,10 @@ def ends_its_programs():
     yield
     if "ffosolve._processes" in sys.modules:
         sys.modules["ffosolve._processes"].end_idle()
-    end = time.monotonic() + 5
-    while children() and time.monotonic() < end:
-        time.sleep(0.01)
-    left = children()
+    _, left = psutil.wait_procs(programs(), timeout=5)
+    named = [program.as_dict(["pid", "cmdline"]) for program in left]
     pytest_unconfigure()
-    assert not left, f"programs that the module's tests left running: {left}"
+    assert not named, f"programs that the module's tests left running: {named}"
 
 
 def new_folder():

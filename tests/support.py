@@ -1,5 +1,4 @@
 """Helpers for all tests: files of the checkout, the built programs, commands with a time limit, and processes."""
-import contextlib
 import functools
 import os
 import resource
@@ -10,6 +9,7 @@ import sys
 import time
 from pathlib import Path
 
+import psutil
 import pytest
 
 from bench import player
@@ -164,13 +164,8 @@ def as_at_a_login():
 
 def processes_in(place):
     """Returns {process ID: command line} for other visible processes in folders whose paths begin with `place`."""
-    found = {}
-    for number in set(filter(str.isdigit, os.listdir("/proc"))) - {str(os.getpid())}:
-        with contextlib.suppress(OSError):  # the process has ended, or is another user's
-            if os.readlink(f"/proc/{number}/cwd").startswith(str(place)):
-                words = Path(f"/proc/{number}/cmdline").read_text(errors="replace")
-                found[int(number)] = words.replace("\0", " ")
-    return found
+    return {it.pid: " ".join(it.info["cmdline"] or ()) for it in psutil.process_iter(["cwd", "cmdline"])
+            if str(it.info["cwd"]).startswith(str(place)) and it.pid != os.getpid()}
 
 
 def preload(folder, **variables):

@@ -233,9 +233,9 @@ def test_a_missing_tool_is_reported_and_so_is_another_kit_which_is_tried(folder,
     assert "make" in ran.stderr
     no_rt = "rt (rattle-kit-13b or rattle-kit-13f) is not on the path"
     no_ld = "ld is missing; Debian's package binutils has it\n"
-    modules = ("pytest", "pytest"), ("xdist", "pytest-xdist"), ("pytest_timeout", "pytest-timeout")
-    no_module = "false has no module {}; Debian's package python3-{} has it for PYTHON=/usr/bin/python3\n"
-    install = "apt-get install binutils python3-pytest python3-pytest-xdist python3-pytest-timeout\n"
+    no_module = "false has no module {}; Debian's package {} has it for PYTHON=/usr/bin/python3\n"
+    install = "apt-get install binutils python3-psutil python3-pytest python3-pytest-xdist python3-pytest-timeout\n"
+    modules = zip(("psutil", "pytest", "xdist", "pytest_timeout"), install.split()[3:])
     no_tools = "".join((no_ld, *(no_module.format(*names) for names in modules), install))
     for error, *words in ((no_rt, "look", "PATH=/usr/bin:/bin"), (no_rt, "check", "PATH=/usr/bin:/bin"),
                           (no_tools, "check", "PYTHON=false", f"PATH={checkout.tools}:{path_without('ld', folder)}")):

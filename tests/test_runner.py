@@ -49,7 +49,7 @@ def test_each_fault_of_a_test_is_reported(project, ci, skipped, counts):
     wrong = {"test_faults.py::test_wrong", "test_faults.py::test_hangs", "git", "test_faults.py::Some::test_leaves"}
     assert (ran.returncode, found) == (1, wrong | skipped), ran.stdout
     assert re.search(rf"^=+ {counts} in .*=\Z", ran.stdout.strip(), re.M), ran.stdout
-    for text in ("?? new", "Timeout >12.0s", "sleep 1000", *(["no-such is missing, but with CI=true"] * bool(ci))):
+    for text in ("?? new", "Timeout >12.0s", "'sleep', '1000'", *(["no-such is missing, but with CI=true"] * bool(ci))):
         assert text in ran.stdout
 
 
