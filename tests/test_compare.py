@@ -16,7 +16,7 @@ from tests import positions  # noqa: F401 - sets FFOSOLVE_LIBRARY
 from tests.games import PROGRAM, book_of, discs_of_black, games, positions_of, random_games, record, wthor
 from tests.support import ROOT, SECONDS, built, limited, run, stored, wait_until, write
 from ffosolve import Position
-from ffosolve._theoretical_scores import exact_scores
+from ffosolve._theoretical_scores import scores_in
 
 pytestmark = pytest.mark.usefixtures("folder")
 EMPTIES = 5
@@ -106,13 +106,9 @@ def test_wrong_scores_are_told_and_all_are_counted(content, book, out):
 
 
 def test_each_score_is_that_of_its_position():
-    """Compares each of 100 positions with the books of all others, which lack it."""
     at = [found[4] for found in map(positions_of, random_games(120, seed=8)) if 4 in found][:100]
-    header, *lines = book_of(at).encode().splitlines(True)
-    for number, (own, opp, _) in enumerate(at):
-        position = Position(own, opp)
-        assert exact_scores([header, *lines[:number], *lines[number + 1:]], "", [position]) == {}
-        assert exact_scores([header, lines[number]], "", [position]) == {position: player.values(own, opp)[0]}
+    wanted = {Position(own, opp).canonical(): player.values(own, opp)[0] for own, opp, _ in at}
+    assert (scores_in(book_of(at).encode().splitlines(True), ""), len(wanted)) == (wanted, 100)
 
 
 WRONG_SCORES = [(f"--:{score};", f"its line 2 has the score {score}, with which no game ends")

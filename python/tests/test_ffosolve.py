@@ -45,7 +45,7 @@ MORE = "34 empty squares are more than max_empties=33 of the Solver"
 
 def library_that_returns(status):
     """Returns a stand-in for the library that records calls. Functions for answers and moves return `status`."""
-    names = ("solve", "confirm", "solve_all", "move_scores_all", "moves", "play")
+    names = ("confirm", "solve_all", "move_scores_all", "moves", "play")
     return mock.Mock(**{f"ffosolve_{name}.return_value": status for name in names})
 
 
@@ -193,24 +193,19 @@ def library_path():
         return next(line.split(maxsplit=5)[5].rstrip("\n") for line in maps if "libffosolve" in line)
 
 
-SOLVERS = [Solver(), Solver(scoring="sign", entries=7, max_empties=9), Solver(library_path())]
-
-
-@pytest.mark.parametrize("solver", SOLVERS)
-def test_a_solver_is_copied_and_pickled(solver):
-    for copied in (copy.copy(solver), copy.deepcopy(solver), pickle.loads(pickle.dumps(solver))):
-        assert (repr(copied), copied.library_version) == (repr(solver), solver.library_version)
-        assert copied.solve(POSITION) == solver.solve(POSITION)
+@pytest.mark.parametrize("settings, shown", [
+    ({}, "scoring='winner', max_empties=20"),
+    ({"scoring": "sign", "entries": 7, "max_empties": 9}, "scoring='sign', entries=7, max_empties=9"),
+    ({"library": library_path()}, f"{library_path()!r}, scoring='winner', max_empties=20"),
+])
+def test_a_solver_is_shown_copied_and_pickled(settings, shown):
+    solver = Solver(**settings)
+    for it in (solver, eval(f"Solver({shown})"), copy.copy(solver), copy.deepcopy(solver),
+               pickle.loads(pickle.dumps(solver))):
+        assert (repr(it), it.library_version) == (f"Solver({shown})", solver.library_version)
+        assert it.solve(POSITION) == solver.solve(POSITION)
     with ProcessPoolExecutor(2) as pool:
         assert list(pool.map(solver.solve, [POSITION, AT_PASS])) == solver.solve_all([POSITION, AT_PASS])
-
-
-def test_a_solver_shows_its_settings():
-    assert [repr(solver) for solver in SOLVERS[:2]] == [
-        "Solver(scoring='winner', max_empties=20)", "Solver(scoring='sign', entries=7, max_empties=9)"]
-    path = SOLVERS[2]._path
-    assert repr(SOLVERS[2]) == f"Solver({path!r}, scoring='winner', max_empties=20)"
-    assert [repr(eval(repr(solver))) for solver in SOLVERS] == list(map(repr, SOLVERS))
 
 
 def test_equal_positions_and_answers_have_one_hash():
@@ -261,7 +256,7 @@ def test_scorings_limits_and_versions_are_those_of_the_library_and_scorings_and_
 ])
 def test_the_library_gets_the_scoring_the_size_of_the_table_and_the_claim(settings, scoring, entries, monkeypatch):
     """By default, the table has the size that `table_entries` gives for the most empty squares of a position."""
-    monkeypatch.setattr("ffosolve._solvers.is_brief", lambda *_: True)  # no call is made by another process
+    monkeypatch.setattr("ffosolve._processes.is_brief", lambda *_: True)  # no call is made by another process
     solver = Solver(max_empties=60, **settings)
     library = solver._library = library_that_returns(0)
     solver.solve_all([POSITION, Position(0xFFF, 0), POSITION])
@@ -275,7 +270,7 @@ def test_the_library_gets_the_scoring_the_size_of_the_table_and_the_claim(settin
 
 @pytest.mark.parametrize("call", [Solver.solve_all, Solver.move_scores_all])
 def test_one_thread_makes_one_table_for_all_positions(call, monkeypatch):
-    monkeypatch.setattr("ffosolve._solvers.is_brief", lambda *_: True)
+    monkeypatch.setattr("ffosolve._processes.is_brief", lambda *_: True)
     solver = Solver(max_empties=60)
     for threads, counts in (1, [8]), (2, [1] * 8):
         solver._library = library_that_returns(0)
@@ -349,7 +344,7 @@ def test_a_refused_line_has_the_status_of_the_header_and_the_text_of_a_report(
 def test_each_call_raises_out_of_memory_and_unknown_statuses(status, refusal, reason, monkeypatch):
     solver = Solver()
     solver._library = library_that_returns(status)
-    monkeypatch.setattr("ffosolve._rules.loaded", lambda: solver._library)
+    monkeypatch.setattr("ffosolve._library._loaded", [solver._library])
     for call in (*ONE, *MANY):
         error = refused(refusal, call, solver, POSITION if call in ONE else [POSITION])
         for it in (error, pickle.loads(pickle.dumps(error))):

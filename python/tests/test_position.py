@@ -137,7 +137,7 @@ def test_the_score_of_a_finished_game_needs_no_table(monkeypatch):
 
     monkeypatch.setattr("ffosolve._positions.loaded", Watched)
     assert Position(2**64 - 1, 0).score() == 64
-    assert [(name, *given[1:3]) for name, *given in asked if "solve" in name[9:]] == [("ffosolve_solve", 0, 0)]
+    assert [given[2:4] for name, *given in asked if "solve" in name[9:]] == [[0, 0]]
 
 
 ROWS = [  # a position, its canonical image and the symmetry: worked rows of the specification

@@ -5,6 +5,7 @@ import gc
 import os
 import resource
 import signal
+import struct
 import subprocess
 import sys
 import threading
@@ -24,30 +25,18 @@ ANSWER = Answer(62, Kind.MOVES, 0x80)
 LATE = 60  # seconds that a busy machine may take for what is done at once
 
 
-def listing(call):
-    return lambda *given, **how: list(call(*given, **how))
+ONE = ["solve", "confirm", "move_scores", "best_line", "scored_line"]  # the calls of a Solver for one position
+MANY = ["solve_all", "solve_iter", "move_scores_all", "move_scores_iter", "solve_arrays", "move_scores_arrays"]
+CALLS = [*((name, None) for name in ONE), *((name, threads) for threads in (1, 3) for name in MANY)]
+each_call, on_threads = pytest.mark.parametrize("name, threads", CALLS), pytest.mark.parametrize("threads", [1, 3])
 
 
-def of_arrays(call):
-    return lambda solver, positions, **how: call(solver, *ffosolve.masks_of(positions), **how)
-
-
-def of_three(call, threads):
-    return lambda solver, position, **how: call(solver, [EASY, position, position], threads=threads, **how)
-
-
-LISTS = {
-    "solve_all": Solver.solve_all, "solve_iter": listing(Solver.solve_iter),
-    "move_scores_all": Solver.move_scores_all, "move_scores_iter": listing(Solver.move_scores_iter),
-    "solve_arrays": of_arrays(Solver.solve_arrays), "move_scores_arrays": of_arrays(Solver.move_scores_arrays),
-}
-CALLS = {
-    "solve": Solver.solve, "confirm": lambda solver, position, **how: solver.confirm(position, ANSWER, **how),
-    "move_scores": Solver.move_scores, "best_line": Solver.best_line, "scored_line": Solver.scored_line,
-    **{f"{name}, threads={threads}": of_three(call, threads) for threads in (1, 3) for name, call in LISTS.items()},
-}
-each_call, each_list = pytest.mark.parametrize("name", CALLS), pytest.mark.parametrize("name", LISTS)
-on_threads = pytest.mark.parametrize("threads", [1, 3])
+def find(name, threads, solver, positions, **how):
+    """Makes a call for positions or, if it is for one, for the last of them. Returns what it finds."""
+    call = getattr(solver, name)
+    if name in ONE:
+        return call(positions[-1], *[ANSWER] * (name == "confirm"), **how)
+    return list(call(*ffosolve.masks_of(positions) if "arrays" in name else [positions], threads=threads, **how))
 
 
 @pytest.fixture(autouse=True)
@@ -169,10 +158,10 @@ def by_asyncio(call):
 
 @pytest.mark.parametrize("leave", [by_timeout, by_signal, by_ctrl_c, by_asyncio])
 @each_call
-def test_a_call_that_is_left_ends_at_once_and_stops(name, leave, solver):
-    begun, before, threads = time.monotonic(), worked(), 3 if name.endswith("threads=3") else 1
-    leave(lambda **how: CALLS[name](solver, HOPELESS, **how))
-    assert worked() - before < 2.3 * threads  # the clock would also count what other programs do
+def test_a_call_that_is_left_ends_at_once_and_stops(name, threads, leave, solver):
+    begun, before = time.monotonic(), worked()
+    leave(lambda **how: find(name, threads, solver, [EASY, HOPELESS, HOPELESS], **how))
+    assert worked() - before < 2.3 * (threads or 1)  # the clock would also count what other programs do
     assert 0.3 <= time.monotonic() - begun < LATE / 2
     assert_no_processor_works()
 
@@ -230,12 +219,12 @@ def test_an_iterator_yields_what_is_finished_before_the_timeout(threads, solver)
 @on_threads
 @pytest.mark.parametrize("position, count", [(HARD, 1000), (QUICK, 500_000)], ids=["hard", "quick"])
 @pytest.mark.parametrize("leave", [by_timeout, by_signal, by_ctrl_c])
-@each_list
+@pytest.mark.parametrize("name", MANY)
 def test_a_call_for_many_positions_stops_between_them_and_a_timeout_is_for_all_together(
         name, leave, position, count, threads):
     """Without a table, a hard position takes some hundredths of a second; an iterator solves quick ones in brief calls.
     """
-    leave(lambda **how: LISTS[name](Solver(entries=0), [position] * count, threads=threads, **how))
+    leave(lambda **how: find(name, threads, Solver(entries=0), [position] * count, **how))
     assert_no_processor_works()
 
 
@@ -247,24 +236,27 @@ def test_a_call_for_one_position_without_a_table_stops(leave):
 
 
 @each_call
-def test_a_wrong_timeout_is_refused(name, solver):
+def test_a_wrong_timeout_is_refused(name, threads, solver):
     for timeout, error, why in (
         (-1, ValueError, "timeout is at least 0, not -1"), (float("nan"), ValueError, "timeout is at least 0, not nan"),
         ("1", TypeError, "timeout is a number of seconds, not '1'"),
     ):
         with pytest.raises(error, match=f"^{why}$"):
-            CALLS[name](solver, EASY, timeout=timeout)
+            find(name, threads, solver, [EASY], timeout=timeout)
 
 
 @pytest.mark.parametrize("scoring", ffosolve.Scoring)
 @pytest.mark.parametrize("how", [{}, {"timeout": 100}], ids=["", "timeout"])
 def test_another_process_finds_what_this_one_finds_and_a_timeout_that_is_not_reached_changes_nothing(
         how, scoring, monkeypatch):
-    solver = Solver(scoring=scoring)
-    found = [str(call(solver, position, **how)) for call in CALLS.values() for position in (HARD, EASY)]
+    def found(**how):
+        return [str(find(*call, Solver(scoring=scoring), positions, **how))
+                for call in CALLS for positions in ([EASY, HARD, HARD], [HARD, EASY])]
+
+    of_others = found(**how)
     assert kept()
-    monkeypatch.setattr("ffosolve._solvers.is_brief", lambda *_: True)
-    assert [str(call(solver, position)) for call in CALLS.values() for position in (HARD, EASY)] == found
+    monkeypatch.setattr(_processes, "is_brief", lambda *_: True)
+    assert found() == of_others
 
 
 STAND_IN = """if True:
@@ -272,48 +264,41 @@ STAND_IN = """if True:
     sys.path.insert(0, {folder!r})
     import _library
 
-    class Library:
-        def __init__(self, place):
-            self.is_named = place == {place!r}
+    def search(place, name, scoring, entries, positions, found):
+        asked = [(it.own, it.opp) for it in positions]
+        print(place, name, scoring, entries, asked, bytes(found).hex(), file=open({log!r}, "a"))
+        for number, it in enumerate(found):
+            if name.startswith("ffosolve_move"):
+                it.scores = (number, number, *[127] * 62)
+            else:
+                it.score, it.kind, it.best = number, 1, entries
+        return 7 if entries == 77 else 0
 
-        def ffosolve_confirm(self, at, scoring, entries, claim, found):
-            best = at.own ^ at.opp ^ entries ^ claim.best
-            found.score, found.kind, found.best = scoring + claim.score, claim.kind, best
-            return 7 if entries == 77 or not self.is_named else 0
-
-        def ffosolve_solve(self, at, scoring, entries, found):
-            return self.ffosolve_confirm(at, scoring, entries, _library.CAnswer(), found)
-
-        def ffosolve_solve_all(self, at, count, scoring, entries, found, room, _):
-            return max(self.ffosolve_solve(at[n], scoring, entries, found[n]) for n in range(min(count, room)))
-
-        def ffosolve_move_scores_all(self, at, count, scoring, entries, found, room, _):
-            for n in range(min(count, room)):
-                found[n].scores = (*60 * [127], *4 * [(at[n].own % 50 + scoring + entries) % 100])
-            return 7 if entries == 77 or not self.is_named else 0
-
-    _library.declared = Library
+    _library.declared, _library.search = str, search
     _library.serve()
 """
 
 
 def test_another_process_gets_each_argument_and_returns_each_status(tmp_path, monkeypatch):
-    """A stand-in for the library answers with the arguments that it gets, and refuses 77 entries."""
-    solver = Solver(scoring=2, entries=5, max_empties=60)
-    folder, place = os.path.dirname(_library.__file__), solver._library._name
-    (tmp_path / "it.py").write_text(STAND_IN.format(folder=folder, place=place))
+    """A stand-in for the call of the library notes its arguments, finds the index of a position, and refuses 77
+    entries."""
+    log, folder = str(tmp_path / "log"), os.path.dirname(_library.__file__)
+    (tmp_path / "it.py").write_text(STAND_IN.format(folder=folder, log=log))
     monkeypatch.setattr(_library, "__file__", str(tmp_path / "it.py"))
-    at, other, claim = Position(2**63 + 9, 6), Position(12, 3), Answer(30, Kind.PASS, 2**62)
-    best = 2**63 + 15 ^ 5
-    assert solver.solve(at) == Answer(2, Kind.MOVES, best)
-    assert solver.confirm(at, claim) == Answer(32, Kind.PASS, best ^ 2**62)
-    assert solver.solve_all([at, other]) == [Answer(2, Kind.MOVES, best), Answer(2, Kind.MOVES, 10)]
-    scores = [dict.fromkeys(("E8", "F8", "G8", "H8"), score) for score in ((2**63 + 9) % 50 + 7, 19)]
-    assert solver.move_scores_all([at, other]) == scores
+    solver, both = Solver(scoring=2, entries=5, max_empties=60), [Position(2**63 + 9, 6), Position(12, 3)]
+    assert solver.confirm(both[0], Answer(-30, Kind.PASS, 2**62)) == Answer(0, Kind.PASS, 5)
+    assert solver.solve_all(both) == [Answer(0, Kind.PASS, 5), Answer(1, Kind.PASS, 5)]
+    assert solver.move_scores_all(both) == [{"A1": 0, "B1": 0}, {"A1": 1, "B1": 1}]
+    asked, zeros, claim = list(map(tuple, both)), bytes(144).hex(), struct.pack("iiQ", -30, 1, 2**62).hex()
+    with open(log) as noted:
+        assert noted.read().splitlines() == [
+            f"{solver._library._name} {words}" for words in (
+                f"ffosolve_confirm 2 5 {asked[:1]} {claim}", f"ffosolve_solve_all 2 5 {asked} {zeros[:64]}",
+                f"ffosolve_move_scores_all 2 5 {asked} {zeros}")]
     assert len(kept()) == 1
-    for call in CALLS.values():
+    for name, threads in CALLS:
         with pytest.raises(ffosolve.NoMemory):
-            call(Solver(entries=77, max_empties=60), at)
+            find(name, threads, Solver(entries=77, max_empties=60), both)
 
 
 def test_processes_are_kept_and_used_again(solver):
@@ -341,8 +326,8 @@ def test_calls_of_several_threads_do_not_stop_each_other(solver):
     assert found == [[solver.solve(HARD)] * 4] * 3
 
 
-@pytest.mark.parametrize("name, number", [*((name, 9) for name in CALLS), ("solve", 15)])
-def test_an_ended_process_is_reported_and_the_next_call_starts_another(name, number, solver):
+@pytest.mark.parametrize("name, threads, number", [*((*call, 9) for call in CALLS), ("solve", None, 15)])
+def test_an_ended_process_is_reported_and_the_next_call_starts_another(name, threads, number, solver):
     is_over = threading.Event()
 
     def kill():
@@ -355,7 +340,7 @@ def test_an_ended_process_is_reported_and_the_next_call_starts_another(name, num
     killer.start()
     try:
         with pytest.raises(ChildProcessError, match=f"^the process that solved was ended by signal {number}$"):
-            CALLS[name](solver, HOPELESS)
+            find(name, threads, solver, [EASY, HOPELESS, HOPELESS])
     finally:
         is_over.set()
         killer.join()

@@ -1,6 +1,6 @@
 """Scorings, and the answer for a position. A mask is a set of squares as a number: A1 is bit 0, .. H8 is bit 63."""
 import enum
-from typing import List, NamedTuple, Optional, Union
+from typing import List, NamedTuple
 
 from ._refusals import UnknownScoring
 from ._squares import square_names
@@ -19,23 +19,17 @@ class Named(enum.IntEnum):
 class Scoring(Named):
     """How the end of a game is scored for the side to move. DISCS: own discs minus the other side's. WINNER: the same,
     but the winner also gets the empty squares. SIGN: 1, 0 or -1 for a win, a draw or a loss. `Scoring("winner")` is
-    Scoring.WINNER."""
+    Scoring.WINNER; a name or number of none raises UnknownScoring."""
 
     WINNER = 0
     DISCS = 1
     SIGN = 2
 
     @classmethod
-    def _missing_(cls, value: object) -> Optional["Scoring"]:
-        return cls.__members__.get(value.upper()) if isinstance(value, str) else None
-
-
-def scoring_of(value: Union[Scoring, int, str]) -> Scoring:
-    """Returns the Scoring for `value`: a Scoring, its number or its name. Raises UnknownScoring for any other value."""
-    try:
-        return Scoring(value)  # type: ignore[arg-type]
-    except ValueError:
-        raise UnknownScoring(reason=f"a scoring is 'winner', 'discs' or 'sign', not {value!r}") from None
+    def _missing_(cls, value: object) -> "Scoring":
+        if isinstance(value, str) and value.upper() in cls.__members__:
+            return cls[value.upper()]
+        raise UnknownScoring(reason=f"a scoring is 'winner', 'discs' or 'sign', not {value!r}")
 
 
 class Kind(Named):

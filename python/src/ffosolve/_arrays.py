@@ -7,8 +7,8 @@ from ._bulk import MOST_WEIGHT, in_order
 from ._library import CPosition
 from ._processes import LIGHTEST, Run
 from ._refusals import checked_number
-from ._rules import refusal_for
-from ._solvers import NO_CLAIM, Solver
+from ._rules import checked_empties
+from ._solvers import Solver
 
 SIZES = numpy.array([bin(byte).count("1") for byte in range(256)], numpy.uint8)  # the number of bits in each byte
 
@@ -28,7 +28,7 @@ def slices_of(solver: Solver, masks: Any, threads: int) -> List[Tuple[slice, int
     own, opp = masks[:, 0], masks[:, 1]
     empties = 64 - SIZES[(own | opp).view(numpy.uint8)].reshape(-1, 8).sum(axis=1, dtype=numpy.int64)
     for index in numpy.flatnonzero((own & opp != 0) | (empties > solver.max_empties)).tolist():
-        raise refusal_for(masks[index].tolist(), solver.max_empties, index)
+        checked_empties(masks[index].tolist(), solver.max_empties, index)
     weights = numpy.left_shift(1, numpy.clip(empties - LIGHTEST, 0, None)) * (threads > 1)
     ends = numpy.flatnonzero(numpy.diff(weights.cumsum() // MOST_WEIGHT)) + 1
     bounds = [0, *ends.tolist(), len(masks)]
@@ -61,7 +61,7 @@ def found_by(solver: Solver, name: str, record: Any, own: Any, opp: Any, threads
         rows, empties = part
         count = len(masks[rows])
         asked, results = (CPosition * count).from_buffer(masks[rows]), (record * count).from_buffer(found[rows])
-        solver._fill(run, name, count, asked, NO_CLAIM, results, empties)
+        solver._search(run, name, asked, results, empties)
         return ()  # the results are in `found`
 
     list(in_order(run, call_for, slices_of(solver, masks, checked_number("threads", threads, 1)), threads))

@@ -23,7 +23,7 @@ def checked_side(side: str) -> str:
 
 
 def checked_score(name: str, score: float) -> float:
-    if not isinstance(score, (int, float, numbers.Real)):
+    if not isinstance(score, numbers.Real):
         raise TypeError(f"the score of {name} is a number, not {reprlib.repr(score)}")
     return score
 

@@ -8,7 +8,7 @@ from typing import Any, Callable, Deque, Iterable, Iterator, List, NamedTuple, S
 
 from ._processes import LIGHTEST, Run
 from ._refusals import Refused
-from ._rules import checked_positions, not_a_position, refusal_for, size_of
+from ._rules import checked_empties, checked_positions
 
 A = TypeVar("A")
 B = TypeVar("B")
@@ -31,30 +31,23 @@ PartOrRefusal = Union[Part, Refused]
 def parts_of(positions: Iterable[Sequence[int]], max_empties: int, whole: bool = False) -> Iterator[PartOrRefusal]:
     """Yields Parts of `positions`; if `whole`, one at most. At a refused position, yields the Part that ends before it,
     maybe empty, and last a Refused. Raises TypeError for what is no position, ValueError for most wrong masks."""
-    clock = time.monotonic
-    part, most, weight, end = [], 0, 0, clock() + MOST_SECONDS  # type: ignore[var-annotated]
+    part, most, weight, end = [], 0, 0, time.monotonic() + MOST_SECONDS  # type: ignore[var-annotated]
     for index, position in enumerate(checked_positions(positions)):
         try:
-            own, opp = position
-            empties = 64 - size_of(own | opp)
-        except (TypeError, ValueError):
-            raise not_a_position(position) from None
-        if own & opp or empties > max_empties:
-            refusal = refusal_for(position, max_empties, index)
+            empties = checked_empties(position, max_empties, index)
+        except Refused as refusal:
             yield Part(part, most)
             yield refusal
             return
-        more = 1 if empties <= LIGHTEST else 1 << (empties - LIGHTEST)
+        more = 1 << max(0, empties - LIGHTEST)
         if part and weight + more > MOST_WEIGHT and not whole:
             yield Part(part, most)
             part, most, weight = [], 0, 0
-        if empties > most:
-            most = empties
-        weight += more
         part.append(position)
-        if (weight >= MOST_WEIGHT or clock() > end) and not whole:
+        most, weight = max(most, empties), weight + more
+        if (weight >= MOST_WEIGHT or time.monotonic() > end) and not whole:
             yield Part(part, most)
-            part, most, weight, end = [], 0, 0, clock() + MOST_SECONDS
+            part, most, weight, end = [], 0, 0, time.monotonic() + MOST_SECONDS
     if part:
         yield Part(part, most)
 

@@ -5,10 +5,8 @@ import os
 import struct
 from typing import Any, BinaryIO, Callable, Iterator, List, NamedTuple, Optional, Sequence, Tuple, Type, Union
 
-from ._boards import OTHER
-from ._library import CPosition, loaded
-from ._positions import START, Position
-from ._rules import NO_SQUARE, illegal_move, moves
+from ._positions import NO_SQUARE, START, Position, played
+from ._refusals import NoMove
 from ._squares import NAMES
 from ._text import NotText, refuse_archive, text_lines
 from ._transcripts import PASSES, words_of
@@ -110,13 +108,12 @@ def read_games(
                 print(game.number, game.score)
     """
     with contextlib.ExitStack() as stack:
-        file: Any = source
         if isinstance(source, (str, os.PathLike)):
-            file = stack.enter_context(open(source, "rb"))
-        elif isinstance(source, (io.BufferedIOBase, io.RawIOBase)) and not hasattr(source, "peek"):
+            file: Any = stack.enter_context(open(source, "rb"))
+        elif hasattr(source, "readinto"):
             file = io.BufferedReader(source)  # type: ignore[arg-type]
             stack.callback(file.detach)  # the caller's file stays open
-        elif not hasattr(source, "peek"):
+        else:
             what = type(source).__name__
             raise TypeError(f"games are read from a path or from a file opened for bytes, not from {what}")
         name = getattr(file, "name", None)
@@ -180,58 +177,36 @@ def records(file: BinaryIO, count: int, empties: int) -> Iterator[Game]:
 
 def positions_of(game: Game) -> List[Position]:
     """The positions of a game: the start, and the one after each move except passes. Raises GameRefused."""
-    found = [position_of(*it) for it in played(game)]
-    for position, square in zip(found[1:], game.squares):
-        position._last_move = square
-    return found
-
-
-def position_of(masks: CPosition, side: str) -> Position:
-    return Position(masks.own, masks.opp, side)
-
-
-def played(game: Game) -> List[Tuple[CPosition, str]]:
-    """Returns the positions of `positions_of` as [(masks, side to move)], which is faster. Raises GameRefused."""
     if game.fault is not None:
         raise GameRefused(game.fault, game.number)
-    library, at, side = loaded(), CPosition(*START), START.side
-    found = [(at, side)]
-    for index, square in enumerate(game.moves):
-        if square != PASS and square not in SQUARE_NUMBERS:
-            raise GameRefused(f"{game._word(index)!r} is not a square", game.number, len(found))
-        after = CPosition()
-        if library.ffosolve_play(at, square, after):
-            position = position_of(at, side)
-            if not moves(position) and (square == PASS or moves(position.passed())):
-                position = position.passed()
-                at, side = CPosition(*position), position.side
-                if square == PASS:
-                    continue
-            if library.ffosolve_play(at, square, after):
-                refusal = illegal_move(position, "a pass" if square == PASS else NAMES[square])
-                raise GameRefused(refusal.reason, game.number, len(found))
-        at, side = after, OTHER[side]
-        found.append((at, side))
+    found = [START]
+    try:
+        for position in played(START, moves_of(game)):
+            if position.last_move != "PS":
+                found.append(position)
+    except NoMove as why:
+        raise GameRefused(why.reason, game.number, len(found)) from None
     return found
 
 
-def position_with(empties: int, game: Game, found: List[Tuple[CPosition, str]]) -> Position:
-    """The first position with `empties` empty squares in a game; `found` is what `played` returned for the game.
-    Raises GameRefused if the game ends before that position."""
-    left = position_of(*found[-1]).empties
+def moves_of(game: Game) -> Iterator[Union[int, str]]:
+    """Yields the moves of a game as `Position.play` takes them. Raises NoMove at a move that is not a square."""
+    for at, move in enumerate(game.moves):
+        if move != PASS and move not in SQUARE_NUMBERS:
+            raise NoMove(reason=f"{game._word(at)!r} is not a square")
+        yield "PS" if move == PASS else move
+
+
+def position_with(empties: int, game: Game, found: List[Position]) -> Position:
+    """The first position with `empties` empty squares in a game with the positions `found`. Raises GameRefused if the
+    game ends before that position."""
+    left = found[-1].empties
     if left <= empties:
-        return position_of(*found[START.empties - empties])
+        return found[START.empties - empties]
     if not game.moves:
         raise GameRefused("it has no moves", game.number)
     why = f"it ends here, with {left} empty square{'s' * (left > 1)}; {empties} are asked for"
     raise GameRefused(why, game.number, len(found) - 1)
-
-
-def final_discs(found: List[Tuple[CPosition, str]]) -> Optional[int]:
-    """The number of Black's discs at the end of a game, 32 after a draw; the winner also gets the empty squares. It is
-    None if the game is not over. `found` is what `played` returned for the game."""
-    last = position_of(*found[-1])
-    return discs_of_black(last.score(), last.side) if last.is_over else None
 
 
 def discs_of_black(score: int, side: str) -> int:

@@ -7,16 +7,15 @@ import re
 import shutil
 import subprocess
 import sys
-from typing import Callable, Counter, Dict, Iterator, List, NamedTuple, NoReturn, Optional, Tuple
+from typing import Any, Callable, Dict, Iterable, Iterator, List, NamedTuple, NoReturn, Optional
 
 from ._command_line import DONE, MISSING, MISUSED, REMARKED, UNREADABLE
 from ._command_line import Parser, Refusal, print_all, refusing, run, say, write_whole
-from ._games import (MOST_DISCS, REAL, RECORD, SCORE, Game, GameRefused, discs_of_black, final_discs, games_in, played,
-                     position_with)
+from ._games import MOST_DISCS, REAL, SCORE, Game, GameRefused, discs_of_black, games_in, position_with, positions_of
 from ._library import MOST_EMPTIES, LibraryNotFound, load
 from ._positions import Position
 from ._text import NotText, shown, text_lines
-from ._theoretical_scores import corrected, exact_scores, title
+from ._theoretical_scores import corrected, scores_in, title
 
 NAME = "ffosolve-games"
 USAGE = f"""{NAME} [--empties N] [FILE ...]
@@ -75,10 +74,10 @@ status:
   4  the library or ffosolve-many can't be found
 """
 SOLVER = "ffosolve-many"
-MANY = {  # its options that check takes: {name: (value, or "" if there is none; how the default differs)}
-    "--max-empties": ("N", "[default: as many as the positions have]"), "--lines": ("N", "[default: 10]"),
-    "--jobs": ("N", None), "--scheduler": ("ADDRESS", None), "--cut": ("", None), "--quiet": ("", None),
-    "--workers": ("N", None), "--table": ("N", None), "--book-in": ("FILE", None)}
+MANY = (  # its options that check takes: (name, value if it has one, how the default differs)
+    ("--max-empties", "N", "[default: as many as the positions have]"), ("--lines", "N", "[default: 10]"),
+    ("--jobs", "N", None), ("--scheduler", "ADDRESS", None), ("--cut", None, None), ("--quiet", None, None),
+    ("--workers", "N", None), ("--table", "N", None), ("--book-in", "FILE", None))
 
 
 class Messages:
@@ -99,7 +98,7 @@ def number_of_empties(word: str) -> int:
 
 def options_of(words: List[str]) -> argparse.Namespace:
     """The options in the command line `words`. `task` is the first word if that is `check` or `compare`, else None;
-    `many` has options for ffosolve-many, {name: value, or True}. Prints the help or the version; refuses the rest."""
+    `many` has the words for ffosolve-many. Prints the help or the version; refuses the rest."""
     parser = Parser(USAGE, WHAT, MORE)
     parser.add_argument("files", metavar="FILE", nargs="*",
                         help="WTHOR files or texts; `-` is standard input [default: standard input]")
@@ -116,24 +115,24 @@ def options_of(words: List[str]) -> argparse.Namespace:
     group.add_argument("--real", action="store_true", help="with --fix: also write the real scores that the moves have")
     group = parser.add_argument_group("options of check, most of them for ffosolve-many")
     group.add_argument("--folder", metavar="FOLDER", help="keeps what is solved [default: FILE.check]")
-    for name, (value, text) in MANY.items():
-        how = {"metavar": value} if value else {"action": "store_true"}
-        group.add_argument(name, help=text, **how)  # type: ignore[arg-type]
+    for name, value, text in MANY:
+        how: Dict[str, Any] = {"action": "append_const", "const": name}
+        if value:
+            how = {"action": "append", "metavar": value, "type": f"{name}={{}}".format}
+        group.add_argument(name, dest="many", default=[], help=text, **how)
     task = words[0] if words[:1] in (["check"], ["compare"]) else None
     options = parser.parse_intermixed_args(words[task is not None:], argparse.Namespace(task=task))
-    given = {name: vars(options)[name[2:].replace("-", "_")] for name in MANY}
-    options.many = {name: value for name, value in given.items() if value not in (None, False)}
+    of_check = ["--folder"] * (options.folder is not None) + [word.partition("=")[0] for word in options.many]
     fixes, names = options.fix is not None, options.files[task == "compare":]
     for is_wrong, why in (
         (not task and (fixes or options.real),
          "--fix and --real go with check or compare, which has to be the first word"),
-        (task != "check" and (options.many or options.folder is not None),
-         f"{next(iter(options.many), '--folder')} goes with check, which has to be the first word"),
+        (task != "check" and of_check, f"{''.join(of_check[:1])} goes with check, which has to be the first word"),
         (task == "check" and not names, "check takes WTHOR files"),
         (task == "compare" and not names, "compare takes a BOOK and WTHOR files"),
         (task and "-" in names, f"{task} takes WTHOR files by their names, not standard input"),
         (options.real and not fixes, "--real goes with --fix"),
-        (fixes and options.cut, "--fix does not go with --cut"),
+        (fixes and "--cut" in options.many, "--fix does not go with --cut"),
         (options.fix == "-", "--fix takes a file or a folder, not standard output"),
     ):
         if is_wrong:
@@ -147,11 +146,10 @@ def main(find: Callable[[], Optional[str]] = lambda: None) -> NoReturn:
     def program() -> int:
         options, messages = options_of(sys.argv[1:]), Messages()
         try:
-            load(find())  # for `played`
+            load(find())  # for `positions_of`
         except LibraryNotFound as why:
             raise Refusal(str(why), MISSING) from None
-        task = {None: list_games, "check": check, "compare": compare}[options.task]
-        print_all(line + b"\n" for line in task(options, messages))
+        print_all(line + b"\n" for line in (compare if options.task else list_games)(options, messages))
         return messages.status
 
     run(NAME, program)
@@ -203,8 +201,8 @@ def found_in(name: str, options: argparse.Namespace, messages: Messages) -> Iter
         for game in games:
             position = real = None
             try:
-                positions = played(game)
-                real = final_discs(positions)
+                *_, last = positions = positions_of(game)
+                real = discs_of_black(last.score(), last.side) if last.is_over else None
                 position = position_with(empties, game, positions)
             except GameRefused as why:
                 messages.report(f"{shown(name)}, {why}", REMARKED)
@@ -227,40 +225,54 @@ def wrong_scores(game: Game, discs: Optional[int]) -> Iterator[str]:
             yield f"its real score is {score}, but its moves give {discs}"
 
 
-def check(options: argparse.Namespace, messages: Messages) -> Iterator[bytes]:
-    """Lets ffosolve-many solve the positions of theoretical scores in a folder, then yields what `compare` yields. With
-    --cut, only lets it cut their list, and yields nothing."""
+def compare(options: argparse.Namespace, messages: Messages) -> Iterator[bytes]:
+    """Yields a line for each wrong theoretical score, and one with counts. With --fix, first writes corrected files.
+    For `check`, first lets ffosolve-many write the book; with --cut, yields nothing."""
+    named = options.files.pop(0) if options.task == "compare" else None
     found, copies = scored_games(options, messages), places(options)
-    positions = dict.fromkeys(it.position for it in found if it.position)
+    book = named or solved(dict.fromkeys(it.position for it in found if it.position), options)
+    if "--cut" in options.many:
+        return
+    with opened(book) as file:
+        scores = scores_in(text_lines(file, shown(book)), shown(book))
+    for at, it in enumerate(found):
+        if it.position and (score := scores.get(it.position.canonical())) is not None:
+            found[at] = it._replace(exact=discs_of_black(score, it.position.side))
+    if copies:
+        fix(copies, found, options, messages)
+    differ = [it for it in found if it.difference]
+    for it in differ:
+        name = os.fsencode(f"{shown(it.file)}, game {it.game.number}")
+        difference = f"published {it.game.score}, exact {it.exact}, difference {it.difference:+}"
+        yield name + f"{title(it.file, it.game.number)}: {difference}".encode()
+    compared = sum(it.exact is not None for it in found)
+    unsolved = sum(it.position is not None for it in found) - compared
+    if differ or unsolved:
+        messages.status = max(messages.status, REMARKED)
+    yield b"compared %d differ %d unsolved %d" % (compared, len(differ), unsolved)
+
+
+def solved(positions: Iterable[Position], options: argparse.Namespace) -> str:
+    """Lets ffosolve-many, which is next to this program or on the path, solve positions in the folder of `check`; with
+    --cut, only cut their list. Returns the path of the book that it writes. Refuses unless it ends with status 0."""
     folder = f"{options.files[0]}.check" if options.folder is None else options.folder
     listed, book = os.path.join(folder, "list.obf"), os.path.join(folder, "list.book")
     with refusing("write", listed):
         os.makedirs(folder, exist_ok=True)
         write_whole({listed: (it.to_obf().encode() + b"\n" for it in positions)}, replaces=True)
-    words = {"--max-empties": max(it.empties for it in positions), "--lines": 10, **options.many, "--book-out": book}
-    solve_many([name if value is True else f"{name}={value}" for name, value in words.items()] + ["--", listed])
-    if not options.cut:
-        yield from compared(found, book, copies, options, messages)
-
-
-def solve_many(words: List[str]) -> None:
-    """Runs ffosolve-many, which is next to this program or on the path. Refuses unless it ends with status 0."""
     here = os.path.dirname(os.path.realpath(sys.argv[0]))
     program = shutil.which(os.path.join(here, SOLVER)) or shutil.which(SOLVER)
     if program is None:
         raise Refusal(f"{SOLVER} is missing: it has to be next to {NAME}, in {here}, or on the path", MISSING)
-    words = ["setpriv", "--pdeathsig", "TERM", program, *words]  # so that it ends with this program
-    output = None if "--cut" in words else subprocess.DEVNULL
+    defaults = [f"--max-empties={max(it.empties for it in positions)}", "--lines=10"]
+    words = {word.partition("=")[0]: word for word in defaults + options.many}
+    ends_with_this = ["setpriv", "--pdeathsig", "TERM"]
     with refusing("run", SOLVER):
-        status = subprocess.run(words, stdout=output).returncode
+        status = subprocess.run([*ends_with_this, program, *words.values(), f"--book-out={book}", "--", listed],
+                                stdout=None if "--cut" in words else subprocess.DEVNULL).returncode
     if status:
         raise Refusal(f"{SOLVER} has not solved all, so no score is compared", status if status > 1 else UNREADABLE)
-
-
-def compare(options: argparse.Namespace, messages: Messages) -> Iterator[bytes]:
-    """Yields a line for each wrong theoretical score, and one with counts. With --fix, first writes corrected files."""
-    book, *options.files = options.files
-    yield from compared(scored_games(options, messages), book, places(options), options, messages)
+    return book
 
 
 def scored_games(options: argparse.Namespace, messages: Messages) -> List[Found]:
@@ -273,28 +285,6 @@ def scored_games(options: argparse.Namespace, messages: Messages) -> List[Found]
     if not any(it.position for it in found):
         raise Refusal("no game has a position with a theoretical score")
     return found
-
-
-def compared(
-    found: List[Found], book: str, copies: Dict[str, str], options: argparse.Namespace, messages: Messages
-) -> Iterator[bytes]:
-    """Yields what `compare` yields, for the exact scores in a book, after writing the `copies`, {path: WTHOR file}."""
-    listed = [it.position for it in found if it.position]
-    with opened(book) as file:
-        exact = exact_scores(text_lines(file, shown(book)), shown(book), listed)
-    found = [it._replace(exact=discs_of_black(exact[at], at.side)) if (at := it.position) in exact else it
-             for it in found]
-    if copies:
-        fix(copies, found, options, messages)
-    differ = [it for it in found if it.difference]
-    for it in differ:
-        name = os.fsencode(f"{shown(it.file)}, game {it.game.number}")
-        difference = f"published {it.game.score}, exact {it.exact}, difference {it.difference:+}"
-        yield name + f"{title(it.file, it.game.number)}: {difference}".encode()
-    solved = sum(it.exact is not None for it in found)
-    if differ or solved < len(listed):
-        messages.status = max(messages.status, REMARKED)
-    yield b"compared %d differ %d unsolved %d" % (solved, len(differ), len(listed) - solved)
 
 
 def places(options: argparse.Namespace) -> Dict[str, str]:
@@ -320,23 +310,22 @@ def fix(copies: Dict[str, str], found: List[Found], options: argparse.Namespace,
     fails, and otherwise reports how many scores changed."""
     if all(it.exact is None for it in found):
         raise Refusal("no theoretical score is compared, so --fix has none to write")
-    right: Dict[Tuple[int, object], Dict[int, int]] = {}
-    for it in found:
-        scores = {SCORE: it.exact, REAL: it.real if options.real else None}
-        at = it.game.empties or options.empties or 0, it.game.words
-        right[at] = {offset: score for offset, score in scores.items() if score is not None}
-    counts: Dict[str, Counter[Tuple[int, bool]]] = {path: Counter() for path in copies}
+    games = {path: [it for it in found if it.file == name and it.game.fault is None] for path, name in copies.items()}
     with contextlib.ExitStack() as stack:
+        pieces = {}
+        for path, name in copies.items():
+            right = [(it.game, {SCORE: it.exact, REAL: it.real if options.real else None}) for it in games[path]]
+            pieces[path] = corrected(stack.enter_context(opened(name)), options.empties or 0, right)
         try:
-            write_whole({path: corrected(stack.enter_context(opened(name)), shown(name), options.empties or 0, right,
-                                         counts[path]) for path, name in copies.items()})
+            write_whole(pieces)
         except OSError as why:
             raise Refusal(f"cannot write {shown(why.filename)}: {why.strerror}") from None
-    for path, count in counts.items():
-        games = count[RECORD, False]
-        known, real = (count[offset, True] + count[offset, False] for offset in (SCORE, REAL))
-        text = f"theoretical scores changed {count[SCORE, True]} of {games}, not compared {games - known}"
-        text += f"; real scores changed {count[REAL, True]}, not checked {games - real}" * options.real
+    for path, listed in games.items():
+        changed, unknown = sum(it.difference != 0 for it in listed), sum(it.exact is None for it in listed)
+        text = f"theoretical scores changed {changed} of {len(listed)}, not compared {unknown}"
+        if options.real:
+            changed = sum(it.real not in (None, it.game.real) for it in listed)
+            text += f"; real scores changed {changed}, not checked {sum(it.real is None for it in listed)}"
         messages.report(f"{shown(path)}: {text}", DONE)
 
 

@@ -67,7 +67,6 @@ def declared(place: str) -> ctypes.CDLL:
     library = ctypes.CDLL(place)
     size, number, to = ctypes.c_size_t, ctypes.c_uint32, ctypes.POINTER
     calls = {
-        "solve": [CPosition, number, size, to(CAnswer)],
         "confirm": [CPosition, number, size, CAnswer, to(CAnswer)],
         "solve_all": [to(CPosition), size, number, size, to(CAnswer), size, to(size)],
         "move_scores_all": [to(CPosition), size, number, size, to(CMoveScores), size, to(size)],
@@ -90,24 +89,18 @@ def declared(place: str) -> ctypes.CDLL:
     return library
 
 
-def search(library: ctypes.CDLL, name: str, scoring: int, entries: int, asked: Any, claim: Any, found: Any) -> int:
-    """Makes the call `name`, writes what it finds to `found`, and returns its status. For "solve" and "confirm",
-    `asked` is a position, otherwise an array of them, and `found` is another. Only "confirm" takes the `claim`."""
-    status: int
-    if name == "solve":
-        status = library.ffosolve_solve(asked, scoring, entries, found)
-    elif name == "confirm":
-        status = library.ffosolve_confirm(asked, scoring, entries, claim, found)
-    else:
-        call = library.ffosolve_solve_all if name == "solve_all" else library.ffosolve_move_scores_all
-        status = call(asked, len(asked), scoring, entries, found, len(asked), ctypes.c_size_t())
-    return status
+def search(library: ctypes.CDLL, name: str, scoring: int, entries: int, positions: Any, found: Any) -> int:
+    """Makes the call `name`, which writes what it finds for each of `positions` to `found`; returns its status. Both
+    are arrays. "ffosolve_confirm" is for one position, and takes the claim from `found`."""
+    if name == "ffosolve_confirm":
+        return int(library.ffosolve_confirm(positions[0], scoring, entries, found[0], found))
+    call, count = getattr(library, name), len(positions)
+    return int(call(positions, count, scoring, entries, found, count, ctypes.c_size_t()))
 
 
 def serve() -> None:
     """Makes calls until the end of standard input, a socket, and then ends even in a call. A request has a library's
-    path, the name, the scoring and the number of entries of `search`, and the bytes of the positions and of the claim.
-    The reply has the status and the bytes of what the call found."""
+    path and what `search` takes, with both arrays as bytes. The reply has the status and the bytes of `found`."""
     from multiprocessing.connection import Connection
 
     def end_with_the_socket() -> None:
@@ -121,12 +114,10 @@ def serve() -> None:
     connection = Connection(0)
     with contextlib.suppress(EOFError):
         while True:
-            place, name, scoring, entries, positions, claim = connection.recv()
-            asked = (CPosition * (len(positions) // ctypes.sizeof(CPosition))).from_buffer_copy(positions)
-            found = ((CMoveScores if name == "move_scores_all" else CAnswer) * len(asked))()
-            both = (asked, found) if name.endswith("_all") else (asked[0], found[0])
-            claimed = CAnswer.from_buffer_copy(claim)
-            status = search(declared(place), name, scoring, entries, both[0], claimed, both[1])
+            place, name, scoring, entries, positions, found = connection.recv()
+            asked = (CPosition * (len(positions) // ctypes.sizeof(CPosition))).from_buffer(positions)
+            answers = ((CMoveScores if name == "ffosolve_move_scores_all" else CAnswer) * len(asked)).from_buffer(found)
+            status = search(declared(place), name, scoring, entries, asked, answers)
             connection.send((status, bytes(found)))
 
 

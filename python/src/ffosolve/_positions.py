@@ -5,12 +5,11 @@ import reprlib
 from typing import (
     Any, BinaryIO, Callable, Dict, Iterable, Iterator, List, Mapping, NamedTuple, Optional, Tuple, Type, TypeVar, Union)
 
-from ._answers import Answer, Kind, Scoring, scoring_of
+from ._answers import Answer, Kind, Scoring
 from ._boards import OTHER, Board, checked_score, checked_side
-from ._library import CAnswer, loaded
-from ._refusals import BadSide, BadSquare, LineRefused, NoMemory, NoMove, NoPosition, ShortBoard
-from ._rules import (
-    accept, c_position, c_positions, checked_positions, empties_of, illegal_move, moves, play, size_of)
+from ._library import CAnswer, CPosition, loaded, search
+from ._refusals import BadSide, BadSquare, LineRefused, NoMemory, NoMove, NoPosition, ShortBoard, Status
+from ._rules import accept, c_position, c_positions, checked_positions, empties_of, illegal_move, moves, size_of
 from ._squares import NAMES, number_of, square_names, square_of
 from ._symmetries import Symmetry, canonical_form, image
 from ._transcripts import PASSES, words_of
@@ -23,6 +22,7 @@ Source = Union[str, "os.PathLike[str]", Lines]
 Listed = Tuple[Tuple[str, int], ...]
 P = TypeVar("P", bound="Position")
 BLACK, WHITE = (bytes.maketrans(b"Xx*BbOoWw-.", bits) for bits in (b"11111000000", b"00000111100"))
+NO_SQUARE = 255  # a number that the library takes for no square
 STATES = {Kind.PASS: "has to pass: {:+}", Kind.OVER: "scores {:+}: the game is over"}
 
 
@@ -142,12 +142,12 @@ class Position(NamedTuple("Masks", [("own", int), ("opp", int)])):
     @property
     def must_pass(self) -> bool:
         """Whether the side to move has no legal move, but the other side has one."""
-        return not self.legal_moves and bool(self.passed().legal_moves)
+        return not moves(self) and moves(self.passed()) != 0
 
     @property
     def is_over(self) -> bool:
         """Whether neither side has a legal move."""
-        return not self.legal_moves and not self.passed().legal_moves
+        return not moves(self) and not moves(self.passed())
 
     def play(self: P, square: Union[int, str]) -> P:
         """The position after a move; the other side is to move. `square` is a name such as "F5" or a number, 0 to 63,
@@ -157,8 +157,13 @@ class Position(NamedTuple("Masks", [("own", int), ("opp", int)])):
             if not self.must_pass:
                 raise illegal_move(self, "a pass")
             return self.passed()
-        own, opp = play(self, square)
-        return following(self, own, opp, OTHER[self.side], NAMES[number_of(square)])
+        number, after = number_of(square), CPosition()
+        is_square = 0 <= number < 64
+        status = loaded().ffosolve_play(c_position(self), number if is_square else NO_SQUARE, after)
+        if status == Status.NO_MOVE:
+            raise illegal_move(self, NAMES[number] if is_square else f"square {number}")
+        accept(status)
+        return following(self, after.own, after.opp, NAMES[number])
 
     def play_all(self: P, squares: Union[str, Iterable[Union[int, str]]]) -> P:
         """The position after several moves. `squares` is a transcript such as "f5d6c3", in any form that `Game.of_text`
@@ -167,29 +172,27 @@ class Position(NamedTuple("Masks", [("own", int), ("opp", int)])):
         passes."""
         if not hasattr(squares, "__iter__"):
             raise TypeError(f"moves are a transcript or a list of squares, not {reprlib.repr(squares)}")
+        moves(self)  # raises SharedSquare, and ValueError for a wrong mask
         position = self
-        for square in words_of(squares) if isinstance(squares, str) else squares:
-            if is_pass(square) and position.is_over:
-                continue
-            if not is_pass(square) and position.must_pass:
-                position = position.passed()
-            try:
-                position = position.play(square)
-            except ValueError as why:
-                raise NoMove(reason=f"move {self.empties - position.empties + 1}: {why}") from None
+        try:
+            for position in played(self, words_of(squares) if isinstance(squares, str) else squares):
+                pass
+        except ValueError as why:
+            raise NoMove(reason=f"move {self.empties - position.empties + 1}: {why}") from None
         return position
 
     def passed(self: P) -> P:
         """The position after a pass, even if a pass is not legal. The other side is to move."""
-        return following(self, self.opp, self.own, OTHER[self.side], "PS")
+        return following(self, self.opp, self.own, "PS")
 
     def score(self, scoring: Union[Scoring, int, str] = Scoring.WINNER) -> int:
         """The mover's score, if the game is over; else raises ValueError. Raises TooManyEmpties and UnknownScoring."""
         if not self.is_over:
             raise ValueError(f"the game is not over, so only a Solver finds the score: {self.to_obf()}")
-        answer = CAnswer()
-        accept(loaded().ffosolve_solve(c_position(self), scoring_of(scoring), 0, answer))
-        return int(answer.score)
+        found = (CAnswer * 1)()
+        number = Scoring(scoring)  # type: ignore[arg-type]
+        accept(search(loaded(), "ffosolve_solve_all", number, 0, c_positions([self]), found))
+        return int(found[0].score)
 
     def canonical(self: P) -> P:
         """The same position for all eight images of a position under the symmetries of the board: the image with the
@@ -240,7 +243,7 @@ class Position(NamedTuple("Masks", [("own", int), ("opp", int)])):
 
     def _replace(self: P, **changes: Any) -> P:
         position = type(self)(**{**self._asdict(), **changes})
-        vars(position).update({name: value for name, value in vars(self).items() if name != "_side"})
+        vars(position).update({**vars(self), "_side": position.side})
         return position
 
     __replace__ = _replace
@@ -256,8 +259,24 @@ def is_pass(move: object) -> bool:
     return isinstance(move, str) and move.lower() in PASSES
 
 
-def following(before: P, own: int, opp: int, side: str, move: str) -> P:
-    position = type(before)(own, opp, side)
+def played(position: P, moves: Iterable[Union[int, str]]) -> Iterator[P]:
+    """Yields the position after each of `moves`. Passes may be left out, and those after the end of the game are
+    skipped. Raises the same as `Position.play`."""
+    for move in moves:
+        if is_pass(move) and position.is_over:
+            continue
+        try:
+            position = position.play(move)
+        except NoMove:
+            if is_pass(move) or not position.must_pass:
+                raise
+            position = position.passed().play(move)
+        yield position
+
+
+def following(before: P, own: int, opp: int, move: str) -> P:
+    """The position with these masks after a move of the side to move in another."""
+    position = type(before)(own, opp, OTHER[before.side])
     position._last_move = move
     return position
 
@@ -300,9 +319,8 @@ def bytes_of(text: Union[str, bytes]) -> bytes:
 def without_end(text: Union[str, bytes]) -> bytes:
     """The bytes of a line without its end, which is LF, CR LF, CR or nothing."""
     line = bytes_of(text)
-    if line[-1:] == b"\n":
-        line = line[:-1]
-    return line[:-1] if line[-1:] == b"\r" else line
+    line = line[:-1] if line.endswith(b"\n") else line
+    return line[:-1] if line.endswith(b"\r") else line
 
 
 def read_lines(source: Source, refused: Optional[Callable[[LineRefused], object]] = None) -> Iterator[Position]:

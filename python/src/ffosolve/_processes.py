@@ -16,7 +16,7 @@ from concurrent.futures import CancelledError
 from typing import Any, List, Optional, Set
 
 from . import _library
-from ._library import CAnswer, search
+from ._library import search
 
 # A call is brief if it solves one position with 14 empty squares, which takes at most 0.15 s, or 4 times as many
 # positions for each empty square less, down to 8.
@@ -96,12 +96,13 @@ class Run:
     asyncio, or sets `is_left`. Raises TypeError and ValueError for a wrong `timeout`; None stands for any time."""
 
     def __init__(self, library: ctypes.CDLL, timeout: Optional[float] = None) -> None:
-        if not isinstance(timeout, (int, float, numbers.Real, type(None))):
-            raise TypeError(f"timeout is a number of seconds, not {reprlib.repr(timeout)}")
-        if timeout is not None and not timeout >= 0:
-            raise ValueError(f"timeout is at least 0, not {timeout}")
-        self.library, self.timeout, self.is_left = library, timeout, False
-        self.end = math.inf if timeout is None else time.monotonic() + timeout
+        self.library, self.timeout, self.is_left, self.end = library, timeout, False, math.inf
+        if timeout is not None:
+            if not isinstance(timeout, numbers.Real):
+                raise TypeError(f"timeout is a number of seconds, not {reprlib.repr(timeout)}")
+            if not timeout >= 0:
+                raise ValueError(f"timeout is at least 0, not {timeout}")
+            self.end = time.monotonic() + timeout
 
     def wait_seconds(self) -> float:
         """How long this thread may wait for a result before it calls this again. Raises TimeoutError and CancelledError
@@ -113,17 +114,21 @@ class Run:
             raise CancelledError
         return min(left, CHECK_SECONDS)
 
-    def call(self, name: str, scoring: int, entries: int, asked: Any, claim: CAnswer, found: Any) -> int:
-        """Makes the call that `search` describes in a SearchProcess, and returns its status. Raises TimeoutError,
-        CancelledError, and ChildProcessError if somebody ended the process."""
+    def search(self, empties: int, name: str, scoring: int, entries: int, positions: Any, found: Any) -> int:
+        """Makes the call that `_library.search` describes, for positions with at most `empties` empty squares; unless
+        it is brief, in a SearchProcess. Raises TimeoutError, CancelledError, and ChildProcessError if somebody ended
+        the process."""
+        if is_brief(len(positions), empties):
+            return search(self.library, name, scoring, entries, positions, found)
         try:
             process = idle_process()
         except OSError:
             if self.timeout is not None:
                 raise
-            return search(self.library, name, scoring, entries, asked, claim, found)
+            return search(self.library, name, scoring, entries, positions, found)
         try:
-            process.connection.send((self.library._name, name, int(scoring), int(entries), bytes(asked), bytes(claim)))
+            words = self.library._name, name, int(scoring), int(entries), bytearray(positions), bytearray(found)
+            process.connection.send(words)
             while not process.connection.poll(self.wait_seconds()):
                 pass
             status, data = process.connection.recv()
@@ -134,8 +139,7 @@ class Run:
             how = f"was ended by signal {-ended}" if ended < 0 else f"ended with status {ended}"
             raise ChildProcessError(f"the process that solved {how}") from None
         process.keep()
-        if not status:
-            ctypes.memmove(ctypes.addressof(found), data, len(data))
+        ctypes.memmove(found, data, len(data))
         return int(status)
 
 

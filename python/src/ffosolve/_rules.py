@@ -3,22 +3,15 @@ import array
 import ctypes
 import itertools
 import reprlib
-from typing import Any, Callable, Iterable, Optional, Sequence, Tuple, Union
+from typing import Any, Callable, Iterable, Optional, Sequence
 
 from ._boards import SIDES, Board
 from ._library import CPosition, loaded
-from ._refusals import NoMove, Refused, SharedSquare, Status, TooManyEmpties, refusal_of
-from ._squares import NAMES, number_of
+from ._refusals import NoMove, SharedSquare, Status, TooManyEmpties, refusal_of
 
-NO_SQUARE = 255
 WRONG_MASK = "a mask is a number from 0 to 2**64 - 1"
 # How many squares a mask has; `bit_count` came with Python 3.10.
 size_of: Callable[[int], int] = getattr(int, "bit_count", lambda mask: bin(mask).count("1"))
-
-
-def not_a_position(it: object) -> TypeError:
-    form = "a position is two masks, as Position(own, opp) and Position.from_obf(line) return them"
-    return TypeError(f"{form}, not {reprlib.repr(it)}")
 
 
 def checked_positions(positions: Iterable[Sequence[int]]) -> Iterable[Sequence[int]]:
@@ -34,17 +27,20 @@ def empties_of(position: Sequence[int]) -> int:
         own, opp = position
         return 64 - size_of(own | opp)
     except (TypeError, ValueError):
-        raise not_a_position(position) from None
+        form = "a position is two masks, as Position(own, opp) and Position.from_obf(line) return them"
+        raise TypeError(f"{form}, not {reprlib.repr(position)}") from None
 
 
-def refusal_for(position: Sequence[int], max_empties: int, index: Optional[int] = None) -> Refused:
-    """The refusal of a position: SharedSquare if its masks share a square, otherwise TooManyEmpties. `index` is the
-    position's index in a list. Raises TypeError for another object, and ValueError for a mask that is out of range."""
-    masks = c_position(position)
-    if masks.own & masks.opp:
-        return SharedSquare(index)
-    why = f"{empties_of(position)} empty squares are more than max_empties={max_empties} of the Solver"
-    return TooManyEmpties(index, why)
+def checked_empties(position: Sequence[int], most: int, index: Optional[int] = None) -> int:
+    """How many squares of a position are empty. Raises SharedSquare, and TooManyEmpties for more than `most`, with the
+    position's `index` in a list; TypeError for another object; and ValueError for most masks that are out of range."""
+    empties, (own, opp) = empties_of(position), position
+    if own & opp or empties > most:
+        c_position(position)  # raises ValueError for a wrong mask
+        if own & opp:
+            raise SharedSquare(index)
+        raise TooManyEmpties(index, f"{empties} empty squares are more than max_empties={most} of the Solver")
+    return empties
 
 
 def c_position(position: Sequence[int]) -> CPosition:
@@ -69,17 +65,6 @@ def moves(position: Sequence[int]) -> int:
     found = ctypes.c_uint64()
     accept(loaded().ffosolve_moves(c_position(position), found))
     return found.value
-
-
-def play(position: Sequence[int], square: Union[int, str]) -> Tuple[int, int]:
-    """Returns the two masks after a move, first that of the side to move next. Raises SharedSquare and NoMove."""
-    number = number_of(square)
-    is_square, after = 0 <= number < 64, CPosition()
-    status = loaded().ffosolve_play(c_position(position), number if is_square else NO_SQUARE, after)
-    if status == Status.NO_MOVE:
-        raise illegal_move(position, NAMES[number] if is_square else f"square {number}")
-    accept(status)
-    return after.own, after.opp
 
 
 def illegal_move(position: Sequence[int], move: str) -> NoMove:

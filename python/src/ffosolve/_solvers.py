@@ -4,21 +4,21 @@ import reprlib
 import struct
 from typing import TYPE_CHECKING, Any, Dict, Iterable, Iterator, List, Optional, Sequence, Tuple, Union
 
-from ._answers import ENDS, Answer, Kind, Scoring, scoring_of
+from ._answers import ENDS, Answer, Kind, Scoring
 from ._bulk import Part, PartOrRefusal, in_order, parts_of
 from ._games import Game, positions_of
-from ._library import MOST_EMPTIES, MOST_ENTRIES, CAnswer, CMoveScores, load, search
+from ._library import MOST_EMPTIES, MOST_ENTRIES, CAnswer, CMoveScores, load
 from ._positions import P, Position
-from ._processes import Run, is_brief
+from ._processes import Run
 from ._refusals import Refused, TooManyEntries, checked_number
-from ._rules import accept, c_position, c_positions, empties_of, moves, refusal_for
+from ._rules import accept, c_positions, checked_empties, empties_of, moves
 from ._squares import NAMES
 
 if TYPE_CHECKING:
     from ._arrays import Answers
 
 NO_SCORE = 127  # in an array of scores, for a square that is not a legal move
-KINDS, NO_CLAIM = tuple(Kind), CAnswer()
+KINDS = tuple(Kind)
 ANSWER, MOVE_SCORES = struct.Struct("iiQ"), struct.Struct("64bQ")  # the layouts of CAnswer and CMoveScores
 
 
@@ -56,7 +56,7 @@ class Solver:
         if checked_number("max_empties", max_empties, 0) > MOST_EMPTIES:
             raise ValueError(f"max_empties is at most {MOST_EMPTIES}, not {max_empties}")
         self._path = None if library is None else os.path.abspath(library)
-        self._scoring = scoring_of(scoring)
+        self._scoring = Scoring(scoring)  # type: ignore[arg-type]
         self._entries = entries
         self._max_empties = max_empties
         self._library = load(library)
@@ -91,7 +91,7 @@ class Solver:
     def solve(self, position: Position, *, timeout: Optional[float] = None) -> Answer:
         """The answer for a position. Raises SharedSquare, TooManyEmpties and NoMemory; ValueError for a mask below 0
         or above 2**64 - 1; and TypeError for an object that is not a position."""
-        return self._answer(self._run(timeout), position)
+        return self._answers(Run(self._library, timeout), self._part(position))[0]
 
     def confirm(self, position: Position, claim: Answer, *, timeout: Optional[float] = None) -> Answer:
         """The answer for a position, found by testing the claimed score first; the answer is exact even if the claim is
@@ -99,60 +99,60 @@ class Solver:
         `solve`, and TypeError for a claim that is not an Answer."""
         if not isinstance(claim, Answer):
             raise TypeError(f"a claim is an Answer(score, kind, best), not {reprlib.repr(claim)}")
-        return self._answer(self._run(timeout), position, claim)
+        return self._answers(Run(self._library, timeout), self._part(position), "ffosolve_confirm", claim)[0]
 
     def best_line(self, position: Position, *, timeout: Optional[float] = None) -> List[Tuple[str, int]]:
         """Perfect play from a position to the end of the game: each move and its score for the side that makes it, such
         as [("H1", 62), ("PS", -62), ("A1", 62)]. Of several best moves, it has the first. Raises the same as `solve`.
         """
-        run, line = self._run(timeout), []
-        answer = self._answer(run, position)
+        run, line = Run(self._library, timeout), []
+        answer = self._answers(run, self._part(position))[0]
         while answer.kind != Kind.OVER:
             move = answer.squares[0] if answer.best else ENDS[answer.kind]
             line.append((move, answer.score))
             position = self.play(position, move)
-            answer = self._answer(run, position, answer._replace(score=-answer.score))
+            claim = answer._replace(score=-answer.score)
+            answer = self._answers(run, self._part(position), "ffosolve_confirm", claim)[0]
         return line
 
     def move_scores(self, position: Position, *, timeout: Optional[float] = None) -> Dict[str, int]:
         """Returns {square's name: score for the side to move} for all legal moves, in the order A1, B1, .. H8. The dict
         is empty if there is no legal move. One table serves all moves. Raises the same as `solve`."""
-        part = Part([position], self._checked_empties(position))
-        return self._score_part(self._run(timeout), part)[0]
+        return self._scores(Run(self._library, timeout), self._part(position))[0]
 
     def scored_line(self, position: Position, *, timeout: Optional[float] = None) -> str:
         """The line that `ffoscores` prints for a position: an OBF line that lists all legal moves with their scores,
         the best ones first; or a pass, or the end of the game, with its score. Raises the same as `solve`."""
-        run, position = self._run(timeout), as_position(position)
-        scores = self._score_part(run, Part([position], self._checked_empties(position)))[0]
-        if scores:
-            return position.to_obf(moves=sorted(scores.items(), key=lambda it: -it[1]))
-        answer = self._answer(run, position)
-        return position.to_obf(moves=[(ENDS[answer.kind], answer.score)])
+        run, part = Run(self._library, timeout), self._part(position)
+        moves = sorted(self._scores(run, part)[0].items(), key=lambda it: -it[1])
+        if not moves:
+            (answer,) = self._answers(run, part)
+            moves = [(ENDS[answer.kind], answer.score)]
+        return as_position(position).to_obf(moves=moves)
 
     def solve_all(self, positions: Iterable[Position], *, threads: int = 1, timeout: Optional[float] = None
                   ) -> List[Answer]:
         """The answers for positions, in their order. One thread uses one table for all positions; for several threads,
         the list is cut into parts, each with its own table. Raises the same as `solve`. SharedSquare and TooManyEmpties
         come before any position is solved, and have the `index` of the first refused position."""
-        return list(self._each(self._solve_part, positions, threads, timeout, at_once=True))
+        return list(self._each(self._answers, positions, threads, timeout, at_once=True))
 
     def solve_iter(self, positions: Iterable[Position], *, threads: int = 1, timeout: Optional[float] = None
                    ) -> Iterator[Answer]:
         """Yields the answers for positions, in their order, and reads only some positions ahead. Raises the same as
         `solve`. SharedSquare and TooManyEmpties have the `index` of the refused position, and come after the answers
         for the positions before it; so does TimeoutError, `timeout` seconds after the call."""
-        return self._each(self._solve_part, positions, threads, timeout)
+        return self._each(self._answers, positions, threads, timeout)
 
     def move_scores_all(self, positions: Iterable[Position], *, threads: int = 1, timeout: Optional[float] = None
                         ) -> List[Dict[str, int]]:
         """What `move_scores` returns for each position, in the same order; tables and errors are as for `solve_all`."""
-        return list(self._each(self._score_part, positions, threads, timeout, at_once=True))
+        return list(self._each(self._scores, positions, threads, timeout, at_once=True))
 
     def move_scores_iter(self, positions: Iterable[Position], *, threads: int = 1, timeout: Optional[float] = None
                          ) -> Iterator[Dict[str, int]]:
         """Yields what `move_scores` returns for each position, in the way that `solve_iter` yields answers."""
-        return self._each(self._score_part, positions, threads, timeout)
+        return self._each(self._scores, positions, threads, timeout)
 
     def solve_arrays(self, own: Any, opp: Any, *, threads: int = 1, timeout: Optional[float] = None) -> "Answers":
         """The answers for positions in arrays of uint64, as `masks_of` returns them: `own`, the masks of the discs of
@@ -161,7 +161,7 @@ class Solver:
         ValueError for other arrays."""
         from ._arrays import Answers, found_by
 
-        return Answers(*found_by(self, "solve_all", CAnswer, own, opp, threads, timeout))
+        return Answers(*found_by(self, "ffosolve_solve_all", CAnswer, own, opp, threads, timeout))
 
     def move_scores_arrays(self, own: Any, opp: Any, *, threads: int = 1, timeout: Optional[float] = None) -> Any:
         """The scores of all moves in positions. `own` and `opp` are as for `solve_arrays`. The result is an array of
@@ -169,7 +169,7 @@ class Solver:
         Needs NumPy. Raises the same as `solve_arrays`."""
         from ._arrays import found_by
 
-        return found_by(self, "move_scores_all", CMoveScores, own, opp, threads, timeout)[0]
+        return found_by(self, "ffosolve_move_scores_all", CMoveScores, own, opp, threads, timeout)[0]
 
     def moves(self, position: Position) -> int:
         """The mask of legal moves; `Position.legal_moves` names them. Raises SharedSquare, ValueError and TypeError."""
@@ -188,21 +188,9 @@ class Solver:
             raise TypeError(f"a game is a Game or the text of a transcript, not {reprlib.repr(game)}")
         return positions_of(game)
 
-    def _run(self, timeout: Optional[float]) -> Optional[Run]:
-        return None if timeout is None else Run(self._library, timeout)
-
-    def _checked_empties(self, position: Sequence[int]) -> int:
-        """Returns how many squares are empty, or raises SharedSquare, TooManyEmpties, TypeError or ValueError."""
-        empties, (own, opp) = empties_of(position), position
-        if own & opp or empties > self._max_empties:
-            raise refusal_for(position, self._max_empties)
-        return empties
-
-    def _answer(self, run: Optional[Run], position: Position, claim: Optional[Answer] = None) -> Answer:
-        empties, found = self._checked_empties(position), CAnswer()
-        name, claimed = ("solve", NO_CLAIM) if claim is None else ("confirm", CAnswer(*claim))
-        self._fill(run, name, 1, c_position(position), claimed, found, empties)
-        return Answer(found.score, KINDS[found.kind], found.best)
+    def _part(self, position: Sequence[int]) -> Part:
+        """Returns a Part with one position, or raises SharedSquare, TooManyEmpties, TypeError or ValueError."""
+        return Part([position], checked_empties(position, self._max_empties))
 
     def _each(self, call: Any, positions: Iterable[Position], threads: int, timeout: Optional[float],
               at_once: bool = False) -> Iterator[Any]:
@@ -216,33 +204,27 @@ class Solver:
                 raise parts[-1]
         return in_order(run, call, parts, threads)
 
-    def _solve_part(self, run: Optional[Run], part: PartOrRefusal) -> List[Answer]:
-        rows = ANSWER.iter_unpack(self._found_for(run, part, "solve_all", CAnswer))
+    def _answers(self, run: Run, part: PartOrRefusal, name: str = "ffosolve_solve_all", *claim: Answer) -> List[Answer]:
+        rows = ANSWER.iter_unpack(self._found(run, part, name, CAnswer, *claim))
         return [Answer(score, KINDS[kind], best) for score, kind, best in rows]
 
-    def _score_part(self, run: Optional[Run], part: PartOrRefusal) -> List[Dict[str, int]]:
-        rows = MOVE_SCORES.iter_unpack(self._found_for(run, part, "move_scores_all", CMoveScores))
+    def _scores(self, run: Run, part: PartOrRefusal) -> List[Dict[str, int]]:
+        rows = MOVE_SCORES.iter_unpack(self._found(run, part, "ffosolve_move_scores_all", CMoveScores))
         return [{name: score for name, score in zip(NAMES, row) if score != NO_SCORE} for row in rows]
 
-    def _found_for(self, run: Optional[Run], part: PartOrRefusal, name: str, record: Any) -> Any:
-        """Makes the call `name` of the library, and returns the array that it writes: a `record` (a C structure) for
-        each position of `part`. Raises `part` if it is a Refused, and another if the library refuses the call."""
+    def _found(self, run: Run, part: PartOrRefusal, name: str, record: Any, *claim: Answer) -> Any:
+        """Returns the array that the call `name` of the library writes: a `record` (a C structure) for each position of
+        `part`. Raises `part` if it is a Refused, and another if the library refuses the call."""
         if isinstance(part, Refused):
             raise part
-        found = (record * len(part.positions))()
-        self._fill(run, name, len(found), c_positions(part.positions), NO_CLAIM, found, part.empties)
+        found = (record * len(part.positions))(*claim)
+        self._search(run, name, c_positions(part.positions), found, part.empties)
         return found
 
-    def _fill(self, run: Optional[Run], name: str, count: int, asked: Any, claim: CAnswer, found: Any, empties: int
-              ) -> None:
-        """Makes a call as `search` does for `count` positions with at most `empties` empty squares, with the Solver's
-        scoring and table. Unless the call is brief, `run` makes it. Raises a Refused if the library refuses it."""
+    def _search(self, run: Run, name: str, positions: Any, found: Any, empties: int) -> None:
+        """Makes a call as `search` does, for positions with at most `empties` empty squares."""
         entries = table_entries(empties) if self._entries is None else self._entries
-        words = name, self._scoring, entries, asked, claim, found
-        if is_brief(count, empties):
-            accept(search(self._library, *words))
-        else:
-            accept((run or Run(self._library)).call(*words))
+        accept(run.search(empties, name, self._scoring, entries, positions, found))
 
 
 def as_position(position: P) -> P:

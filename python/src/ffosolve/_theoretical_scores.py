@@ -1,13 +1,13 @@
-"""Theoretical scores, which WTHOR files give for perfect play from a position of each game; the exact scores of these
-positions in a book, which ffosolve and ffosolve-many write (`--book-out`); and copies of the files with these."""
+"""Theoretical scores, which WTHOR files give for perfect play from a position of each game; books, in which ffosolve
+and ffosolve-many write exact scores (`--book-out`); and copies of the files with these."""
 import contextlib
 import functools
 import os
 import re
 import struct
-from typing import BinaryIO, Counter, Dict, Iterable, Iterator, List, Mapping, Tuple
+from typing import BinaryIO, Dict, Iterable, Iterator, List, Mapping, Optional, Tuple
 
-from ._games import EMPTIES_BYTE, FIRST_MOVE, HEADER, RECORD, read_header
+from ._games import EMPTIES_BYTE, FIRST_MOVE, HEADER, RECORD, Game
 from ._positions import Position
 from ._text import BOOK_HEADER, NotText
 
@@ -16,24 +16,15 @@ ENTRY = re.compile(rb"[XO-]{64} X;(?: (?:PS|--):([+-]\d\d);| [A-H][1-8]:([+-]\d\
 YEAR = struct.Struct("<10x H")  # in the header of a WTHOR file
 NUMBERS = struct.Struct("<HHH")  # in a game's record: the numbers, from 0, of the tournament, of Black and of White
 PLAYER, TOURNAMENT = 20, 26  # bytes of a name, with the NUL after it, in a file of players or tournaments
-# The right scores of games: {(number of empty squares, the moves in a record): {offset in the record: score}}
-Right = Mapping[Tuple[int, object], Mapping[int, int]]
 
 
-def exact_scores(book: Iterable[bytes], name: str, wanted: Iterable[Position]) -> Dict[Position, int]:
-    """Returns {position: exact score for its mover} for each wanted position that a book has. `book` are the lines of
-    the book's text. Raises NotText, with `name` in the message, if it is not a book of the scoring `winner`, or a line
-    can't be one that ffosolve wrote."""
-    scores = dict(entries(book, name))
-    found = ((position, position.canonical()) for position in wanted)
-    return {position: scores[canonical] for position, canonical in found if canonical in scores}
-
-
-def entries(book: Iterable[bytes], name: str) -> Iterator[Tuple[Position, int]]:
-    """Yields (canonical position, score for the mover) for each entry of a book."""
+def scores_in(book: Iterable[bytes], name: str) -> Dict[Position, int]:
+    """Returns {canonical position: exact score for its mover} for the lines of a book. Raises NotText, with `name` in
+    the message, if it is not a book of the scoring `winner`, or a line can't be one that ffosolve wrote."""
     lines, wrong = (line.rstrip(b"\r\n") for line in book), f"{name} is not a book of exact scores: it"
     if next(lines, b"") != FIRST_LINE.encode():
         raise NotText(f"{wrong} does not begin with `{FIRST_LINE}`, as what ffosolve-many --book-out writes")
+    scores = {}
     for number, line in enumerate(lines, 2):
         match = ENTRY.fullmatch(line)
         if match is None:
@@ -41,27 +32,25 @@ def entries(book: Iterable[bytes], name: str) -> Iterator[Tuple[Position, int]]:
         score = int(match[1] or match[2])
         if abs(score) > 64 or score % 2:
             raise NotText(f"{wrong}s line {number} has the score {score:+03}, with which no game ends")
-        yield Position.from_obf(line), score
+        scores[Position.from_obf(line)] = score
+    return scores
 
 
 def corrected(
-    file: BinaryIO, name: str, empties: int, right: Right, counts: "Counter[Tuple[int, bool]]"
+    file: BinaryIO, empties: int, right: Iterable[Tuple[Game, Mapping[int, Optional[int]]]]
 ) -> Iterator[bytes]:
-    """Yields the pieces of a copy of a WTHOR file that has the scores of `right`. A header without a number of empty
-    squares gets `empties`. No other byte changes. Counts each score in `counts`, as (offset, whether it changes), and
-    each game as (RECORD, False). Raises NotText, with `name` in the message, if it is not a WTHOR file of games."""
-    count, of_scores = read_header(file, name)
-    file.seek(0)
+    """Yields the pieces of a copy of a WTHOR file. `right` has its games, each with {offset in its record: right score,
+    or None if that is not known}. A header without a number of empty squares gets `empties`. No other byte changes."""
     header = bytearray(file.read(HEADER.size))
-    header[EMPTIES_BYTE] = empties = of_scores or empties
+    header[EMPTIES_BYTE] = header[EMPTIES_BYTE] or empties
     yield header
-    for number, record in enumerate(iter(lambda: bytearray(file.read(RECORD)), b""), 1):
-        if number <= count and len(record) == RECORD:
-            counts[RECORD, False] += 1
-            for offset, score in right.get((empties, bytes(record[FIRST_MOVE:].rstrip(b"\0"))), {}).items():
-                counts[offset, record[offset] != score] += 1
-                record[offset] = score
+    for game, scores in right:
+        record = bytearray(file.read(RECORD))
+        if record[FIRST_MOVE:].rstrip(b"\0") == game.words:  # otherwise, the file has changed since it was read
+            for offset, score in scores.items():
+                record[offset] = record[offset] if score is None else score
         yield record
+    yield from iter(lambda: file.read(1 << 16), b"")
 
 
 def title(file: str, game: int) -> str:
