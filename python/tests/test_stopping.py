@@ -292,13 +292,19 @@ def test_another_process_gets_each_argument_and_returns_each_status(tmp_path, mo
     asked, zeros, claim = list(map(tuple, both)), bytes(144).hex(), struct.pack("iiQ", -30, 1, 2**62).hex()
     with open(log) as noted:
         assert noted.read().splitlines() == [
-            f"{solver._library._name} {words}" for words in (
+            f"{_library.path_of(solver._library)} {words}" for words in (
                 f"ffosolve_confirm 2 5 {asked[:1]} {claim}", f"ffosolve_solve_all 2 5 {asked} {zeros[:64]}",
                 f"ffosolve_move_scores_all 2 5 {asked} {zeros}")]
     assert len(kept()) == 1
     for name, threads in CALLS:
         with pytest.raises(ffosolve.NoMemory):
             find(name, threads, Solver(entries=77, max_empties=60), both)
+
+
+def test_another_process_finds_the_library_that_this_one_found_by_its_name(solver, monkeypatch):
+    """Since it is loaded, the system's loader finds it by name wherever it is."""
+    monkeypatch.setenv("FFOSOLVE_LIBRARY", _library.NAME)
+    assert Solver().solve(HARD) == solver.solve(HARD)
 
 
 def test_processes_are_kept_and_used_again(solver):

@@ -89,6 +89,18 @@ def declared(place: str) -> ctypes.CDLL:
     return library
 
 
+class LinkMap(ctypes.Structure):  # see dlinfo(3)
+    _fields_ = [("address", ctypes.c_void_p), ("path", ctypes.c_char_p)]
+
+
+def path_of(library: ctypes.CDLL) -> str:
+    """The path of a loaded library. Its name is not enough for another process: once a library is loaded, the system's
+    loader finds it by name wherever it is."""
+    found = ctypes.POINTER(LinkMap)()
+    ctypes.CDLL(None).dlinfo(ctypes.c_void_p(library._handle), 2, ctypes.byref(found))
+    return os.path.abspath(os.fsdecode(found.contents.path))
+
+
 def search(library: ctypes.CDLL, name: str, scoring: int, entries: int, positions: Any, found: Any) -> int:
     """Makes the call `name`, which writes what it finds for each of `positions` to `found`; returns its status. Both
     are arrays. "ffosolve_confirm" is for one position, and takes the claim from `found`."""

@@ -127,8 +127,8 @@ class Run:
                 raise
             return search(self.library, name, scoring, entries, positions, found)
         try:
-            words = self.library._name, name, int(scoring), int(entries), bytearray(positions), bytearray(found)
-            process.connection.send(words)
+            place = _library.path_of(self.library)
+            process.connection.send((place, name, int(scoring), int(entries), bytearray(positions), bytearray(found)))
             while not process.connection.poll(self.wait_seconds()):
                 pass
             status, data = process.connection.recv()
