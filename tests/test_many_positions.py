@@ -39,7 +39,7 @@ def wanted():
 def mocked(monkeypatch):
     """A Solver and a mock that stands for its library, since no call is made by another process. Its calls for many
     positions do what `side_effect` does, and then what the library does."""
-    monkeypatch.setattr("ffosolve._solvers.is_brief", lambda *_: True)
+    monkeypatch.setattr("ffosolve._processes.is_brief", lambda *_: True)
     solver = Solver(scoring=2, entries=7)
     solver._library = mock.Mock(wraps=solver._library)
     return solver, solver._library
