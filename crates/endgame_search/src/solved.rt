@@ -97,7 +97,8 @@ pub fn exact_value<T: Bounds>(table: &T, position: Pos) -> i8
     ensures value { result ≡ value_of (T.scoring table.now) position }
     ensures in_range { IsScore result }
 {
-    let score = search_window(table, position, 0, BELOW_ALL_SCORES, ABOVE_ALL_SCORES);
+    let start = first_guess(position);
+    let score = search_window(table, position, start, BELOW_ALL_SCORES, ABOVE_ALL_SCORES);
     store_if_deep(table, position, BELOW_ALL_SCORES, ABOVE_ALL_SCORES, score);
     score
 }
@@ -110,7 +111,7 @@ pub fn solve<T: Bounds>(table: &T, task: Task) -> Solved
 {
     let position = task.pos();
     if position.moves() == 0 {
-        return solved_without_moves(table, task, 0);
+        return solved_without_moves(table, task, first_guess(position));
     }
     let possible = possible_scores(table, position);
     // Null windows up to the guess find a value up to it, or a lower bound of a greater one.
