@@ -25,6 +25,7 @@ version := $(firstword $(subst +, ,$(file <VERSION)))# a copy of the sources tha
 major := $(firstword $(subst ., ,$(version)))
 
 $(if $(filter $(levels),$(CPU)),,$(error CPU is $(CPU), but has to be one of: $(levels)))
+$(if $(filter /%,$(PREFIX)),,$(error PREFIX is $(PREFIX), but has to begin with a slash))
 
 all: $(programs:%=out/%) library ## proves and builds the programs and the library for C
 	echo "built: $(programs:%=out/%), which bin/ runs; out/library"
@@ -143,8 +144,7 @@ tools:
 
 # The first lines of install and uninstall. The command `install` makes a new file in place of an old one, so a running
 # program keeps its own.
-places = $(if $(filter /%,$(PREFIX)),,$(error PREFIX is $(PREFIX), but has to begin with a slash)) \
-    bin="$(DESTDIR)$(BINDIR)" lib="$(DESTDIR)$(LIBDIR)" include="$(DESTDIR)$(INCLUDEDIR)" man="$(DESTDIR)$(MANDIR)" \
+places = bin="$(DESTDIR)$(BINDIR)" lib="$(DESTDIR)$(LIBDIR)" include="$(DESTDIR)$(INCLUDEDIR)" man="$(DESTDIR)$(MANDIR)" \
     share="$(DESTDIR)$(PREFIX)/share"
 documents = README.md LICENSE CHANGELOG.md $(wildcard PROVED) \
     $(shell find docs examples python rust crates/*/specs \( -name __pycache__ -o -name '.*' -o -name target -o -name Cargo.lock \) -prune -o -type f -print)
@@ -167,10 +167,12 @@ install: $(programs:%=out/$(CPU)/%) $(libraries) ## installs programs, library, 
 	    $(call fill,share/completions/fish,"$$share/fish/vendor_completions.d/$$name.fish")
 	done
 	rm -rf "$$share/doc/ffosolve" "$$share/ffosolve"
+	umask 022
+	mkdir -p "$$share/doc/ffosolve" "$$share/ffosolve"
+	cp --parents --no-preserve=mode -t "$$share/doc/ffosolve" $(documents)
 	# The package for Python that the scripts use is among the documents, too, but some systems leave these out.
-	for file in $(filter python/src/%,$(documents)); do install -D -m 644 "$$file" "$$share/ffosolve/$$file"; done
-	for file in $(documents); do install -D -m 644 "$$file" "$$share/doc/ffosolve/$$file"; done
-	for place in ffosolve doc/ffosolve; do echo '$(package)' | install -m 644 /dev/stdin "$$share/$$place/VERSION"; done
+	cp --parents --no-preserve=mode -t "$$share/ffosolve" $(filter python/src/%,$(documents))
+	echo '$(package)' | tee "$$share/doc/ffosolve/VERSION" >"$$share/ffosolve/VERSION"
 	rm -f "$$lib"/libffosolve.so* "$$lib"/glibc-hwcaps/x86-64-v3/libffosolve.so*
 	install -D -m 644 out/x86-64-v2/libffosolve.a "$$lib/libffosolve.a"
 	install -D -m 644 out/x86-64-v3/libffosolve.a "$$lib/libffosolve-x86-64-v3.a"

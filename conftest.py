@@ -13,7 +13,6 @@ import psutil
 import pytest
 
 pytest.register_assert_rewrite("tests.support", "tests.games", "tests.many")
-from tests.support import as_at_a_login  # noqa: E402 - pytest rewrites the assertions of what is imported later
 
 ROOT = Path(__file__).parent
 PR_SET_CHILD_SUBREAPER = 36  # of prctl(2)
@@ -22,12 +21,15 @@ LONGEST = ["test_crates", "test_clients", "test_dist", "test_documents", "test_i
 
 
 def pytest_configure():
-    """Makes this process the parent of programs whose parent ends. SIGINT and SIGTERM interrupt the tests. What would
-    have to be proved is refused by scripts/prove. New files have the usual modes."""
+    """Makes this process the parent of programs whose parent ends. What would have to be proved is refused by
+    scripts/prove. Variables of a git hook go, new files have the usual modes, and the signals below interrupt the tests
+    and end programs, as at a login."""
     os.environ["PROVE"] = "no"
+    for name in [name for name in os.environ if name.startswith("GIT_")]:
+        del os.environ[name]
     os.umask(0o022)
     ctypes.CDLL(None).prctl(PR_SET_CHILD_SUBREAPER, 1, 0, 0, 0)
-    for number in (signal.SIGINT, signal.SIGTERM):
+    for number in (signal.SIGINT, signal.SIGTERM, signal.SIGHUP, signal.SIGQUIT):
         signal.signal(number, signal.default_int_handler)
 
 
@@ -80,8 +82,7 @@ def start():
     `how` are keyword arguments of subprocess.Popen, which change this or add to it."""
     with contextlib.ExitStack() as stack:
         def begin(*words, **how):
-            piped = dict.fromkeys(("stdout", "stderr"), subprocess.PIPE)
-            how = {"stdin": subprocess.DEVNULL, **piped, "preexec_fn": as_at_a_login, **how}
+            how = {"stdin": subprocess.DEVNULL, "stdout": subprocess.PIPE, "stderr": subprocess.PIPE, **how}
             ran = subprocess.Popen(list(map(str, words)), **how)
             stack.callback(lambda: (ran.poll() is None and ran.kill(), ran.communicate()))
             return ran

@@ -17,14 +17,14 @@ starters = for program in $(programs); do \
 stage: install
 	$(call starters,$(DESTDIR)$(PREFIX))
 
-# $(call texts,KIND,OTHER KIND,BIN,DOC,FOLDER) writes README.md and PROVED into FOLDER.
-texts = sed -e '/^$2|/d; s/^$1|//; s|@BIN@|$3|g; s|@DOC@|$4|g; s/@PACKAGE@/$(package)/' packaging/README.md | $(call fill,/dev/stdin,"$5/README.md"); \
+# $(call texts,FOLDER) writes README.md and PROVED into FOLDER.
+texts = install -m 644 packaging/README.md "$1"; \
     { \
         printf '%s\n\n' "ffosolve $(package), commit $$(git rev-parse HEAD), $$(rt version)"; \
         echo 'Each function of these crates was proved against its contract. Nothing else is built into:'; \
         for program in $(programs); do echo "bin/$$program: $$(scripts/below $$program | paste -sd ' ')"; done; \
         echo "lib/libffosolve.*: $$(scripts/below ffosolve_c | paste -sd ' ')"; \
-    } | install -m 644 /dev/stdin "$5/PROVED"
+    } | install -m 644 /dev/stdin "$1/PROVED"
 
 dist: levels ## makes out/ffosolve-VERSION-linux-x86-64.tar.gz, which runs wherever it is unpacked
 	$(clean)
@@ -33,7 +33,7 @@ dist: levels ## makes out/ffosolve-VERSION-linux-x86-64.tar.gz, which runs where
 	make -s stage CPU=x86-64-v2 DESTDIR="$$room" PREFIX=/$(archive) >/dev/null
 	ln -s share/doc/ffosolve/examples "$$top/examples"
 	rm "$$top/share/doc/ffosolve/README.md"
-	$(call texts,archive,deb,bin/,share/doc/ffosolve,$$top)
+	$(call texts,$$top)
 	(cd "$$top" && find . -type f | LC_ALL=C sort | xargs -d '\n' sha256sum) >"$$room/SHA256SUMS"
 	mv "$$room/SHA256SUMS" "$$top"
 	tar -C "$$room" --sort=name --mtime="@$(seconds)" --owner=0 --group=0 --numeric-owner --format=ustar -c $(archive) | gzip -9n >out/$(archive).tar.gz.new
@@ -49,7 +49,7 @@ deb: levels ## makes packages for Debian: out/ffosolve_VERSION_amd64.deb, out/li
 	mkdir "$$copy"
 	git ls-files -z | xargs -0 cp -p --parents -t "$$copy"
 	cp -pr --parents $(levels:%=out/%) "$$copy"
-	$(call texts,deb,archive,,/usr/share/doc/ffosolve,$$copy)
+	$(call texts,$$copy)
 	printf '%s\n' 'ffosolve ($(package)) unstable; urgency=medium' '' '  * CHANGELOG.md, in the package ffosolve, says what is new.' '' \
 	    " -- Gimzolens <ffosolve@gimzolens.invalid>  $$(date -Rud "@$(seconds)")" >"$$copy/debian/changelog"
 	echo '$(package)' >"$$copy/VERSION"

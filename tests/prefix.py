@@ -20,13 +20,12 @@ C = ["cc", "-std=c11", *STRICT, "-O1"]
 CXX = ["c++", "-std=c++11", *STRICT, "-O1", "-x", "c++"]
 PIP = [sys.executable, *"-m pip --disable-pip-version-check install --quiet --no-index --no-build-isolation".split()]
 LONGEST = 300  # seconds that a command may take, since compilers and solvers are slow on a busy machine
-WITHOUT_GIT = {name: text for name, text in os.environ.items() if not name.startswith("GIT_")}  # a git hook sets those
 
 
 def names_of_files():
     """Returns the paths of the checkout's files: those that git tracks, and new ones that it does not ignore."""
     words = ("git", "-c", f"safe.directory={ROOT}", "-C", ROOT, "ls-files", "-zco", "--exclude-standard")
-    names = run(*words, env=WITHOUT_GIT, check=True, text=True).stdout.split("\0")
+    names = run(*words, check=True, text=True).stdout.split("\0")
     return [name for name in names if name and os.path.lexists(ROOT / name)]
 
 
@@ -113,21 +112,17 @@ class Prefix:
         self.make(*PIP, "--target", self.work / "site", self.work / "python")
         return self.work / "site"
 
-    @property
-    def crate(self):
-        """The folder of a copy of the crate for Rust; the examples are copied into a folder next to it."""
+    def cargo(self, *words, place="rust", **how):
+        """Runs cargo in a folder of `work`, by default in a copy of the crate, next to which the examples are."""
         need("cargo")
-        return self.work / "rust"
-
-    def cargo(self, verb, manifest, *words, **how):
-        return self.make("cargo", verb, "--manifest-path", manifest / "Cargo.toml", *words, **how)
+        return self.make("cargo", *words, cwd=self.work / place, **how)
 
     def rust_client(self, name, source, **places):
         """Builds a Rust program that uses the crate, and returns its path. `places` are variables for the build."""
         self.write(f"{name}/src/main.rs", source)
-        needs = f'[dependencies]\nffosolve = {{ path = "{self.crate}" }}\n[workspace]\n'
+        needs = '[dependencies]\nffosolve = { path = "../rust" }\n[workspace]\n'
         self.write(f"{name}/Cargo.toml", f'[package]\nname = "{name}"\nversion = "1.0.0"\nedition = "2021"\n{needs}')
-        self.cargo("build", self.work / name, "--quiet", env={**self.environment, **places})
+        self.cargo("build", "--quiet", place=name, env={**self.environment, **places})
         return self.work / "target/debug" / name
 
     def rust_client_of(self, name, source, calls):

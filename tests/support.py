@@ -5,7 +5,6 @@ import resource
 import shutil
 import signal
 import subprocess
-import sys
 import time
 from pathlib import Path
 
@@ -18,7 +17,6 @@ ROOT = Path(__file__).resolve().parent.parent
 NOBODY = {"user": 65534, "group": 65534, "extra_groups": []} if os.getuid() == 0 else {}  # drops root's rights
 SECONDS = 55  # the time limit of a command or a wait, unless a test sets its own
 MOST_BYTES = 1_048_576  # the size of the largest file that the programs read, as documented
-sys.path.insert(0, str(ROOT / "python/src"))  # for `import ffosolve`
 
 
 def lack(what):
@@ -154,12 +152,6 @@ def wait_until(holds, seconds=SECONDS):
         if time.monotonic() > end:
             raise AssertionError(f"this did not happen within {seconds} seconds: {holds}")
         time.sleep(0.01)
-
-
-def as_at_a_login():
-    """For `preexec_fn`: sets SIGINT, SIGTERM, SIGHUP and SIGQUIT to their defaults, even if the tests ignore some."""
-    for number in (signal.SIGINT, signal.SIGTERM, signal.SIGHUP, signal.SIGQUIT):
-        signal.signal(number, signal.SIG_DFL)
 
 
 def processes_in(place):

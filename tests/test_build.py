@@ -10,8 +10,7 @@ from unittest import mock
 import pytest
 
 from tests.prefix import LEVELS, path_without
-from tests.support import (NOBODY, ROOT, SECONDS, as_at_a_login, is_v3, need, processes_in, run, unshared, wait_until,
-                           write)
+from tests.support import NOBODY, ROOT, SECONDS, is_v3, need, processes_in, run, unshared, wait_until, write
 
 # A fake rt. Writes its arguments, descriptors and standard input to files, and runs the shell code $ACTS. The program
 # that it builds prints what it was made of, its words, its folder and its input.
@@ -45,7 +44,7 @@ SPOIL = "echo 'rt: the kept work of ffosolve cannot be used: remove it'; exit 1\
 # A fake linker and assembler: copies its first input to its output.
 COPY = '#!/bin/sh\nwhile [ "$1" != -o ]; do shift; done\ncp "$3" "$2" && chmod +x "$2"\n'
 LEVEL = LEVELS[is_v3()]
-HOW = {"text": True, "preexec_fn": as_at_a_login, "cwd": "/"}
+HOW = {"text": True, "cwd": "/"}
 
 
 class Checkout:

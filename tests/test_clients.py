@@ -128,8 +128,7 @@ def test_the_example_in_python_runs():
 
 
 def test_the_example_in_rust_runs():
-    assert PREFIX.crate
-    PREFIX.cargo("build", PREFIX.work / "rust", "--quiet", "--example", "answers")
+    PREFIX.cargo("build", "--quiet", "--example", "answers")
     answers_of(PREFIX.work / "target/debug/examples/answers")
 
 
@@ -226,12 +225,12 @@ def test_the_crate_declares_the_calls_of_the_header():
 @pytest.mark.parametrize("features", [(), ("--features", "shared")])
 def test_the_crates_own_tests_pass_with_either_library(features):
     need("readelf")
-    ran = PREFIX.cargo("test", PREFIX.crate, "--no-run", *features)
+    ran = PREFIX.cargo("test", "--no-run", *features)
     assert "warning" not in ran.stderr
     program = re.search(r"Executable tests/calls.rs \((.*)\)", ran.stderr)[1]
     needed = PREFIX.make("readelf", "-d", PREFIX.work / program).stdout
     assert ("[libffosolve.so.1]" in needed) == bool(features), needed
-    ran = PREFIX.cargo("test", PREFIX.crate, *features)
+    ran = PREFIX.cargo("test", *features)
     passed = re.findall(r"^test result: ok. (\d+) passed", ran.stdout, re.MULTILINE)
     assert len(passed) > 2, ran.stdout
 
@@ -259,9 +258,9 @@ def test_the_library_gets_the_scoring_the_table_and_the_claim_that_were_asked_fo
 def test_ffosolve_lib_dir_names_the_folder_of_the_library():
     shutil.copytree(PREFIX.libraries, PREFIX.work / "libraries", symlinks=True)
     places = {**PREFIX.environment, "PKG_CONFIG_PATH": "", "FFOSOLVE_LIB_DIR": str(PREFIX.work / "libraries")}
-    PREFIX.cargo("test", PREFIX.crate, "--quiet", "--test", "calls", env=places)
+    PREFIX.cargo("test", "--quiet", "--test", "calls", env=places)
     nowhere = {**PREFIX.environment, "FFOSOLVE_LIB_DIR": "/nowhere"}  # has precedence over pkg-config
-    ran = PREFIX.run("cargo", "check", "--manifest-path", PREFIX.crate / "Cargo.toml", env=nowhere)
+    ran = PREFIX.run("cargo", "check", cwd=PREFIX.work / "rust", env=nowhere)
     assert ran.returncode != 0
     why = "/nowhere/libffosolve.a is missing: install ffosolve, or set FFOSOLVE_LIB_DIR to its folder"
     assert why in ran.stderr

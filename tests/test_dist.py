@@ -11,7 +11,7 @@ from types import SimpleNamespace
 
 import pytest
 
-from tests.prefix import FIRST, FIRST_OBF, LEVELS, VERSION, WITHOUT_GIT, copied_checkout, files_below, path_without
+from tests.prefix import FIRST, FIRST_OBF, LEVELS, VERSION, copied_checkout, files_below, path_without
 from tests.support import ROOT, ends, is_v3, lack, need, need_module, run, stored, unshared, write
 from tests.test_install import completed_by_zsh
 
@@ -44,42 +44,38 @@ def made(target, folder, *names, **how):
 @pytest.fixture(scope="module")
 def dist(shared_folder):
     """Archives of two checkouts that differ in path, times, umask, locale and time zone; the first archive, unpacked;
-    their versions and names; and an environment without rt. Commands of this module see no variables of git."""
+    their versions and names; and an environment without rt."""
     need("make", "git", "rt")
-    with pytest.MonkeyPatch.context() as patch:
-        for name in os.environ.keys() - WITHOUT_GIT:
-            patch.delenv(name)
-        work = shared_folder
-        first = copied_checkout(work / "a")
-        run("sh", "-euc", f"git init -q; git add VERSION; {COMMIT}; {COMMIT_ALL}", cwd=first, check=True)
-        second = shutil.copytree(first, work / "another place")
-        head = run("git", "rev-parse", "HEAD", cwd=first, text=True).stdout.strip()
-        version = f"{VERSION}+1.g{head[:7]}"
-        name = f"ffosolve-{version}-linux-x86-64"
-        os.utime(second / "README.md", (0, 0))
-        other = {"umask": 0o077, "env": {**os.environ, "LC_ALL": "C", "TZ": "UTC+9"}}
-        archives = [made("dist", place, f"{name}.tar.gz", **how) for place, how in ((first, {}), (second, other))]
-        unpacked = work / "a folder with blanks" / name
-        unpacked.parent.mkdir()
-        run("tar", "-xzf", archives[0], "-C", unpacked.parent, check=True)
-        yield SimpleNamespace(
-            first=first, second=second, archives=archives, head=head, version=version, name=name, unpacked=unpacked,
-            without_rt={"PATH": path_without("rt", work), "TMPDIR": str(work), "PYTHONDONTWRITEBYTECODE": "1"})
+    first = copied_checkout(shared_folder / "a")
+    run("sh", "-euc", f"git init -q; git add VERSION; {COMMIT}; {COMMIT_ALL}", cwd=first, check=True)
+    second = shutil.copytree(first, shared_folder / "another place")
+    head = run("git", "rev-parse", "HEAD", cwd=first, text=True).stdout.strip()
+    version = f"{VERSION}+1.g{head[:7]}"
+    name = f"ffosolve-{version}-linux-x86-64"
+    os.utime(second / "README.md", (0, 0))
+    other = {"umask": 0o077, "env": {**os.environ, "LC_ALL": "C", "TZ": "UTC+9"}}
+    archives = [made("dist", place, f"{name}.tar.gz", **how) for place, how in ((first, {}), (second, other))]
+    unpacked = shared_folder / "a folder with blanks" / name
+    unpacked.parent.mkdir()
+    run("tar", "-xzf", archives[0], "-C", unpacked.parent, check=True)
+    places = {"PATH": path_without("rt", shared_folder), "TMPDIR": str(shared_folder)}
+    return SimpleNamespace(
+        first=first, second=second, archives=archives, head=head, version=version, name=name, unpacked=unpacked,
+        without_rt={**places, "PYTHONDONTWRITEBYTECODE": "1"})
 
 
-def shows(readme, count, start):
-    """Asserts that a package's README has at most 400 words, no placeholder, and `count` commands that succeed
-    (ffoscores: status 1) and print the known results for first.obf and masks.txt. `start` runs a command."""
+def shows(readme, at, start):
+    """Asserts that the README of packages has at most 400 words, and that its commands succeed (ffoscores: status 1)
+    and print the known results for first.obf and masks.txt. Its first two blocks are what has to be run before, of the
+    package for Debian and of the archive; `at` is the number of one. `start` runs a command."""
     need("cc", "pkg-config", "man")
     text = readme.read_text()
     assert len(text.split()) <= 400
-    assert re.findall(r"@\w+@|^\w+\|.*", text, re.M) == []
     blocks = [re.sub("^    ", "", block, flags=re.M) for block in re.findall(r"(?:^    .*\n)+", text, re.M)]
-    commands = re.findall(r"^(?!\[1\]|\d \S|solved).+$", "".join(blocks), re.M)
-    assert FIRST in blocks
-    assert len(commands) == count
+    commands = re.findall(r"^(?!\[1\]|\d \S|solved).+$", "".join(blocks[2:]), re.M)
+    assert (len(commands), FIRST in blocks) == (6, True)
     for command in commands:
-        ran = start("sh", "-c", command)
+        ran = start("sh", "-c", blocks[at] + command)
         assert (ran.stderr, ran.returncode) == ("", int("ffoscores" in command)), ran
         if command.endswith("first.obf"):
             assert ran.stdout == FIRST
@@ -125,6 +121,7 @@ def test_checksums_are_of_all_files(dist):
     names = re.findall(r"^[0-9a-f]{64}  \./(.*)$", (dist.unpacked / "SHA256SUMS").read_text(), re.M)
     files = {name for name in files_below(dist.unpacked) if not (dist.unpacked / name).is_symlink()}
     assert set(names) == files - {"SHA256SUMS"}
+    ends((0, "", ""), "sha256sum", "--quiet", "-c", "SHA256SUMS", cwd=dist.unpacked)
 
 
 def test_the_file_proved_names_commit_kit_and_the_crates_of_each_program_lowest_first(dist):
@@ -168,7 +165,7 @@ def test_files_that_texts_name_are_there(dist):
 
 def test_the_commands_of_readme_print_what_it_shows(dist):
     how = {"cwd": dist.unpacked, "env": dist.without_rt, "text": True, "timeout": 300}
-    shows(dist.unpacked / "README.md", 7, lambda *words: run(*words, **how))
+    shows(dist.unpacked / "README.md", 1, lambda *words: run(*words, **how))
 
 
 def test_ffosolve_many_has_the_programs_of_both_levels(dist, folder):
@@ -380,7 +377,7 @@ def test_apt_installs_them_and_removes_all_of_them(dist, packages, folder):
     system.make("test", "-d", f"{PYTHON}/ffosolve/__pycache__")
     assert is_used(system.run, dist.version, PYTHON).startswith("/usr/lib/x86_64-linux-gnu/")
     run("dpkg-deb", "-x", packages["ffosolve"], "root", check=True)
-    shows(folder / "root/usr/share/doc/ffosolve/README.md", 6, system.run)
+    shows(folder / "root/usr/share/doc/ffosolve/README.md", 0, system.run)
     # Shells find the completions by themselves.
     assert completed_by_zsh(["ffosolve --sco", "ffosolve-games che"], start=system.run) == [
         "ffosolve --scoring", "ffosolve-games check"]

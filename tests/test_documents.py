@@ -11,7 +11,7 @@ import subprocess
 
 import pytest
 
-from tests.support import ROOT, built, ends, run, stored
+from tests.support import ROOT, built, ends, need, run, stored
 
 DOCUMENTS = ["README.md", "CONTRIBUTING.md", *sorted(f"docs/{path.name}" for path in ROOT.glob("docs/*.md"))]
 TEXTS = {name: stored(name).decode() for name in DOCUMENTS}
@@ -33,15 +33,14 @@ def stripped(text):
 
 
 def ignored(names):
-    """Returns the paths among `names` that git ignores in the checkout; ["out"] if the checkout has no `.git`."""
-    if not (ROOT / ".git").exists():
-        return ["out"]
+    """Returns the paths among `names` that git ignores in the checkout."""
     return run("git", "-C", ROOT, "check-ignore", "--no-index", *names, text=True).stdout.splitlines()
 
 
 @pytest.mark.parametrize("name", TEXTS)
 def test_commands_print_what_is_shown_and_leave_only_ignored_files(folder, name):
     """One shell runs all commands of a document, without input, and prints END after each."""
+    need("git")
     built()
     for linked in set(os.listdir(ROOT)).difference(ignored(os.listdir(ROOT))):
         if not linked.startswith("."):
@@ -57,8 +56,7 @@ def test_commands_print_what_is_shown_and_leave_only_ignored_files(folder, name)
         assert stripped(output) == stripped(shown), command
     left = [made for made in os.listdir() if not os.path.islink(made)]
     left += [made for made in MADE.findall(blocks_of(TEXTS[name], "sh")) if not made.startswith("/")]
-    if (ROOT / ".git").exists():
-        assert set(left).difference(ignored(left)) == set()
+    assert set(left) == set(ignored(left))
 
 
 def test_stored_reports_are_what_ffosolve_prints():

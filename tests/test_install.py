@@ -195,6 +195,7 @@ def test_without_programs_and_rt_nothing_is_installed(place, folder):
     os.environ["PATH"] = path_without("rt", folder)
     error = "ffosolve: not built: rt (rattle-kit-13b or rattle-kit-13f) is not on the path"
     refused(place.make("install", "-C", checkout), error)
+    refused(place.make("install", "-C", checkout, prefix="relative"), "PREFIX is relative")
     assert not place.stage.exists()
 
 

@@ -15,7 +15,7 @@ import pytest
 
 from tests import many
 from tests.many import ACTING
-from tests.support import SECONDS, as_at_a_login, limited, need, run, wait_until, write
+from tests.support import SECONDS, limited, need, run, wait_until, write
 
 pytest_plugins = ["tests.many"]
 WORDS = ("--lines=4", "--book-in=one.book", *many.WORDS[1:])  # 15 parts
@@ -94,8 +94,7 @@ class Cluster:
     def begin(self, *words):
         """Starts ffosolve-many on the cluster, with its standard error in the file `messages`. Returns its process."""
         with open("messages", "wb") as log:
-            return self.case.start(self.hasty, "--scheduler=scheduler.json", *(words or WORDS), stderr=log,
-                                   preexec_fn=as_at_a_login)
+            return self.case.start(self.hasty, "--scheduler=scheduler.json", *(words or WORDS), stderr=log)
 
     def ended(self, ran):
         """Waits for the end of a run that `begin` started. Asserts that its report and its book are those of one run of

@@ -17,8 +17,7 @@ import pytest
 from ffosolve import _command_line
 from ffosolve._many import folder, solve
 from tests.many import ACTING, BOARD, WORDS, files
-from tests.support import (MOST_BYTES, NOBODY, SECONDS, as_at_a_login, ends, limited, processes_in, run, wait_until,
-                           write)
+from tests.support import MOST_BYTES, NOBODY, SECONDS, ends, limited, processes_in, run, wait_until, write
 
 pytest_plugins = ["tests.many"]
 
@@ -406,7 +405,7 @@ SIGNALLED = ("--jobs=2", "--lines=5", *WORDS[1:])
 def begin(case, *program, last=99):
     """Starts `program` with SIGNALLED in a new session. case.ACTS takes 45 s per part after the first `last` parts."""
     places = {**os.environ, "PAUSE": "0.15", "LAST": str(last)}
-    return case.start(*program, *SIGNALLED, start_new_session=True, preexec_fn=as_at_a_login, env=places)
+    return case.start(*program, *SIGNALLED, start_new_session=True, env=places)
 
 
 def at_work(case, done):

@@ -31,8 +31,7 @@ class Some(unittest.TestCase):
 def project(folder):
     need("git")
     run("git", "init", "-q", check=True)
-    run("cp", "--parents", "conftest.py", "setup.cfg", ".gitignore", "tests/support.py", "bench/player.py", folder,
-        cwd=ROOT, check=True)
+    run("cp", "conftest.py", "setup.cfg", ".gitignore", folder, cwd=ROOT, check=True)
     return folder
 
 
