@@ -15,8 +15,8 @@ from bench import player
 from tests import positions  # noqa: F401 - sets FFOSOLVE_LIBRARY
 from tests.games import PROGRAM, book_of, discs_of_black, games, positions_of, random_games, record, wthor
 from tests.support import ROOT, SECONDS, built, limited, run, stored, wait_until, write
-from ffosolve import Position
-from ffosolve._theoretical_scores import scores_in
+from ffosolve import Position, read_games
+from ffosolve._theoretical_scores import corrected, scores_in
 
 pytestmark = pytest.mark.usefixtures("folder")
 EMPTIES = 5
@@ -220,6 +220,15 @@ def test_games_that_are_not_compared_stay_as_they_are():
     fix(1, f"it.wtb, game 1, move 1: 99 is not a square\n"
            f"new.wtb: theoretical scores changed 1 of {COUNT}, not compared 2",
         written={"new.wtb": wthor(records, empties=EMPTIES)}, out=difference(6, EXACT[5], 7) + counts(COUNT - 2, 1, 1))
+
+
+def test_a_file_that_has_changed_since_its_games_were_read_is_not_copied():
+    games = [(game, {7: 33}) for game in read_games("it.wtb")]
+    with open("it.wtb", "rb") as file:
+        assert len(b"".join(corrected(file, 0, games))) == len(WHOLE)
+        file.seek(0)
+        with pytest.raises(ValueError, match="^it.wtb has changed since its games were read$"):
+            list(corrected(file, 0, games[1:]))
 
 
 def test_real_scores_are_changed_only_if_asked():

@@ -9,7 +9,7 @@ from typing import BinaryIO, Dict, Iterable, Iterator, List, Mapping, Optional, 
 
 from ._games import EMPTIES_BYTE, FIRST_MOVE, HEADER, RECORD, Game
 from ._positions import Position
-from ._text import BOOK_HEADER, NotText
+from ._text import BOOK_HEADER, NotText, shown
 
 FIRST_LINE = f"{BOOK_HEADER}winner"
 ENTRY = re.compile(rb"[XO-]{64} X;(?: (?:PS|--):([+-]\d\d);| [A-H][1-8]:([+-]\d\d);(?: [A-H][1-8]:\2;)*)")
@@ -40,15 +40,17 @@ def corrected(
     file: BinaryIO, empties: int, right: Iterable[Tuple[Game, Mapping[int, Optional[int]]]]
 ) -> Iterator[bytes]:
     """Yields the pieces of a copy of a WTHOR file. `right` has its games, each with {offset in its record: right score,
-    or None if that is not known}. A header without a number of empty squares gets `empties`. No other byte changes."""
+    or None if that is not known}. A header without a number of empty squares gets `empties`. No other byte changes.
+    Raises NotText if the file has other games."""
     header = bytearray(file.read(HEADER.size))
     header[EMPTIES_BYTE] = header[EMPTIES_BYTE] or empties
     yield header
     for game, scores in right:
         record = bytearray(file.read(RECORD))
-        if record[FIRST_MOVE:].rstrip(b"\0") == game.words:  # otherwise, the file has changed since it was read
-            for offset, score in scores.items():
-                record[offset] = record[offset] if score is None else score
+        if record[FIRST_MOVE:].rstrip(b"\0") != game.words:
+            raise NotText(f"{shown(file.name)} has changed since its games were read")
+        for offset, score in scores.items():
+            record[offset] = record[offset] if score is None else score
         yield record
     yield from iter(lambda: file.read(1 << 16), b"")
 
