@@ -7,7 +7,6 @@
        moves OWN OPP, play OWN OPP SQUARE      masks
        canonical OWN OPP, image MASK SYMMETRY  OWN OPP SYMMETRY, and a mask
        read_line ROOM TEXT                     at INDEX, or OWN OPP SIDE LISTED, then each KIND/SQUARE/SCORE listed
-       long_line                               what read_line prints for a line of 8,000,000 listed moves
        names                                   the values of the header's constants, and the text of each status */
 #include "ffosolve.h"
 
@@ -35,12 +34,14 @@ static struct written {
 #define CALL(name, ...) \
     if (strcmp(call, #name) == 0) return ffosolve_##name(__VA_ARGS__)
 
-static int32_t status_of(const char *call, const char *text, size_t length) {
+static int32_t status_of(const char *call, const char *hexadecimal) {
     const ffosolve_position position = {number[0], number[1]};
     const ffosolve_answer claim = {(int32_t)number[4], (int32_t)number[5], number[6]};
     const uint32_t scoring = (uint32_t)number[2], of_all = (uint32_t)number[0];
     const size_t count = numbers > 3 ? (numbers - 3) / 2 : 0;
     ffosolve_position positions[WORDS];
+    static unsigned char text[LONGEST];
+    size_t length = 0;
     memcpy(positions, number + 3, count * sizeof *positions);
     CALL(solve, position, scoring, number[3], &now.answers[0]);
     CALL(confirm, position, scoring, number[3], claim, &now.answers[0]);
@@ -51,12 +52,13 @@ static int32_t status_of(const char *call, const char *text, size_t length) {
     CALL(play, position, (uint8_t)number[2], &now.after);
     CALL(canonical, position, &now.after, &now.symmetry);
     CALL(image, number[0], (uint32_t)number[1], &now.found[0].moves);
-    return ffosolve_read_line(text, length, &now.line, now.listed, number[0], &now.at);
+    while (sscanf(hexadecimal + 2 * length, "%2hhx", &text[length]) == 1) length++;
+    return ffosolve_read_line((const char *)text, length, &now.line, now.listed, number[0], &now.at);
 }
 
-static void make(const char *call, const char *text, size_t length) {
+static void make(const char *call, const char *hexadecimal) {
     now = unset;
-    printf("%" PRId32, status_of(call, text, length));
+    printf("%" PRId32, status_of(call, hexadecimal));
     if (IS_SET(at)) printf(" at %zu", now.at);
     if (IS_SET(after)) printf(" %" PRIx64 " %" PRIx64, now.after.own, now.after.opp);
     if (IS_SET(symmetry)) printf(" %" PRIu32, now.symmetry);
@@ -81,25 +83,6 @@ static void make(const char *call, const char *text, size_t length) {
         }
         if (others > 0) printf(" +%d", others);
     }
-}
-
-static void make_read_line(const char *hexadecimal) {
-    static unsigned char text[LONGEST];
-    const size_t length = strlen(hexadecimal) / 2;
-    for (size_t i = 0; i < length; i++) sscanf(hexadecimal + 2 * i, "%2hhx", &text[i]);
-    make("read_line", (const char *)text, length);
-}
-
-static void make_long_line(void) {
-    const size_t fields = 8000000, length = 66 + 5 * fields;
-    char *text = (char *)malloc(length);
-    if (!text) exit(2);
-    memset(text, '-', 64);
-    memcpy(text + 64, "X;", 2);
-    for (size_t i = 0; i < fields; i++) memcpy(text + 66 + 5 * i, "B1:1;", 5);
-    number[0] = 1;
-    make("read_line", text, length);
-    free(text);
 }
 
 static void show_names(void) {
@@ -128,10 +111,8 @@ int main(void) {
             number[numbers] = strtoull(word, NULL, 0);
             last = word;
         }
-        if (strcmp(call, "read_line") == 0) make_read_line(numbers == 2 ? last : "");
-        else if (strcmp(call, "long_line") == 0) make_long_line();
-        else if (strcmp(call, "names") == 0) show_names();
-        else make(call, NULL, 0);
+        if (strcmp(call, "names") == 0) show_names();
+        else make(call, numbers > 1 ? last : "");
         printf("\n");
     }
     return fflush(stdout) != 0;

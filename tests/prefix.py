@@ -132,11 +132,14 @@ class Prefix:
         self.make("ar", "rcs", "libffosolve.a", "calls.o", cwd=folder)
         return self.rust_client(name, source, FFOSOLVE_LIB_DIR=str(folder))
 
-    def called(self, calls, **how):
+    @functools.cached_property
+    def caller(self):
+        return self.compile(C, "caller", [TESTS / "library_calls.c"])
+
+    def called(self, *calls, **how):
         """Returns the lines that tests/library_calls.c prints, one for each of `calls`. The comment at the top of that
         file says how calls are written."""
-        program = self.compile(C, "calls", [TESTS / "library_calls.c"])
-        return self.make(program, text="\n".join(calls), **how).stdout.splitlines()
+        return self.make(self.caller, text="\n".join(calls), **how).stdout.splitlines()
 
 
 PREFIX = Prefix()

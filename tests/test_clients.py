@@ -255,11 +255,8 @@ def test_the_library_gets_the_scoring_the_table_and_the_claim_that_were_asked_fo
     assert (sorted(ran.stdout.splitlines()), ran.stderr) == (sorted(wanted), "thread " * 4)
 
 
-def test_ffosolve_lib_dir_names_the_folder_of_the_library():
-    shutil.copytree(PREFIX.libraries, PREFIX.work / "libraries", symlinks=True)
-    places = {**PREFIX.environment, "PKG_CONFIG_PATH": "", "FFOSOLVE_LIB_DIR": str(PREFIX.work / "libraries")}
-    PREFIX.cargo("test", "--quiet", "--test", "calls", env=places)
-    nowhere = {**PREFIX.environment, "FFOSOLVE_LIB_DIR": "/nowhere"}  # has precedence over pkg-config
+def test_a_folder_without_the_library_is_refused_and_pkg_config_not_asked():
+    nowhere = {**PREFIX.environment, "FFOSOLVE_LIB_DIR": "/nowhere"}
     ran = PREFIX.run("cargo", "check", cwd=PREFIX.work / "rust", env=nowhere)
     assert ran.returncode != 0
     why = "/nowhere/libffosolve.a is missing: install ffosolve, or set FFOSOLVE_LIB_DIR to its folder"

@@ -11,10 +11,10 @@ from concurrent.futures import ThreadPoolExecutor
 import pytest
 
 import ffosolve
-from ffosolve._refusals import REFUSALS, refusal_of
+from ffosolve._refusals import refusal_of
 from tests.positions import random_positions
 from tests.prefix import CXX, LONGEST, NUMBER, PREFIX, STRICT, TESTS, VERSION, C, installed  # noqa: F401 - a fixture
-from tests.support import built, limited, need, need_module, run, worked_rows
+from tests.support import built, limited, need, need_module, preload, run, worked_rows
 
 COMPILERS = [*itertools.product(("cc", "clang"), ("c90", "c99", "c11", "c17", "c2x"), ("c",)),
              *itertools.product(("c++", "clang++"), ("c++11", "c++14", "c++17", "c++20"), ("cpp",))]
@@ -32,15 +32,13 @@ NAMES = {
     "SHARED": "3 2", "WIDE": "1 6", "START": "0x0000000810000000 0x0000001008000000",
     "BOARD": "-OXXXXX-XXXXXXXOXXXXXXXXXXXXXXXXXXXOXXXXXXXXXXXXXXXXXXXXXXXXXXXX",
     "READ": "fffffff7ffff7f7c 800008002", "AS_WHITE": "800008002 fffffff7ffff7f7c",
+    "LISTED": b"-OXXXXX-XXXXXXXOXXXXXXXXXXXXXXXXXXXOXXXXXXXXXXXXXXXXXXXXXXXXXXXX X; H1:+62;".hex(),
     "VERSION": VERSION, "NUMBER": NUMBER, "ENTRIES": ffosolve.MOST_ENTRIES, "MORE": ffosolve.MOST_ENTRIES + 1,
     "TEXTS": ", ".join(TEXTS_OF_LINES.get(it.name) or refusal_of(it).reason for it in ffosolve.Status if it.value),
 }
 LINES, COLUMNS = worked_rows("ffosolve/lines")
+MOVES = {**{ffosolve.square_name(number): f"0/{number}" for number in range(64)}, "PS": "1/64", "--": "2/64"}  # in C
 PIECES = b"| w|ps:-4;|--:0;|I1:+1|h8:64 ;|B2:+65;| |\t|%|;|:|?|-|X|O|b|\r|\0|\x80|\xff".split(b"|")
-# What tests/library_nulls.c must print.
-NULLS = "".join(f"{count} 2 65 {room}: {pointers} 7\n" * 3 for count, room, pointers in (
-    (0, 0, "other other other"), (1, 1, "given given given"), (0, 1, "other given given"), (1, 0, "given other given"),
-    (0, 0, "given given given")))
 IN_RUST = "more empty squares than the solver takes"
 STATUSES_IN_RUST = """
 fn main() {
@@ -161,7 +159,7 @@ def printed_with(compiler, header, folder):
 
 @pytest.mark.parametrize("compiler", [C, CXX], ids=["C", "C++"])
 def test_calls_do_what_the_header_says(compiler):
-    assert printed_with(compiler, PREFIX.header, PREFIX.work) == (NULLS, worked_calls()[1])
+    assert printed_with(compiler, PREFIX.header, PREFIX.work) == ("777", worked_calls()[1])
 
 
 def test_each_wrong_header_is_noticed():
@@ -185,20 +183,23 @@ def test_each_wrong_header_is_noticed():
             printed = printed_with([*C, "-Wno-unused-variable", "-Wno-unused-parameter"], header, header.parent)
         except AssertionError:  # it can't be compiled
             return True
-        return printed != (NULLS, worked_calls()[1])
+        return printed != ("777", worked_calls()[1])
 
     with ThreadPoolExecutor() as pool:
         for number, noticed in enumerate(pool.map(is_noticed, range(len(wrong)))):
             assert noticed, wrong[number]
 
 
-def test_a_call_without_memory_returns_its_status():
-    calls = ("solve {CORNERS} 0 {ENTRIES}", "confirm {CORNERS} 0 {ENTRIES} 62 0 0x80",
-             "move_scores {CORNERS} 0 {ENTRIES}", "solve_all 0 {ENTRIES} 1 {CORNERS}",
-             "move_scores_all 0 {ENTRIES} 1 {CORNERS}", "long_line", "solve {CORNERS} 0 0")
-    calls = [call.format_map(NAMES) for call in calls]
-    printed = PREFIX.called(calls, preexec_fn=limited(RLIMIT_AS=60_000_000))
-    assert printed == ["7"] * 6 + ["0 62/0/80"]
+@pytest.mark.parametrize(("call", "needs_memory"), [
+    ("solve {CORNERS} 0 64", True), ("confirm {CORNERS} 0 64 62 0 0x80", True), ("move_scores {CORNERS} 0 64", True),
+    ("solve_all 0 64 1 {CORNERS}", True), ("move_scores_all 0 64 1 {CORNERS}", True), ("read_line 0 {LISTED}", True),
+    ("solve {CORNERS} 0 0", False),
+])
+def test_a_call_without_memory_returns_its_status(call, needs_memory):
+    """Refuses one of the program's requests for memory after the other; all but one are not the call's."""
+    call = call.format_map(NAMES)
+    found = [PREFIX.called(call, env=preload(PREFIX.work, REFUSED=str(number))) for number in range(1, 6)]
+    assert sorted(found) == sorted([["7"]] * needs_memory + [PREFIX.called(call)] * (5 - needs_memory))
 
 
 def test_the_stack_that_the_header_names_is_enough():
@@ -207,11 +208,11 @@ def test_the_stack_that_the_header_names_is_enough():
     assert "32 KiB are enough for 14 empty squares and 128 KiB for 60" in re.sub(r"\s+", " ", PREFIX.text)
     calls = "solve {} {} 0 1024", "confirm {} {} 1 0 0 0 1", "move_scores {} {} 2 1024", "solve_all 0 1024 1 {} {}"
     calls = [call.format(*position) for position in random_positions(20, [14]) for call in calls]
-    printed = PREFIX.called(calls, env={}, preexec_fn=limited(RLIMIT_STACK=32 << 10))
+    printed = PREFIX.called(*calls, env={}, preexec_fn=limited(RLIMIT_STACK=32 << 10))
     assert [line[:2] for line in printed] == ["0 "] * len(calls)
     with pytest.raises(subprocess.TimeoutExpired):
         call = "solve {START} 0 1024".format_map(NAMES)
-        PREFIX.called([call], env={}, preexec_fn=limited(RLIMIT_STACK=128 << 10), timeout=2)
+        PREFIX.called(call, env={}, preexec_fn=limited(RLIMIT_STACK=128 << 10), timeout=2)
 
 
 def odd_line(chance, lines):
@@ -223,28 +224,27 @@ def odd_line(chance, lines):
     return line
 
 
-def read(source, reader=ffosolve.parse_lines):
-    """Reads `source` by `reader`, a function of the Python package. Returns {line number: row} without blank lines and
-    comments. A row is `OWN OPP SIDE MOVE:SCORE ..`, with masks of 16 hex digits, or `refused: ` and the reason."""
+def read(source, shown, reader=ffosolve.parse_lines):
+    """Reads `source` by `reader`, a function of the Python package. Returns {line number: what `shown` returns for the
+    line's Position or for the error} without blank lines and comments."""
     refused = []
-    rows = {line.number: f"{line.own:016x} {line.opp:016x} {line.side}" + "".join(" %s:%s" % it for it in line.listed)
-            for line in reader(source, refused=refused.append)}
-    return rows | {error.line: "refused: " + str(error).split(": ", 1)[1] for error in refused}
+    found = {line.number: shown(line) for line in reader(source, refused=refused.append)}
+    return found | {error.line: shown(error) for error in refused}
 
 
-def read_in_c(text):
-    """Returns what `read` returns for a text, but reads each line by the library's function ffosolve_read_line."""
-    rows, lines = {}, [line.removesuffix(b"\r") for line in text.split(b"\n")]
-    printed = PREFIX.called(f"read_line 8 {line.hex()}" for line in lines)
-    for number, (status, *words) in enumerate(map(str.split, printed), 1):
-        if status == "0":
-            own, opp, side, _, *listed = words
-            rows[number] = f"{own:0>16} {opp:0>16} {'XO'[int(side)]}"
-            for kind, square, score in (map(int, it.split("/")) for it in listed):
-                rows[number] += f" {('PS', '--')[kind - 1] if kind else ffosolve.square_name(square)}:{score}"
-        elif status != "8":
-            rows[number] = f"refused: {REFUSALS[int(status)](int(words[1]))}"
-    return rows
+def row(it):
+    """Returns `OWN OPP SIDE MOVE:SCORE ..`, with masks of 16 hex digits, or `refused: ` and the reason."""
+    if isinstance(it, ffosolve.LineRefused):
+        return f"refused: {it.reason}"
+    return f"{it.own:016x} {it.opp:016x} {it.side}" + "".join(" %s:%s" % move for move in it.listed)
+
+
+def in_c(it):
+    """Returns what library_calls.c prints for the same line, given room for eight listed moves."""
+    if isinstance(it, ffosolve.LineRefused):
+        return f"{it.status:d} at {it.at}"
+    listed = "".join(f" {MOVES[move]}/{score}" for move, score in it.listed[:8])
+    return f"0 {it.own:x} {it.opp:x} {'XO'.index(it.side)} {len(it.listed)}{listed}"
 
 
 @pytest.fixture(scope="module")
@@ -254,35 +254,32 @@ def text():
 
 
 def test_python_and_c_read_worked_and_odd_lines_alike(text):
-    rows = {number: cell.decode() for number, cell in enumerate(COLUMNS["read"], 1) if cell}
-    for lines, wanted in ((b"\n".join(LINES), rows), (text, read(text))):
-        assert read(lines) == wanted
-        assert read((line + b"\n" for line in lines.split(b"\n")), ffosolve.read_lines) == wanted
-        assert read_in_c(lines) == wanted
+    worked = {number: cell.decode() for number, cell in enumerate(COLUMNS["read"], 1) if cell}
+    for lines, wanted in ((b"\n".join(LINES), worked), (text, read(text, row))):
+        assert read(lines, row) == wanted
+        assert read((line + b"\n" for line in lines.split(b"\n")), row, ffosolve.read_lines) == wanted
+        printed = PREFIX.called(*("read_line 8 " + line.removesuffix(b"\r").hex() for line in lines.split(b"\n")))
+        assert {number: words for number, words in enumerate(printed, 1) if words != "8"} == read(lines, in_c)
 
 
 def test_the_report_of_odd_lines_is_what_python_finds(text):
     ran = run(built(), "--max-empties=20", input=text, check=True, timeout=LONGEST)
     report = ran.stdout.decode().splitlines()[1:-1]
-    solver = ffosolve.Solver(str(PREFIX.shared))
-    assert report == [f"{number} {reported(solver, row)}" for number, row in sorted(read(text).items())]
+    found = read(text, functools.partial(reported, ffosolve.Solver(str(PREFIX.shared))))
+    assert report == [f"{number} {words}" for number, words in sorted(found.items())]
     kinds = {re.sub(r"\d+", "N", row.partition(" ")[2]) if "refused" in row else row.split()[-1] for row in report}
     refused = ("N empties, limit N", "board has N of N squares", "bad square at column N", "bad side at column N")
     assert kinds >= {"agree", "differ", "unlisted", *(f"refused: {why}" for why in refused)}
 
 
-def reported(solver, row):
-    """Returns what ffosolve --max-empties=20 prints after the number of a line for which `read` returns `row`."""
-    if "refused" in row:
-        return row
-    own, opp, _, *listed = row.split()
-    position = ffosolve.Position(int(own, 16), int(opp, 16))
-    if position.empties > 20:
-        return f"refused: {position.empties} empties, limit 20"
-    answer = solver.solve(position)
-    best = str(answer).split()[1].split(",")
-    claims = [(int(score), move) for move, score in (word.split(":") for word in listed)]
-    most, _ = max(claims, default=(None, None))
-    is_right = most == answer.score and all(move in best for score, move in claims if score == most)
-    check = "unlisted" if not claims else "agree" if is_right else "differ"
-    return f"{answer} {check}"
+def reported(solver, it):
+    """Returns what ffosolve --max-empties=20 prints after the line's number."""
+    if isinstance(it, ffosolve.LineRefused):
+        return f"refused: {it.reason}"
+    if it.empties > 20:
+        return f"refused: {it.empties} empties, limit 20"
+    answer = solver.solve(it)
+    most = max((score for _, score in it.listed), default=None)
+    best = {move for move, score in it.listed if score == most}
+    agrees = most == answer.score and best <= set(str(answer).split()[1].split(","))
+    return f"{answer} {'unlisted' if not it.listed else 'agree' if agrees else 'differ'}"

@@ -12,6 +12,8 @@ from tests.support import (ROOT, SECONDS, built, ends, limited, positions, prelo
 
 pytestmark = pytest.mark.usefixtures("folder")
 WORKERS = (0, 1, 3, 64)
+KINDS, SCORES = stored("examples", "kinds.obf"), stored("examples", "kinds.scores")
+DEEP = positions(40, 7, 13)
 HOURS = b"-" * 27 + b"OX------XO" + b"-" * 27 + b" X;\n"  # a position that takes hours
 HARD = b"-XXXXX----XOOX--XXXXOOOO-OXOOOO-OOXOOX--OOX-OOOOOXXXXXX-X----XXX O\n"  # 17 empty squares, 0.2 seconds
 # Positions with two empty squares; all but the last have their scores.
@@ -38,9 +40,6 @@ def test_each_file_and_each_worker_has_a_thread_and_the_report_is_the_same_if_no
         words = ["--workers", workers, *files]
         assert solve(*words) == (wanted, workers + len(files))
         assert solve(*words, preexec_fn=refuse_threads) == (wanted, 0)
-    words += [write(f"{number}.obf", easy) for number in range(2, 64)]
-    wanted, _ = solve(*words)
-    assert solve(*words, preexec_fn=refuse_threads) == (wanted, 0)
 
 
 @pytest.mark.parametrize("workers", (1, 64))
@@ -58,55 +57,36 @@ def test_64_files_with_64_workers_always_have_the_same_report():
         assert solve(*words)[0] == wanted
 
 
-def same(*lists, **how):
-    """Runs ffoscores on `lists` without workers, then with each number of WORKERS and with `how` given to `run`.
-    Asserts that all runs print the same; all but the first end with 1 if a line is refused, otherwise with 0."""
+def shuffled(seed):
+    """Makes two lists of positions that take differently long, and lines that are refused or skipped."""
+    mixed = (positions(40, 1, 9) + positions(24, 10, 11) + positions(6, 12, 13)).splitlines(True)
+    mixed += [b"\n", b"% no position\n", b"XX\n", HOURS] * 3
+    random.Random(seed).shuffle(mixed)
+    return b"".join(mixed[:seed]), b"".join(mixed[seed:])
+
+
+@pytest.mark.parametrize(("lists", "prepare"), [
+    pytest.param([DEEP[:-1], b"", b"\n", KINDS, DEEP[:68], positions(300, 1, 8), KINDS[:-1]], None, id="odd files"),
+    pytest.param([positions(1, 16, 16) + EASY[0] * 9000 + DEEP], None, id="lines that wait for a hard position"),
+    pytest.param([DEEP], refuse_threads, id="no thread can be started"),
+    pytest.param([DEEP], limited(RLIMIT_AS=30_000 * 1024), id="memory for threads runs out"),
+    *(pytest.param(shuffled(seed), None, id=f"shuffled lines {seed}") for seed in range(25)),
+])
+def test_scores_are_the_same_with_any_number_of_workers(lists, prepare):
     words = (built("ffoscores"), *(write(f"{number}.obf", text) for number, text in enumerate(lists)), "--workers")
     printed = run(*words, 0).stdout
     assert printed.count(b"\n") == sum(len(text.splitlines()) for text in lists)
     for workers in WORKERS:
-        ends((int(b"% refused: " in printed), printed, b""), *words, workers, **how)
-
-
-def test_odd_and_deep_files_are_scored_the_same_on_threads():
-    deep, kinds = positions(24, 10, 13), stored("examples", "kinds.obf")
-    one, *others = deep.splitlines(True)
-    same(deep[:-1], b"", b"\n", kinds, one, positions(300, 1, 8), kinds[:-1], b"".join(others[8:]))
-
-
-def test_lines_that_wait_for_a_hard_position_are_printed_in_order():
-    same(positions(1, 16, 16) + EASY[0] * 9000 + positions(8, 10, 12))
-
-
-@pytest.mark.parametrize("prepare", (refuse_threads, limited(RLIMIT_AS=30_000 * 1024)))
-def test_the_output_is_the_same_if_threads_or_their_memory_run_out(prepare):
-    same(positions(40, 7, 13), preexec_fn=prepare)
+        ends((int(b"% refused: " in printed), printed, b""), *words, workers, preexec_fn=prepare)
 
 
 def test_each_of_many_short_runs_ends():
     for _ in range(500):  # one in fifteen hung while a fault left a thread asleep
-        wanted = (1, stored("examples", "kinds.scores"), b"")
-        ends(wanted, built("ffoscores"), "--workers", 3, ROOT / "examples/kinds.obf")
-
-
-@pytest.mark.parametrize("seed", range(25))
-def test_shuffled_lines_are_scored_the_same_on_threads(seed):
-    lines = (positions(40, 1, 9) + positions(24, 10, 11) + positions(6, 12, 13)).splitlines(True)
-    lines += [b"\n", b"% no position\n", b"XX\n", HOURS] * 3
-    mixed = random.Random(seed).sample(lines, len(lines))
-    same(b"".join(mixed[:seed]), b"".join(mixed[seed:]))
+        ends((1, SCORES, b""), built("ffoscores"), "--workers", 3, ROOT / "examples/kinds.obf")
 
 
 def begin(start, text, *words):
     return start(built("ffoscores"), "--max-empties", "60", *words, write("list.obf", text))
-
-
-@pytest.mark.parametrize("empties", (10, 11, 12))
-def test_lines_that_take_a_millisecond_are_scored_on_threads_too(start, empties):
-    program = begin(start, positions(40, empties, empties) * 25, "--workers", "4", "--table", "0")
-    wait_until(lambda: threads_of(program) >= 3)
-    program.communicate(timeout=5 * SECONDS)  # for a busy machine
-    assert program.returncode == 0
 
 
 @pytest.mark.parametrize("workers", WORKERS)
@@ -150,7 +130,8 @@ def lines(empties, count=8):
     pytest.param(lines(16), 8, id="each line of 16 empty squares has a thread"),
     pytest.param(lines(12), 8, id="and of 12"),
     pytest.param(lines(11, 9), 2, id="eight lines of 11 share a thread"),
-    pytest.param(lines(8), 1, id="and of 8"),
+    pytest.param(lines(10, 40), 5, id="forty of 10 have five"),
+    pytest.param(lines(8), 1, id="eight lines of 8 have one"),
     pytest.param(lines(7), 0, id="a line of 7 has none"),
     pytest.param(lines(10, 3) + lines(12, 2) + lines(10, 3), 4, id="a line of 12 has one behind and before others"),
     pytest.param(b"".join(b" \t" * 32 + line for line in lines(12).splitlines(True)), 8, id="blanks don't count"),

@@ -8,7 +8,7 @@ import pytest
 from ffosolve import MOST_ENTRIES, Position
 from ffosolve._library import CAnswer, CMoveScores, load
 from ffosolve._rules import c_positions
-from tests.prefix import PREFIX, TESTS, C, installed  # noqa: F401 - a fixture
+from tests.prefix import PREFIX, installed  # noqa: F401 - a fixture
 from tests.support import built, ends, limited, run, stored, write
 
 KINDS = stored("examples", "kinds.obf").decode()
@@ -74,8 +74,8 @@ def masks(line):
 
 def spent_by(*calls):
     """Returns the seconds of each call, which is written as in tests/library_calls.c."""
-    program = PREFIX.compile(C, "calls", [TESTS / "library_calls.c"])
-    return [seconds(lambda: PREFIX.make(program, text=call)) for call in calls]
+    assert PREFIX.caller  # compiles
+    return [seconds(lambda: PREFIX.called(call)) for call in calls]
 
 
 @pytest.mark.parametrize("call", [

@@ -23,7 +23,6 @@ mod positions;
 pub mod raw;
 mod solvers;
 mod squares;
-mod symmetries;
 mod transcripts;
 
 pub use errors::{Error, ObfError};
@@ -31,6 +30,5 @@ pub use lines::{Line, Listed, Side};
 pub use positions::Position;
 pub use solvers::{library_version, table_entries, Answer, Best, Scoring, Solver};
 pub use solvers::{DEFAULT_EMPTIES, MOST_EMPTIES, MOST_ENTRIES};
-pub use squares::{Square, SquareError, Squares};
-pub use symmetries::Symmetry;
+pub use squares::{Square, SquareError, Squares, Symmetry};
 pub use transcripts::TranscriptError;

@@ -1,5 +1,5 @@
 //! A position, and the rules of the game.
-use crate::{raw, Error, Line, ObfError, Square, Squares};
+use crate::{raw, Error, Line, ObfError, Square, Squares, Symmetry};
 
 /// The discs of the mover, which is the side to move, and those of the other side. No square has both.
 #[repr(C)] // laid out as `raw::Position`
@@ -92,6 +92,24 @@ impl Position {
             0 => Position::new(after.own, after.opp),
             _ => Err(Error::NoMove),
         }
+    }
+
+    /// The position after a symmetry of the board; the side to move stays. Its score is the same, and the images of the
+    /// best moves are its best moves.
+    #[must_use]
+    pub fn image(self, symmetry: Symmetry) -> Position {
+        Position { own: self.own().image(symmetry).0, opp: self.opp().image(symmetry).0 }
+    }
+
+    /// The canonical position, which is the same for all eight images of a position, and which books hold; and the
+    /// first symmetry, in the order of `Symmetry::ALL`, that leads to it. It is the image whose mask of the mover's
+    /// discs is the least number, and if several have it, whose other mask is.
+    pub fn canonical(self) -> (Position, Symmetry) {
+        let (mut canonical, mut symmetry) = (raw::Position::default(), 0);
+        // SAFETY: the pointers are to a position and a number of this call's own.
+        let status = unsafe { raw::ffosolve_canonical(self.raw(), &mut canonical, &mut symmetry) };
+        debug_assert_eq!(status, 0, "the masks of a position share no square");
+        (Position { own: canonical.own, opp: canonical.opp }, Symmetry::ALL[symmetry as usize])
     }
 
     pub(crate) const fn raw(self) -> raw::Position {

@@ -1,5 +1,7 @@
-//! Squares, and sets of them.
+//! Squares, sets of them, and their images under the symmetries of the board.
+use crate::raw;
 use std::fmt;
+use Symmetry::*;
 
 /// A square: A1 is number 0, B1 is 1, H1 is 7, A2 is 8, H8 is 63.
 #[derive(Clone, Copy, PartialEq, Eq, PartialOrd, Ord, Hash)]
@@ -21,6 +23,12 @@ impl Square {
     /// The square's bit in a mask.
     pub const fn bit(self) -> u64 {
         1 << self.0
+    }
+
+    /// The square to which a symmetry sends this one.
+    #[must_use]
+    pub fn image(self, symmetry: Symmetry) -> Square {
+        Squares(self.bit()).image(symmetry).next().unwrap_or(self)
     }
 }
 
@@ -78,7 +86,17 @@ impl Squares {
     }
 
     pub const fn contains(self, square: Square) -> bool {
-        self.0 >> square.0 & 1 == 1
+        self.0 & square.bit() != 0
+    }
+
+    /// The squares to which a symmetry sends these.
+    #[must_use]
+    pub fn image(self, symmetry: Symmetry) -> Squares {
+        let mut image = 0;
+        // SAFETY: the pointer is to a number of this call's own.
+        let status = unsafe { raw::ffosolve_image(self.0, symmetry as u32, &mut image) };
+        debug_assert_eq!(status, 0, "the library knows eight symmetries");
+        Squares(image)
     }
 }
 
@@ -108,5 +126,42 @@ impl fmt::Display for Squares {
 impl fmt::Debug for Squares {
     fn fmt(&self, f: &mut fmt::Formatter<'_>) -> fmt::Result {
         write!(f, "Squares({self})")
+    }
+}
+
+/// A rotation or reflection of the board, named for what it does to the square in column c and row r, both from 0.
+#[derive(Clone, Copy, PartialEq, Eq, Hash, Debug)]
+pub enum Symmetry {
+    /// (c, r) stays.
+    Identity = 0,
+    /// (c, r) goes to (7 - c, r).
+    FlipColumns = 1,
+    /// (c, r) goes to (c, 7 - r).
+    FlipRows = 2,
+    /// (c, r) goes to (7 - c, 7 - r).
+    HalfTurn = 3,
+    /// (c, r) goes to (r, c).
+    Transpose = 4,
+    /// (c, r) goes to (7 - r, c).
+    TurnRight = 5,
+    /// (c, r) goes to (r, 7 - c).
+    TurnLeft = 6,
+    /// (c, r) goes to (7 - r, 7 - c).
+    AntiTranspose = 7,
+}
+
+impl Symmetry {
+    /// All eight, in the order of their numbers in `ffosolve.h`.
+    pub const ALL: [Symmetry; 8] =
+        [Identity, FlipColumns, FlipRows, HalfTurn, Transpose, TurnRight, TurnLeft, AntiTranspose];
+
+    /// The symmetry that undoes this one.
+    #[must_use]
+    pub const fn inverse(self) -> Symmetry {
+        match self {
+            TurnRight => TurnLeft,
+            TurnLeft => TurnRight,
+            _ => self,
+        }
     }
 }
