@@ -12,6 +12,7 @@ import threading
 import time
 from concurrent.futures import thread as executors
 
+import psutil
 import pytest
 
 import ffosolve
@@ -46,20 +47,17 @@ def solver():
     return Solver(max_empties=60)
 
 
-def stat(task):
-    """Returns what the system says of a process or thread (proc(5)), beginning with its state, such as R or Z."""
-    with contextlib.suppress(FileNotFoundError, ProcessLookupError), open(f"/proc/{task}/stat") as text:
-        return text.read().rpartition(")")[2].split()
-    return ["gone"]
+def state(task):
+    """Returns the state of a process or thread, such as psutil.STATUS_RUNNING; psutil.STATUS_ZOMBIE if it has ended."""
+    with contextlib.suppress(psutil.NoSuchProcess):
+        return psutil.Process(task).status()
+    return psutil.STATUS_ZOMBIE
 
 
-def children(states="RSDT"):
-    """Returns the process IDs of this process's children in one of some states; Z are those that have ended."""
-    found = []
-    for task in os.listdir("/proc/self/task"):
-        with contextlib.suppress(FileNotFoundError), open(f"/proc/self/task/{task}/children") as listed:
-            found += map(int, listed.read().split())
-    return sorted(process for process in found if stat(process)[0] in states)
+def children():
+    """Returns the process IDs of this process's children that have not ended."""
+    found = (child.pid for child in psutil.Process().children())
+    return sorted(child for child in found if state(child) != psutil.STATUS_ZOMBIE)
 
 
 def kept():
@@ -69,20 +67,22 @@ def kept():
 def working():
     """Returns the threads of this process and of its children that want a processor, but not the thread that asks."""
     found = []
-    for process in (os.getpid(), *children()):
-        with contextlib.suppress(FileNotFoundError, ProcessLookupError):
-            found += [f"{process}/task/{task}" for task in os.listdir(f"/proc/{process}/task")]
-    return [task for task in found if stat(task)[0] == "R" and task.split("/")[-1] != str(threading.get_native_id())]
+    for process in (psutil.Process(), *psutil.Process().children()):
+        with contextlib.suppress(psutil.NoSuchProcess):
+            found += [thread.id for thread in process.threads()]
+    return [it for it in found if state(it) == psutil.STATUS_RUNNING and it != threading.get_native_id()]
 
 
 def worked():
     """Returns for how many seconds processors have worked for this process's children, also for those that have ended,
     and for its threads, but not for the thread that asks."""
-    ended = None
+    ended, running = None, 0
     while ended != os.times()[2:4]:  # otherwise one that has ended meanwhile might count twice or never
-        ended = os.times()[2:4]
-        ticks = sum(int(part) for process in children("RSDTZ") for part in stat(process)[11:13])
-    return time.process_time() - time.thread_time() + sum(ended) + ticks / os.sysconf("SC_CLK_TCK")
+        ended, running = os.times()[2:4], 0
+        for child in psutil.Process().children():
+            with contextlib.suppress(psutil.NoSuchProcess):
+                running += sum(child.cpu_times()[:2])
+    return time.process_time() - time.thread_time() + sum(ended) + running
 
 
 def wait_until(holds, *why, most=LATE):
@@ -108,9 +108,9 @@ def by_timeout(call):
 class Left(Exception):
     """What the handler of a signal raises."""
 
-    @classmethod
-    def leave(cls, *_):
-        raise cls
+
+def leave(*_):
+    raise Left
 
 
 @contextlib.contextmanager
@@ -125,7 +125,7 @@ def timer(seconds, call, *given):
 
 
 def by_signal(call):
-    before = signal.signal(signal.SIGALRM, Left.leave)
+    before = signal.signal(signal.SIGALRM, leave)
     with pytest.raises(Left):
         signal.setitimer(signal.ITIMER_REAL, 0.3)
         call()
@@ -316,7 +316,7 @@ def test_processes_are_kept_and_used_again(solver):
     assert process in kept() and 2 <= len(kept()) <= min(3, os.cpu_count())
     solver.solve_all([HARD] * 9, threads=9)
     assert len(kept()) <= os.cpu_count()
-    wait_until(lambda: children() == kept(), children, kept)  # a child of a thread that ends is listed late
+    assert children() == kept()
 
 
 def test_calls_of_several_threads_do_not_stop_each_other(solver):
@@ -359,7 +359,7 @@ def test_an_ended_process_is_reported_and_the_next_call_starts_another(name, thr
 
 def test_left_calls_keep_no_descriptors_and_no_dead_processes(solver):
     def all_kept():
-        return len(os.listdir("/proc/self/fd")), children("RSDTZ")
+        return psutil.Process().num_fds(), len(psutil.Process().children())
 
     before = all_kept()
     for _ in range(20):
@@ -419,7 +419,7 @@ def ran(code, **how):
     "    begin(); os.kill(os.getpid(), signal.SIGKILL)"])
 def test_the_processes_end_with_the_program(code):
     (process,) = map(int, ran(code).stdout.split())
-    wait_until(lambda: stat(process)[0] in ("Z", "gone"))
+    wait_until(lambda: state(process) == psutil.STATUS_ZOMBIE)
 
 
 def test_a_program_that_does_not_catch_ctrl_c_ends():

@@ -6,10 +6,10 @@ from typing import (
     Any, BinaryIO, Callable, Dict, Iterable, Iterator, List, Mapping, NamedTuple, Optional, Tuple, Type, TypeVar, Union)
 
 from ._answers import Answer, Kind, Scoring
-from ._boards import OTHER, Board, checked_score, checked_side
+from ._boards import OTHER, SIDES, Board, checked_score, checked_side
 from ._library import CAnswer, CPosition, loaded, search
 from ._refusals import BadSide, BadSquare, LineRefused, NoMemory, NoMove, NoPosition, ShortBoard, Status
-from ._rules import accept, c_position, c_positions, checked_positions, empties_of, illegal_move, moves, size_of
+from ._rules import accept, c_position, c_positions, checked_positions, empties_of, moves, size_of
 from ._squares import NAMES, number_of, square_names, square_of
 from ._symmetries import Symmetry, canonical_form, image
 from ._transcripts import PASSES, words_of
@@ -272,6 +272,14 @@ def played(position: P, moves: Iterable[Union[int, str]]) -> Iterator[P]:
                 raise
             position = position.passed().play(move)
         yield position
+
+
+def illegal_move(position: Position, move: str) -> NoMove:
+    """The refusal of an illegal move. Its text names `move`, and ends with the board and the side as an OBF line."""
+    mover = SIDES[position.side]
+    without = ": the game is over" if position.is_over else f": {mover} has to pass"
+    why = f" for {mover}" if position.legal_moves else without
+    return NoMove(reason=f"{move} is not a legal move{why} in {position.to_obf()}")
 
 
 def following(before: P, own: int, opp: int, move: str) -> P:

@@ -5,9 +5,8 @@ import itertools
 import reprlib
 from typing import Any, Callable, Iterable, Optional, Sequence
 
-from ._boards import SIDES, Board
 from ._library import CPosition, loaded
-from ._refusals import NoMove, SharedSquare, Status, TooManyEmpties, refusal_of
+from ._refusals import SharedSquare, Status, TooManyEmpties, refusal_of
 
 WRONG_MASK = "a mask is a number from 0 to 2**64 - 1"
 # How many squares a mask has; `bit_count` came with Python 3.10.
@@ -65,15 +64,6 @@ def moves(position: Sequence[int]) -> int:
     found = ctypes.c_uint64()
     accept(loaded().ffosolve_moves(c_position(position), found))
     return found.value
-
-
-def illegal_move(position: Sequence[int], move: str) -> NoMove:
-    """The refusal of an illegal move. Its text names `move`, and ends with the board and the side as an OBF line."""
-    (own, opp), side = position, getattr(position, "side", "X")
-    why = f" for {SIDES[side]}"
-    if not moves(position):
-        why = f": {SIDES[side]} has to pass" if moves((opp, own)) else ": the game is over"
-    return NoMove(reason=f"{move} is not a legal move{why} in {Board(own, opp, side).to_obf()}")
 
 
 def accept(status: int) -> None:
