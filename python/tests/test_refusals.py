@@ -5,7 +5,7 @@ import pytest
 
 import ffosolve
 from ffosolve import (
-    START, Board, NoMove, Position, SharedSquare, Solver, TooManyEntries, UnknownScoring,
+    START, Answer, Board, Kind, NoMove, Position, SharedSquare, Solver, TooManyEntries, UnknownScoring,
     UnknownSymmetry, parse_lines, read_lines, square_name, square_names, square_number)
 
 LINE = "-OXXXXX-XXXXXXXOXXXXXXXXXXXXXXXXXXXOXXXXXXXXXXXXXXXXXXXXXXXXXXXX X; H1:+62; ps:-4;"
@@ -76,6 +76,7 @@ REFUSED = [
     (TypeError, "the score of A1 is a number, not 'x'", lambda: POSITION.to_obf(moves={"A1": "x"})),
     *((TypeError, CLAIM + text, lambda it=it: Solver().confirm(POSITION, it)) for it, text in (
         (62, "62"), (None, "None"), ((62, 0, 128), "(62, 0, 128)"), (POSITION.listed, "(('H1', 62), ('PS', -4))"))),
+    (TypeError, None, lambda: Solver().confirm(POSITION, Answer(0.5, Kind.MOVES, 1))),
     *((TypeError, TEXT + type(it).__name__, lambda it=it: Position.from_obf(it)) for it in (5, None, ["a"])),
     *((TypeError, TEXT + type(it).__name__, lambda it=it: list(parse_lines(it))) for it in (5, None, ["a"])),
     *((TypeError, LINES + what, lambda it=it: read_lines(it)) for it, what in (

@@ -217,7 +217,7 @@ class Solver:
         `part`. Raises `part` if it is a Refused, and another if the library refuses the call."""
         if isinstance(part, Refused):
             raise part
-        found = (record * len(part.positions))(*claim)
+        found = (record * len(part.positions))(*(CAnswer(*it) for it in claim))
         self._search(run, name, c_positions(part.positions), found, part.empties)
         return found
 
