@@ -16,8 +16,6 @@ pytest.register_assert_rewrite("tests.support", "tests.games", "tests.many")
 
 ROOT = Path(__file__).parent
 PR_SET_CHILD_SUBREAPER = 36  # of prctl(2)
-LONGEST = ["test_crates", "test_clients", "test_dist", "test_documents", "test_install", "test_many_cluster",
-           "test_threads", "test_rows", "test_slurm", "test_many_folder", "test_runner", "test_stopping"]
 
 
 def pytest_configure():
@@ -103,11 +101,6 @@ def pytest_runtest_makereport():
 
 
 pytest_make_collect_report = pytest_runtest_makereport
-
-
-def pytest_collection_modifyitems(items):
-    """Puts the modules that take longest first, so that no processor is left with one of them at the end."""
-    items.sort(key=lambda item: LONGEST.index(item.path.stem) if item.path.stem in LONGEST else len(LONGEST))
 
 
 def pytest_sessionstart(session):
