@@ -80,16 +80,18 @@ def shown(language, *names):
 
 
 def answers_of(*command, count=LARGE):
-    """Runs an example program three times: for the first `count` lines of examples/masks.txt, for two positions of
-    which the first has two best moves, and for two of which the second is refused. Asserts what it prints."""
+    """Asserts what an example program prints: for the first `count` lines of examples/masks.txt; for two positions of
+    which the first has two best moves; for none; and for a position that is refused or not written as two masks."""
     masks, answers = (stored("examples", f"{name}.txt").decode().splitlines(True) for name in ("masks", "answers"))
     ran = PREFIX.run(*command, text="".join(masks[:count]))
     assert (ran.returncode, ran.stdout) == (0, "".join(answers[:count] + answers[LARGE:])), ran.stderr
     ran = PREFIX.run(*command, text=masks[2] + "fffffff8 7fffffff00000007\n")
     assert ran.stdout == answers[2] + "+08 H8\nA1 of A1,H1\nPS\nH1 of H1\n", ran.stderr
-    ran = PREFIX.run(*command, text=masks[0] + "3 2\n")
-    assert (ran.returncode, ran.stdout) == (1, "")
-    assert "position 2: the masks share a square" in ran.stderr
+    ran = PREFIX.run(*command)
+    assert (ran.returncode, ran.stdout, ran.stderr) == (0, "", "")
+    for wrong, why in (("3 2", "position 2: the masks share a square"), ("1 x", ""), ("3", "")):
+        ran = PREFIX.run(*command, text=f"{masks[0]}{wrong}\n")
+        assert (ran.returncode, ran.stdout, why in ran.stderr) == (1, "", True), ran
 
 
 def test_examples_in_c_and_cxx_are_built_by_pkg_config():

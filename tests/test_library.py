@@ -215,15 +215,6 @@ def test_the_stack_that_the_header_names_is_enough():
         PREFIX.called(call, env={}, preexec_fn=limited(RLIMIT_STACK=128 << 10), timeout=2)
 
 
-def odd_line(chance, lines):
-    """Returns a random line of `lines` with up to three PIECES, each inserted or put in place of some bytes."""
-    line = chance.choice(lines)
-    for _ in range(chance.randrange(4)):
-        at = chance.choice((chance.randrange(64), chance.randrange(64, 80)))
-        line = line[:at] + chance.choice(PIECES) + line[at + chance.choice((0, 0, 1, 5, 99)):]
-    return line
-
-
 def read(source, shown, reader=ffosolve.parse_lines):
     """Reads `source` by `reader`, a function of the Python package. Returns {line number: what `shown` returns for the
     line's Position or for the error} without blank lines and comments."""
@@ -249,8 +240,15 @@ def in_c(it):
 
 @pytest.fixture(scope="module")
 def text():
+    """Random lines of LINES with up to three PIECES, each inserted or put in place of some bytes."""
     chance = random.Random(5)
-    return b"\n".join(odd_line(chance, LINES) for _ in range(10_000))
+    lines = chance.choices(LINES, k=10_000)
+    for number, line in enumerate(lines):
+        for _ in range(chance.randrange(4)):
+            at = chance.choice((chance.randrange(64), chance.randrange(64, 80)))
+            line = line[:at] + chance.choice(PIECES) + line[at + chance.choice((0, 0, 1, 5, 99)):]
+        lines[number] = line
+    return b"\n".join(lines)
 
 
 def test_python_and_c_read_worked_and_odd_lines_alike(text):

@@ -20,10 +20,6 @@ HARD = b"-XXXXX----XOOX--XXXXOOOO-OXOOOO-OOXOOX--OOX-OOOOOXXXXXX-X----XXX O\n"  
 EASY = [*stored("examples", "first.obf").splitlines(True)[1:], b"--OOOOO" + b"X" * 57 + b" X\n"]
 
 
-def threads_of(process):
-    return len(os.listdir(f"/proc/{process.pid}/task"))
-
-
 def solve(*words, **how):
     """Runs ffosolve, with its book on standard error. Returns ((report, book), the number of threads that it started).
     """
@@ -95,9 +91,9 @@ def test_n_workers_score_n_plus_one_lines_at_once_and_print_each_as_soon_as_thos
     program = begin(start, b"".join([*known, HOURS, EASY[0], HOURS * 70]), "--workers", workers)
     assert [program.stdout.readline()[:66] for _ in known] == [line[:66] for line in known]
     threads = workers + 2 if workers else 1  # 0 workers start no thread
-    wait_until(lambda: threads_of(program) >= threads)
+    wait_until(lambda: len(os.listdir(f"/proc/{program.pid}/task")) >= threads)
     time.sleep(1)  # in which one thread too many could start
-    assert threads_of(program) == threads
+    assert len(os.listdir(f"/proc/{program.pid}/task")) == threads
     program.send_signal(signal.SIGINT)
     assert (program.stdout.read(), program.wait(SECONDS)) == (b"", -signal.SIGINT)
 

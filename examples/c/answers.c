@@ -11,16 +11,15 @@
 
 enum { MOST_POSITIONS = 1000, ENTRIES = 65536 };
 
-static ffosolve_position positions[MOST_POSITIONS];
+static ffosolve_position positions[MOST_POSITIONS + 1];
 static ffosolve_answer answers[MOST_POSITIONS];
 
-static size_t read_positions(void) {
-    size_t count = 0;
-    while (count < MOST_POSITIONS
-           && scanf("%" SCNx64 " %" SCNx64, &positions[count].own, &positions[count].opp) == 2) {
-        count++;
+/* Reads positions, and sets how many; returns whether they end the input and are at most MOST_POSITIONS. */
+static int read_positions(size_t *count) {
+    for (*count = 0;; ++*count) {
+        int masks = scanf("%" SCNx64 " %" SCNx64, &positions[*count].own, &positions[*count].opp);
+        if (masks != 2 || *count == MOST_POSITIONS) return masks == EOF;
     }
-    return count;
 }
 
 static void print_squares(uint64_t mask) {
@@ -74,8 +73,13 @@ static int32_t play_on(ffosolve_position position) {
 }
 
 int main(void) {
-    size_t count = read_positions(), at = 0;
-    int32_t status = ffosolve_solve_all(positions, count, FFOSOLVE_WINNER, ENTRIES, answers, count, &at);
+    size_t count, at = 0;
+    int32_t status;
+    if (!read_positions(&count)) {
+        fprintf(stderr, "position %zu: not two masks, or one position too many\n", count + 1);
+        return 1;
+    }
+    status = ffosolve_solve_all(positions, count, FFOSOLVE_WINNER, ENTRIES, answers, count, &at);
     if (status != FFOSOLVE_DONE) {
         fprintf(stderr, "position %zu: %s\n", at + 1, ffosolve_status_text(status));
         return 1;

@@ -30,7 +30,8 @@ def main():
         print(answer)
         if solver.confirm(position, answer) != answer:
             sys.exit("not confirmed")
-    play_on(solver, positions[0])
+    for first in positions[:1]:
+        play_on(solver, first)
 
 
 try:
