@@ -88,8 +88,9 @@ fn transcripts_are_played() {
     let (start, last) = (Position::start(), positions[positions.len() - 1]);
     assert!(moves.contains(&"--".to_owned()));
     let without_passes = moves.concat().replace("--", "");
-    let numbered: String = moves.iter().enumerate().map(|(at, word)| format!("{}. {word},", at + 1)).collect();
-    let glued = numbered.replace(". ", ".").replace(',', "");
+    let number = |at| format!("{}{}", at + 1, [".", ")", ":"][at % 3]);
+    let numbered: String = moves.iter().enumerate().map(|(at, word)| format!("{} {word},", number(at))).collect();
+    let glued = numbered.replace([' ', ','], "");
     let texts = [moves.join(" "), without_passes.to_lowercase(), moves.join("-"), numbered + "33-31 % f5",
         format!("[Event \"f5\"] [Black \"Ann\"]\n{glued} (40:24)"), glued.replace("--", "pass") + "---PA"];
     for text in texts {
