@@ -1,4 +1,5 @@
-"""Games for tests: transcripts, records of WTHOR files, books with their exact scores, and runs of ffosolve-games.
+"""Games for tests: transcripts, records of WTHOR files, books with their exact scores, and runs of ffosolve-games; and
+random positions.
 
 A position is (own, opp, is_black): the masks of the mover's and the other side's discs, and whether Black moves. In a
 WTHOR file, a game has two scores, in Black's discs: theoretical, after perfect play from a position, and real."""
@@ -8,6 +9,7 @@ import sys
 
 from bench import player
 from tests.support import ROOT, run, write
+from ffosolve import Position
 
 PROGRAM = ROOT / "bin/ffosolve-games"
 NAMES = [column + row for row in "12345678" for column in "ABCDEFGH"]
@@ -19,6 +21,16 @@ def random_games(count, seed):
     rng = random.Random(seed)
     games = (player.random_game(rng) for _ in range(count))
     return [[move.bit_length() - 1 if move else None for *_, move in game][1:] for game in games]
+
+
+def random_positions(count, empties):
+    """Returns a list of `count` Positions from random games, with numbers of empty squares from `empties`, in turn."""
+    rng, found = random.Random(1), []
+    while len(found) < count:
+        discs = 64 - empties[len(found) % len(empties)]
+        at = [(own, opp) for own, opp, *_ in player.random_game(rng) if (own | opp).bit_count() == discs]
+        found += [Position(*masks) for masks in at[:1]]
+    return found
 
 
 def positions_of(squares):

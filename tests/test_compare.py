@@ -12,7 +12,6 @@ from unittest import mock
 import pytest
 
 from bench import player
-from tests import positions  # noqa: F401 - sets FFOSOLVE_LIBRARY
 from tests.games import PROGRAM, book_of, discs_of_black, games, positions_of, random_games, record, wthor
 from tests.support import ROOT, SECONDS, built, limited, run, stored, wait_until, write
 from ffosolve import Position, read_games

@@ -12,7 +12,6 @@ import textwrap
 import pytest
 
 from bench import player
-from tests import positions  # noqa: F401 - sets FFOSOLVE_LIBRARY
 from tests.games import (AT, GAME, GAME_RECORD, NAMES, PROGRAM, SQUARE_BYTES, discs_of_black, games, line_of,
                          positions_of, random_games, reads, real_score, record, squares_of, transcript, wthor)
 from tests.support import run, write

@@ -12,7 +12,7 @@ import pytest
 
 import ffosolve
 from ffosolve._refusals import refusal_of
-from tests.positions import random_positions
+from tests.games import random_positions
 from tests.prefix import CXX, LONGEST, NUMBER, PREFIX, STRICT, TESTS, VERSION, C, installed  # noqa: F401 - a fixture
 from tests.support import built, limited, need, need_module, preload, run, worked_rows
 

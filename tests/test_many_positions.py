@@ -7,7 +7,7 @@ from unittest import mock
 
 import pytest
 
-from .positions import random_positions
+from .games import random_positions
 from .support import ROOT, SECONDS, run, wait_until
 import ffosolve
 from ffosolve import Answer, Position, Solver

@@ -9,7 +9,7 @@ import pytest
 from bench import player
 
 from .support import SECONDS, built, ends
-from .positions import random_positions
+from .games import random_positions
 from ffosolve import Answer, Kind, NoMove, Scoring, Solver, square_name
 
 POSITIONS, MOST, DEEP = int(os.environ.get("POSITIONS", 2000)), int(os.environ.get("MOST", 6)), 40

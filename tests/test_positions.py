@@ -13,7 +13,6 @@ from bench import player
 
 from .support import ROOT, built, need, run
 from .games import NAMES, positions_of, random_games, squares_of, transcript
-from . import positions  # noqa: F401 - sets FFOSOLVE_LIBRARY
 import ffosolve
 from ffosolve import Position, Scoring, Solver
 

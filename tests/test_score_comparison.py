@@ -4,7 +4,6 @@ from pathlib import Path
 
 import pytest
 
-from tests import positions  # noqa: F401 - sets FFOSOLVE_LIBRARY
 from tests.support import built, run, stored, write
 from ffosolve import WrongScore, compare_scores
 
