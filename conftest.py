@@ -20,8 +20,8 @@ PR_SET_CHILD_SUBREAPER = 36  # of prctl(2)
 
 def pytest_configure():
     """Makes this process the parent of programs whose parent ends. What would have to be proved is refused by
-    scripts/prove. The package for Python calls the library of the checkout. Variables of a git hook go, new files have the usual modes, and the signals below interrupt the tests
-    and end programs, as at a login."""
+    scripts/prove. The package for Python calls the library of the checkout. Variables of a git hook go, new files have
+    the usual modes, and the signals below interrupt the tests and end programs, as at a login."""
     os.environ["PROVE"] = "no"
     os.environ.setdefault("FFOSOLVE_LIBRARY", str(ROOT / "out/library/libffosolve.so"))
     for name in [name for name in os.environ if name.startswith("GIT_")]:
