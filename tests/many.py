@@ -33,7 +33,7 @@ if b"FAIL" in text:
 if b"KILL" in text:
     os.kill(os.getppid(), signal.SIGKILL)
 if is_part:
-    is_last = len(glob.glob("results/???????")) >= int(places.get("LAST", 10_000))
+    is_last = len(glob.glob("work/results/???????")) >= int(places.get("LAST", 10_000))
     time.sleep(45 if is_last else float(places.get("PAUSE", 0)))
 spoil = places.get("SPOIL" if is_part else "SPOIL_KNOWN")
 if not spoil:

@@ -141,8 +141,9 @@ def test_a_book_that_may_not_be_written_is_not_replaced(case):
     write("joined.book", "% ffobook 2 winner\n", 0o444)
     case.refused(3, "cannot write joined.book: permission denied\n", *WORDS, **NOBODY)
     Path("joined.book").unlink()
-    change = "    run.sweep()\n    open('joined.book', 'w').close(), os.chmod('joined.book', 0o444)\n"
-    by = case.install("forbidding", ("command", "    run.sweep()\n", change))  # makes a book once the parts are solved
+    printed = "    print_all(run.output())\n"  # at the same time, the book is made
+    change = "    open('joined.book', 'w').close(), os.chmod('joined.book', 0o444)\n"
+    by = case.install("forbidding", ("command", printed, printed + change))
     case.many(*WORDS, by=by, status=3, output=case.one,
               message="cannot write joined.book: Permission denied\n", **NOBODY)
     assert Path("joined.book").read_bytes() == b""
@@ -173,13 +174,13 @@ def test_output_that_fails_is_reported_and_closed_or_full_errors_do_no_harm(case
         case.many("-c", f'exec "{case.MANY}" {place} list.obf {streams}', by="sh")
 
 
-@pytest.mark.parametrize("message, limits, who", [
-    ("28 of 300 jobs work at a time, since no more than 256 files may be open (ulimit -n)", {"RLIMIT_NOFILE": 256}, {}),
-    (" of 900 jobs work at a time, since no more processes may be started (ulimit -u)", {"RLIMIT_NPROC": 400}, NOBODY)])
-def test_jobs_are_limited_by_the_files_and_processes_that_there_may_be(case, message, limits, who):
+@pytest.mark.parametrize("count, limits, who", [("2. of 300", {"RLIMIT_NOFILE": 256}, {}),
+                                                ("[0-9]+ of 900", {"RLIMIT_NPROC": 400}, NOBODY)])
+def test_jobs_are_limited_by_the_files_and_processes_that_there_may_be(case, count, limits, who):
     case.folder.chmod(0o777)
-    jobs = re.search("of ([39]00) jobs", message)[1]
-    case.many("--jobs", jobs, "--lines=1", *WORDS[1:], message=message, preexec_fn=limited(**limits), **who)
+    told = case.many("--jobs", count[-3:], "--lines=1", *WORDS[1:], preexec_fn=limited(**limits), **who)
+    assert re.search(f": {count} jobs work at a time, since no more files or processes are allowed", told)
+    assert "failed" not in told
 
 
 # (status, message, *command line)
@@ -317,7 +318,7 @@ def test_more_books_than_may_be_open_are_merged_and_the_program_runs_once(case):
     case.many("--merge-books", *names, output=whole, by=case.ACTS, places={"WORDS": "words"}, **few)
     assert Path("words").read_text().count("--book-in=") == 1
     other = header + b"% X\n" + entries[30][:64] + entries[30][64:].translate(bytes.maketrans(b"+-", b"-+"))
-    case.refused(3, "- line 3 and 30.book line 2 disagree: ", "--merge-books", *names, "-", input=other, **few)
+    case.refused(3, "30.book line 2 and - line 3 disagree: ", "--merge-books", *names, "-", input=other, **few)
 
 
 def test_a_book_in_another_spelling_is_merged(case):
@@ -327,7 +328,7 @@ def test_a_book_in_another_spelling_is_merged(case):
 
 
 def test_the_merged_book_is_checked_before_it_is_written(case):
-    by = case.install("misprinting", ("command", "whole.seek(0)", "whole.write(b'no entry\\n'); whole.seek(0)"))
+    by = case.install("misprinting", ("command", "book\", whole)", "book\", whole + b'no entry\\n')"))
     case.many("--merge-books", "one.book", by=by, status=3, message="the merged book: book line 62: bad square")
 
 
@@ -358,8 +359,8 @@ def test_an_entry_of_a_book_has_the_greatest_score_of_its_line_and_the_moves_wit
                           (b" A1:+02; B1:-04;", b" A1:+02;"), (b" A2:+02; B1:+02;", b" B1:+02; A2:+02;"),
                           (b" PS:+04; A1:+04;", b" A1:+04;"), (b" A1:+02; A1:+02;", b" A1:+02;")):
         lines = [b"\n", b" \t\r\n", b"% X\n", head + fields + b"\n"]
-        ((_, place, line),) = books.entries_of(lines, "it")
-        assert (line, place) == (head + claim + b"\n", ("it", 4)), fields
+        ((number, _, line),) = books.entries_of(lines)
+        assert (number, line) == (4, head + claim + b"\n"), fields
 
 
 # Seconds that bench/peer.rs took for each part of 264 positions with 8 to 18 empty squares, six in a part.
@@ -379,16 +380,17 @@ def clock(monkeypatch):
 
 def progress(texts, lines=1):
     """Returns an engine.Progress (what is left to do) for parts of a list, `texts`, each taken as `lines` lines."""
-    a_run = folder.Run.__new__(folder.Run)
-    a_run.parts, a_run.lines, a_run.count = len(texts), lines, len(texts) * lines
-    a_run.weights = [folder.weight_of(text, 20) for text in texts]
-    return engine.Progress(a_run, range(len(texts)))
+    one = folder.Run.__new__(folder.Run)
+    one.statuses, one.count = {}, len(texts) * lines
+    one.parts = [folder.Part(number, 0, len(text), 1 + number * lines, lines, "", folder.weight_of(text, 20))
+                 for number, text in enumerate(texts)]
+    return engine.Progress(one)
 
 
 def at_work(one, hosts):
     """Sets which parts are at work, and on which hosts: {part: host}."""
-    one.running = {number: one.running.get(number, (number, types.SimpleNamespace(host=host), time.monotonic()))
-                   for number, host in hosts.items()}
+    one.running = {number: one.running.get(number, (one.run.parts[number], types.SimpleNamespace(host=host),
+                                                    time.monotonic())) for number, host in hosts.items()}
 
 
 def test_the_time_left_is_known_within_a_factor_of_two_from_a_tenth_of_the_work_on(clock):
@@ -401,7 +403,7 @@ def test_the_time_left_is_known_within_a_factor_of_two_from_a_tenth_of_the_work_
         at_work(one, dict.fromkeys(running, "here"))
         clock.now, number = min((since + TOOK[number], number) for number, since in running.items())
         del running[number]
-        one.end(number, TOOK[number])
+        one.end(one.run.parts[number], TOOK[number])
         at_work(one, dict.fromkeys(running, "here"))
         if one.done < whole / 10:
             assert "left" not in one.text("")
@@ -433,7 +435,7 @@ def test_progress_shows_the_time_left_the_machines_and_a_part_that_runs_long(clo
     one = progress(parts, lines)
     for clock.now, ended, hosts in times:
         for number, seconds in ended.items():
-            one.end(number, seconds)
+            one.end(one.run.parts[number], seconds)
         at_work(one, hosts)
     assert one.text("") == text
 

@@ -1,5 +1,4 @@
 """ffosolve-many cuts a list into parts, goes on after any interruption, and uses only complete results of a part."""
-import fcntl
 import os
 import random
 import re
@@ -25,7 +24,8 @@ pytest_plugins = ["tests.many"]
 def test_a_report_is_taken_if_it_is_complete(case):
     whole, numbers = b"[1]\n1 +02 A1 right\n2 refused: bad side at column 65\nsolved 1 refused 1\n", [1, 2]
     assert folder.is_report(whole, numbers)
-    assert folder.rows_of(whole, 7) == [(8, b"+02 A1 right"), (9, b"refused: bad side at column 65")]
+    both = b"[1]\n1 +02 A1 right\n2 refused: bad side at column 65\n8 +02 A1 right\n9 refused: bad side at column 65\n"
+    assert b"".join(folder.joined([(0, whole), (7, whole)])) == both + b"solved 2 refused 2\n"
     for end in range(len(whole)):
         assert not folder.is_report(whole[:end], numbers), end
     for old, new in ((b"[1]", b"[2]"), (b"1 +", b"2 +"), (b"1 +", b"01 +"), (b"A1", b"\0\0"), (b" right", b""),
@@ -40,12 +40,10 @@ def test_a_report_is_taken_if_it_is_complete(case):
 @pytest.mark.parametrize("output, is_whole", [(b"a\nb\nc\n", True), (b"a\nb\n", False), (b"a\nb\nc", False),
                                               (b"a\nb\nc\nd\n", False)])
 def test_scores_are_complete_with_a_line_for_each_of_the_part(output, is_whole):
-    one, text = folder.Run.__new__(folder.Run), b"1\n2\n3\n"
-    one.task, one.statuses = {"options": {"--scores": ""}}, bytearray(1)
-    one.digests = [solve.sha256(text)]
-    head = b"0 %d 0 0.1" % len(output)
-    record = b"%b %b\n%b" % (head, solve.record_digest(one.task, 0, one.digests[0], head, output), output)
-    assert bool(one.check(0, text, record)) == is_whole
+    one, part = folder.Run.__new__(folder.Run), folder.Part(0, 0, 6, 1, 3, "digest", 3.0)
+    one.task, one.statuses = {"options": {"--scores": ""}}, {}
+    record = solve.record_of(one.task, 0, "digest", solve.Solved(0, output, b"", 0.1))
+    assert bool(one.check(part, b"1\n2\n3\n", record)) == is_whole
 
 
 def test_a_file_is_on_the_disk_before_it_has_its_name(folder):
@@ -59,21 +57,10 @@ def test_a_file_is_on_the_disk_before_it_has_its_name(folder):
 
 
 def test_the_lock_of_a_run_that_ends_is_waited_for(tmp_path):
-    with folder.locked(tmp_path / "work"):
-        pass
-    (lock,) = (path for path in Path("/proc/self/fd").iterdir() if path.resolve() == tmp_path / "work" / folder.LOCK)
+    folder.lock(tmp_path / "new/work")
+    (lock,) = (path for path in Path("/proc/self/fd").iterdir() if path.resolve().name == folder.LOCK)
     threading.Timer(0.5, os.close, [int(lock.name)]).start()
-    with folder.locked(tmp_path / "work"):
-        pass
-
-
-@pytest.mark.parametrize("module, call", [(os, "listdir"), (fcntl, "flock")])
-def test_a_folder_that_another_command_removes_when_it_is_refused_is_made_again(tmp_path, module, call):
-    work, real = tmp_path / "new/work", getattr(module, call)
-    removing = iter([work.parent])  # at the first call
-    with mock.patch.object(module, call, lambda *words: (*map(shutil.rmtree, removing), real(*words))[-1]):
-        with folder.locked(work):
-            assert [path.name for path in work.iterdir()] == [folder.LOCK]
+    folder.lock(tmp_path / "new/work")
 
 
 def test_a_part_whose_results_are_not_complete_is_solved_again(case):
@@ -81,25 +68,21 @@ def test_a_part_whose_results_are_not_complete_is_solved_again(case):
     case.many(*WORDS, message="in 3 parts, 3 of them solved before;")
     path, task = Path("work/results/0000001"), solve.read_task(Path("work"))
     whole, text = path.read_bytes(), case.SMALL[68 * 20:68 * 40]
-    head, _, results = whole.partition(b"\n")
-    _, size, _, seconds, _ = head.split()
-    report, book = results[:int(size)], results[int(size):]
+    found = solve.read_record(task, 1, solve.sha256(text), whole)
 
-    def record(report=report, book=book, part=1, status=0, complete=None):
+    def record(part=1, complete=None, **changes):
         """Returns part 1's file in work/results as it would be with these values and their right checksum."""
         asked = {"options": {**task["options"], "--complete": complete}}
-        head = b"%d %d %d %b" % (status, len(report), len(book), seconds)
-        digest = solve.record_digest(asked, part, solve.sha256(text), head, report + book)
-        return b"%b %b\n%b%b" % (head, digest, report, book)
+        return solve.record_of(asked, part, solve.sha256(text), found._replace(**changes))
 
     assert record() == whole
     for spoiled in (None, b"", whole[:-1], whole[:whole[:-1].rindex(b"\n") + 1], bytes(len(whole)), whole + b"\n",
                     whole.replace(b"+", b"-", 1), Path("work/results/0000000").read_bytes(), record(part=2),
-                    record(complete=""), record(status=1), record(report=report.replace(b"\n1 ", b"\n2 ")),
-                    record(book=book.replace(b"winner", b"discs")), record(book=b"")):
+                    record(complete=""), record(status=1), record(output=found.output.replace(b"\n1 ", b"\n2 ")),
+                    record(book=found.book.replace(b"winner", b"discs")), record(book=b"")):
         path.unlink() if spoiled is None else path.write_bytes(spoiled)
         case.many(*WORDS, message="in 3 parts, 2 of them solved before;")
-        assert path.read_bytes().partition(b"\n")[2] == results
+        assert path.read_bytes().endswith(found.output + found.book)
 
 
 def test_removed_results_are_solved_again_by_the_program_that_the_folder_was_begun_with(case):
@@ -110,24 +93,21 @@ def test_removed_results_are_solved_again_by_the_program_that_the_folder_was_beg
     assert Path("work/program-0").read_bytes() == before
     shutil.rmtree("work/results")
     case.many(*WORDS, message="in 3 parts, 0 of them solved before;")
-    Path("work/task.json").unlink()
+    Path("work/task").unlink()
     case.many(*WORDS, message="in 3 parts, 3 of them solved before;")
 
 
 def test_damaged_files_of_the_run_are_written_again(case):
     words = (*WORDS, "--book-in=one.book")
     case.many(*words)
-    before, names = files(), ("list", "program-0", "book-in", "solve.py", "task.json")
-    for damaged in (names, *zip(names)):  # all of them, then each
-        run("truncate", "--size=-5", *damaged, cwd="work", check=True)
+    before, names = files(), ("list", "program-0", "book-in", "solve.py", "task")
+    for damaged in (names, *zip(names), None, ["task"]):  # all of them, then each; then a changed list, without a task
+        if damaged:
+            run("truncate", "--size=-5", *damaged, cwd="work", check=True)
+        if damaged in (None, ["task"]):
+            write("work/list", b"%" + case.SMALL[1:])
         case.many(*words, message="in 3 parts, 3 of them solved before;")
         assert files() == before
-    write("work/list", b"%" + case.SMALL[1:])
-    case.many(*words, message=", 3 of them solved before")
-    assert files() == before
-    write("work/list", b"%" + case.SMALL[1:])
-    Path("work/task.json").unlink()
-    case.refused(2, "list.obf is not as work/list has it, from line 1 on: ", *words)
 
 
 def test_other_options_are_refused_by_name(case):
@@ -181,28 +161,28 @@ def test_only_the_parts_that_failed_are_solved_again(case):
               message="not solved: 2 of 7 parts: ")
 
 
-def test_what_killed_runs_left_is_removed_and_nothing_else(case):
+def test_other_files_in_the_folder_stay_and_links_are_not_followed(case):
     case.many(*WORDS)
-    Path("work", "results/0000002").unlink()
-    strays = ["work/results/0000001.0123abcd.new", "work/task.json.0123abcd.new"]
-    kept = ["work/results/mine.txt", "work/notes", "work/copy", "work/notes.new", "work/mine.0123abcd.new",
-            "work/list.0123abcd.new/mine"]
-    for path in strays + kept:
-        write(path, "?")
-    links = [f"work/{name}.new" for name in ("x.abcdefgh", "list.01234567", "book.abcdefgh", "results/1.76543210")]
-    for path in links:
-        os.symlink(case.folder / "list.obf" if "list" in path else case.folder, path)
+    kept = [write(f"work/{name}", "?") for name in ("results/mine.txt", "notes", "results/0000001.0123abcd.new")]
+    for name in ("list", "task", "results/0000002", "book-in"):
+        Path("work", name).unlink(missing_ok=True)
+        os.symlink(case.folder / "one.book", f"work/{name}")
+    before = Path("one.book").read_bytes()
     case.many(*WORDS, message="in 3 parts, 2 of them solved before;")
-    assert [os.path.lexists(path) for path in strays + kept + links] == [False] * 2 + [True] * 10
+    assert [path.read_text() for path in kept] == ["?"] * 3
+    assert Path("one.book").read_bytes() == before
+
+
+PRINTED = "    print_all(run.output())\n"
 
 
 def test_a_record_that_is_damaged_late_is_solved_again(case):
-    late = "    run.sweep()\n    open('work/results/0000001', 'r+').write('1'), os.unlink('work/results/0000002')\n"
-    by = case.install("damaging", ("command", "    run.sweep()\n", late), script=ACTING)
+    late = "    open('work/results/0000001', 'r+').write('?'), os.unlink('work/results/0000002')\n"
+    by = case.install("damaging", ("command", PRINTED, late + PRINTED), script=ACTING)
     for message in (", 0 of them", ", 3 of them"):
         case.many(*WORDS, by=by, message=message)
         case.many(*WORDS, message=", 3 of them solved before")
-    spoil = "lambda text: text[:-5] if open('results/0000001').read(1) == '1' else text"
+    spoil = "lambda text: text[:-5] if open('work/results/0000001').read(1) == '?' else text"
     ran = run(by, *WORDS, env={**os.environ, "SPOIL": spoil})
     assert (ran.returncode, case.one.startswith(ran.stdout)) == (3, True)
     assert ran.stderr.endswith(b"part 0000001 (lines 21 to 40) was changed meanwhile, and can't be solved again: "
@@ -220,11 +200,10 @@ def test_a_last_line_that_grows_is_solved_again(case):
 def test_a_part_is_solved_with_the_options_and_the_program_of_the_folder_or_not_at_all(case):
     solve_part = (sys.executable, "work/solve.py", "0")
     run(case.ACTS, "--cut", *WORDS)
-    known = Path("work/task.json").read_text()
     for place, old, new, why in (
-            ("task.json", b'"--max-empties": "20"', b'"--max-empties": "0"', "damaged: run ffosolve-many again"),
-            ("task.json", b'"parts": 3', b'"parts": 7', "damaged: run ffosolve-many again"),
-            ("task.json", known.encode(), b"[]", "damaged: run ffosolve-many again"),
+            ("task", b'"--max-empties": "20"', b'"--max-empties": "0"', "damaged: run ffosolve-many again"),
+            ("task", b'"parts": 3', b'"parts": 7', "damaged: run ffosolve-many again"),
+            ("task", Path("work/task").read_bytes(), b"[]", "damaged: run ffosolve-many again"),
             ("program-0", b"real", b"rear", "the program is damaged")):
         whole = Path("work", place).read_bytes()
         Path("work", place).write_bytes(whole.replace(old, new, 1))
@@ -258,7 +237,7 @@ def test_an_old_python_is_named(case):
 
 
 def test_a_program_that_fails_three_times_in_a_row_and_then_for_a_known_line_ends_the_run(case):
-    script = '#!/bin/sh\necho >>runs; [ $(wc -l <runs) -le 4 ] || { echo broken >&2; exit 9; }; exec "@real@" "$@"\n'
+    script = '#!/bin/sh\necho >>runs; [ $(wc -l <runs) -le 6 ] || { echo broken >&2; exit 9; }; exec "@real@" "$@"\n'
     by = case.install("breaking", script=script)
     errors = case.many("--jobs=1", "--lines=1", *WORDS[1:], by=by, status=4)
     assert errors.count(" failed part ") == 2
@@ -284,7 +263,7 @@ def test_copies_of_files_that_others_may_not_read_may_not_be_read_by_others(case
 
 def test_a_fifo_among_the_results_is_replaced(case):
     case.many(*WORDS)
-    for name in ("results/0000001", "list", "book-in", "program-0", "task.json"):
+    for name in ("results/0000001", "list", "book-in", "program-0", "task"):
         Path("work", name).unlink(missing_ok=True)
         os.mkfifo(Path("work", name))
         case.many(*WORDS)
@@ -303,19 +282,19 @@ def test_a_finished_folder_that_may_not_be_written_prints_its_report(case):
 
 
 def test_a_full_disk_ends_the_run_and_it_goes_on_when_there_is_room(case):
-    writes = "file.writelines(pieces)\n                file.flush()"
-    fails_late = "open('/dev/full', 'wb', 0).write(b'?') if path.endswith('results/0000005') else " + writes
-    by = case.install("full", ("../_command_line", writes, fails_late))
+    fails_late = "open('/dev/full', 'wb', 0).write(b'?') if path.name == '0000005' else file.writelines(pieces)"
+    by = case.install("full", ("folder", "file.writelines(pieces)", fails_late))
     words = ("--jobs=1", "--lines=5", *WORDS[1:])
     case.many(*words, by=by, status=3, message="cannot write work: No space left on device\n")
-    assert case.parts_solved() >= 5  # a part that was begun may have been solved meanwhile
-    case.many(*words, message=f", {case.parts_solved()} of them solved before")
+    done = len([path for path in Path("work/results").iterdir() if path.stat().st_size])
+    assert done >= 5  # a part that was begun may have been solved meanwhile
+    case.many(*words, message=f", {done} of them solved before")
 
 
 def test_a_list_is_read_from_standard_input(case):
     case.many("--lines=20", "work", "-", message="-: 60 lines in 3 parts", input=case.SMALL)
     case.many("--lines=20", "work", "/dev/stdin", message=", 3 of them solved before", input=case.SMALL)
-    assert {*os.listdir("work")} == {folder.LOCK, "list", "program-0", "results", "solve.py", "task.json"}
+    assert {*os.listdir("work")} == {folder.LOCK, "list", "program-0", "results", "solve.py", "task"}
     with open("list.obf", "rb") as file:
         case.many("--lines=20", "work", "-", message=", 3 of them solved before", stdin=file)
     case.refused(2, "- is not the list that work was begun with, from line 1 on", "--lines=20", "work", "-",
@@ -360,17 +339,17 @@ def test_a_part_has_at_most_the_bytes_of_a_file(case):
     assert run(case.MANY, "--cut", "--lines=2", "work", "-", input=half * 4).stdout[:8] == b"2 parts,"
 
 
-def test_a_list_that_changes_while_it_is_read_is_solved_as_it_was_copied(case):
-    by = case.install("changing", ("folder", "yield text\n", "yield text; source.write_bytes(b'?')\n"))
-    case.many("--lines=7", "work", "list.obf", by=by, message=" 60 lines in 9 parts")
-    assert Path("list.obf").stat().st_size == 1
+def test_a_list_that_changes_while_it_is_copied_is_solved_by_the_next_command(case):
+    by = case.install("changing", ("folder", "store(folder / \"list\", file", "store(folder / \"list\", [b'?' * 9999]"))
+    case.many("--lines=7", "work", "list.obf", by=by, status=1, message="not solved: 9 of 9 parts")
+    case.many("--lines=7", "work", "list.obf", message=" 60 lines in 9 parts, 0 of them")
 
 
 def test_a_folder_with_other_files_or_of_an_earlier_version_is_refused_and_untouched(case):
     message = ("{} has files that are not ffosolve-many's, or those of an earlier version, such as {}: name a new "
                "or an empty folder\n")
     for place, names, first in (("one", "copy", "copy"), ("two", "lock copy", "copy"), ("a.new", "a.new", "a.new"),
-                                ("three", "results/0000000 task.json list", "list"),
+                                ("three", "results/0000000 task list", "list"),
                                 ("work", "lock asked.json run-0123456789ab/list", "asked.json")):
         for name in names.split():
             write(Path(place, name), "the work of ffosolve-many, form 1")
@@ -380,12 +359,11 @@ def test_a_folder_with_other_files_or_of_an_earlier_version_is_refused_and_untou
 
 def test_a_folder_that_is_empty_or_was_just_begun_is_used(case):
     Path("empty").mkdir()
-    for at, names in (("empty", ()), ("locked", (folder.LOCK,)), ("copying", (folder.LOCK, "list.0123abcd.new")),
-                      ("begun", (folder.LOCK, "task.json"))):
+    for at, names in (("empty", ()), ("locked", (folder.LOCK,)), ("copying", (folder.LOCK, "list")),
+                      ("begun", (folder.LOCK, "task"))):
         for name in names:
             write(Path(at, name), "[]")
         case.many(at, "list.obf")
-        assert [*Path(at).glob("*.new")] == []
 
 
 def test_a_folder_whose_program_did_not_work_at_first_is_used(case):

@@ -12,7 +12,7 @@ from pathlib import Path
 from types import FrameType
 from typing import IO, Any, Callable, Dict, Iterable, Iterator, Mapping, NoReturn, Optional, Set, Tuple, Type, Union
 
-from ._text import shown
+from ._text import NotText, shown
 
 Name = Union[str, int, "os.PathLike[str]"]  # of a file, or a descriptor
 DONE, REMARKED, MISUSED, UNREADABLE, MISSING = range(5)
@@ -202,8 +202,8 @@ def run(program: str, main: Callable[[], int], interrupted: str = "") -> NoRetur
         if sys.stdout is None:
             raise Refusal("cannot write standard output: it is closed")
         status = main()
-    except Refusal as why:
-        status = why.status
+    except (Refusal, NotText) as why:
+        status = getattr(why, "status", status)
         say(why)
     except SystemExit as why:  # after --help
         status = why.code

@@ -18,8 +18,8 @@ from typing import Any, Coroutine, Dict, List, Tuple
 from .._command_line import MISSING, Refusal, say
 from .._text import shown
 from .engine import MOST_FAILS, Answer, Machine
-from .folder import Run, content_of
-from .solve import Task, fit_program, solve
+from .folder import Part, Run
+from .solve import Task, content_of, fit_program, solve
 
 try:
     import cloudpickle
@@ -161,19 +161,19 @@ class Cluster:
         except Exception as fault:
             self.leave_out(worker, text_of(fault))
 
-    async def solve(self, worker: Worker, number: int) -> Answer:
-        text = self.run.text(number)
+    async def solve(self, worker: Worker, part: Part) -> Answer:
+        text = self.run.text(part)
         try:
-            task = self.client.submit(solve_part, worker.pack, number, text, workers=[worker.name], pure=False)
+            task = self.client.submit(solve_part, worker.pack, part.number, text, workers=[worker.name], pure=False)
             record, why = await task
         except CancelledError:  # by Dask, when the scheduler was lost
             return None, ""
         except Exception as fault:
             record, why = b"", text_of(fault)
-        return await asyncio.get_running_loop().run_in_executor(None, self.run.keep, number, text, record, why)
+        return await asyncio.get_running_loop().run_in_executor(None, self.run.keep, part, text, record, why)
 
-    def send(self, worker: Worker, number: int) -> Future[Answer]:
-        return self.in_dask(self.solve(worker, number))
+    def send(self, worker: Worker, part: Part) -> Future[Answer]:
+        return self.in_dask(self.solve(worker, part))
 
     def doubt(self, worker: Worker) -> None:
         """Leaves a worker out, but never the last one."""

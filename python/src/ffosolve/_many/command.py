@@ -1,13 +1,12 @@
 """Runs ffosolve-many: reads its command line, and then solves a list and prints the results, or merges books."""
 import argparse
+import io
 import itertools
 import os
 import re
 import shlex
-import shutil
 import subprocess
 import sys
-import tempfile
 from pathlib import Path
 from typing import Any, Dict, Iterable, List, Optional, Tuple
 
@@ -15,10 +14,10 @@ from .._command_line import (DONE, MISSING, MISUSED, REMARKED, UNREADABLE, Name,
                              path_of, print_all, regular, replace, say)
 from .._command_line import run as run_program
 from .._text import BOOK_HEADER, shown
-from .books import book_lines, book_of, merged
+from .books import book_of, merged
 from .engine import Threads, solve_parts
 from .folder import Run, begin, options_of
-from .solve import guarded, words_of
+from .solve import SETPRIV, guarded, words_of
 
 NAME = "ffosolve-many"
 NO_DISCS = b"-" * 64 + b" X;"  # refused with any options; the message has the limit of empty squares
@@ -129,18 +128,21 @@ def builds_of(program: Path) -> List[Path]:
     return sorted(found, reverse=True) or [program]
 
 
-def try_run(program: Path, *words: str, stdout: int = subprocess.DEVNULL) -> Tuple[int, str]:
-    """Runs a program, which inherits a shell's /dev/fd/63. Returns its status and, in one line, its messages."""
-    ran = subprocess.run([program, *words], close_fds=False, stdin=subprocess.DEVNULL, stdout=stdout,
+def try_run(program: Path, *words: str, text: bytes = NO_DISCS, to: int = subprocess.PIPE) -> Tuple[int, bytes, str]:
+    """Runs a program, which inherits a shell's /dev/fd/63, with a `text` as its standard input. Returns its status, its
+    output unless that goes to the file `to`, and, in one line, its messages."""
+    if not os.access(SETPRIV, os.X_OK):
+        raise Refusal("setpriv is not on the path: apt-get install util-linux", MISSING)
+    ran = subprocess.run(guarded(str(program), [*words]), close_fds=False, input=text, stdout=to,
                          stderr=subprocess.PIPE)
     lines = ran.stderr.decode(errors="replace").splitlines() or [f"{program} ended with status {ran.returncode}"]
-    return ran.returncode, ": ".join(re.sub("^ffosolve: ", "", line) for line in lines)
+    return ran.returncode, ran.stdout, ": ".join(re.sub("^ffo[a-z]+: ", "", line) for line in lines)
 
 
-def check_books(program: Path, names: Iterable[str], paths: Iterable[Name]) -> None:
-    """Lets ffosolve read each book, and refuses the first one that ffosolve refuses."""
-    for name, path in zip(names, paths):
-        status, errors = try_run(program, f"--book-in={path}", "/dev/null")
+def check_books(program: Path, books: Iterable[Tuple[str, bytes]]) -> None:
+    """Lets ffosolve read each book, given as a name and a content, and refuses the first one that ffosolve refuses."""
+    for name, content in books:
+        status, _, errors = try_run(program, "--book-in=/dev/stdin", os.devnull, text=content)
         if status:
             raise Refusal(f"{name}: {errors}", status if status > 0 else MISSING)
 
@@ -151,22 +153,20 @@ def check_book_out(program: Path, name: str, source: Name, *options: str) -> Non
         if is_same(name, other):
             raise misused(f"--book-out {shown(name)} is {what}: name another file")
     with open("/dev/full", "wb") as full:  # so that the program tests the file, and writes nothing
-        _, errors = try_run(program, *options, f"--book-out={name}", "/dev/null", stdout=full.fileno())
+        _, _, errors = try_run(program, *options, f"--book-out={name}", os.devnull, to=full.fileno())
     if errors != "cannot write standard output":
         raise Refusal(errors.replace(os.fsencode(name).decode(errors="replace"), shown(name)))
 
 
-def check_options(program: Path, options: List[str]) -> str:
-    """Returns how many empty squares a position may have. If the program refuses the options or a book, it prints why,
-    and this process ends with the same status. Refuses a missing setpriv or a wrong program."""
-    if not shutil.which("setpriv"):
-        raise Refusal("setpriv is not on the path: apt-get install util-linux", MISSING)
-    ran = subprocess.run(guarded([str(program), *options, "/dev/stdin"]), input=NO_DISCS, stdout=subprocess.PIPE)
-    if found := re.fullmatch(LIMITS[program.name], ran.stdout):
+def limit_of(program: Path, options: List[str]) -> str:
+    """Returns how many empty squares a position may have. Refuses options or a book that the program refuses, in its
+    words and with its status, and a program that is not the right one."""
+    status, output, errors = try_run(program, *options, "/dev/stdin")
+    if found := re.fullmatch(LIMITS[program.name], output):
         return found[1].decode()
-    if ran.returncode > 0:
-        raise SystemExit(ran.returncode)
-    raise Refusal(f"{program} is not the program {program.name}: it ended with status {ran.returncode}", MISSING)
+    if status > 0:
+        raise Refusal(errors, status)
+    raise Refusal(f"{program} is not the program {program.name}: it ended with status {status}", MISSING)
 
 
 def run_of(command: argparse.Namespace, programs: str) -> Run:
@@ -179,8 +179,7 @@ def run_of(command: argparse.Namespace, programs: str) -> Run:
     command.folder, path = Path(named[0] if named else f"{command.list}.parts"), path_of(command.list)
     if command.folder.exists() and not command.folder.is_dir():
         raise misused(f"'{shown(command.folder)}' is not a folder: name one FOLDER and one LIST")
-    is_special = not path.is_file() or path.parts[1:2] in (("dev",), ("proc",))
-    if is_special and path.exists() and not path.is_dir() and not named:
+    if not named and (path.is_fifo() or path.parts[1:2] in (("dev",), ("proc",))):
         raise misused(f"'{shown(command.list)}' has no folder of its own: name a FOLDER before it")
     if is_same(path, 1):
         raise misused(f"standard output is the list {shown(command.list)}: name another file")
@@ -194,24 +193,21 @@ def run_of(command: argparse.Namespace, programs: str) -> Run:
     book_in = regular(command.book_in) if command.book_in else None
     program = program_in(programs, "ffoscores" if command.scores else "ffosolve")
     words = words_of(options_of(command, None), str(book_in) if book_in else None)
-    command.max_empties = check_options(program, words)
+    command.max_empties = limit_of(program, words)
     if command.book_out:
         check_book_out(program, command.book_out, path, *words)
-    modes = [file.stat().st_mode & 0o666 if file and file.parts[1:2] != ("proc",) else None
-             for file in (source, book_in)]
-    return begin(command, source, lambda: builds_of(program), book_in.read_bytes() if book_in else None, modes)
+    return begin(command, source, lambda: builds_of(program), book_in)
 
 
 def print_cut(run: Run) -> int:
     """Prints how many parts are solved, and the command that solves the others. Returns a status."""
-    unsolved = run.unsolved()
-    groups = itertools.groupby(enumerate(unsolved), lambda pair: pair[1] - pair[0])
-    ranges = [[number for _, number in group] for _, group in groups]
+    groups = itertools.groupby(enumerate(run.unsolved()), lambda pair: pair[1].number - pair[0])
+    ranges = [[part.number for _, part in group] for _, group in groups]
     words = [f"{one[0]}-{one[-1]}" if one[1:] else str(one[0]) for one in ranges]
     script = os.path.join("." if str(run.folder)[0] == "-" else "", run.folder, "solve.py")
     quoted = shlex.quote(script) if script.isprintable() else shown(script)
     rest = f"; python3 {quoted} {' '.join(words)} solves the others" if words else ""
-    print_all([os.fsencode(f"{counted(run.parts, 'part')}, {run.parts - len(unsolved)} of them solved{rest}\n")])
+    print_all([os.fsencode(f"{counted(len(run.parts), 'part')}, {len(run.statuses)} of them solved{rest}\n")])
     return DONE
 
 
@@ -222,46 +218,40 @@ def solve_list(command: argparse.Namespace, programs: str) -> int:
     run = run_of(command, programs)
     if command.cut:
         return print_cut(run)
-    unsolved, parts = run.unsolved(), counted(run.parts, "part")
+    parts = counted(len(run.parts), "part")
     if not command.quiet:
-        say(f"{shown(command.list)}: {counted(run.count, 'line')} in {parts}, {run.parts - len(unsolved)} of them "
-            f"solved before; folder {shown(run.folder)}")
-    if unsolved:
+        say(f"{shown(command.list)}: {counted(run.count, 'line')} in {parts}, {len(run.statuses)} of them solved before"
+            f"; folder {shown(run.folder)}")
+    if run.unsolved():
         if command.scheduler:
             solve_parts(run, Cluster(command.scheduler, run), command.quiet)
         else:
             solve_parts(run, Threads(run, command.jobs or len(os.sched_getaffinity(0))), command.quiet)
     if failed := run.unsolved():
-        named = ", ".join(map(run.span, failed[:3])) + (", .." if len(failed) > 3 else "")
+        named = ", ".join(map(str, failed[:3])) + (", .." if len(failed) > 3 else "")
         raise Refusal(f"not solved: {len(failed)} of {parts}: {named}. The same command solves only these",
                       UNREADABLE if command.scores else REMARKED)
-    run.sweep()
     print_all(run.output())
     if command.book_out:
         replace(command.book_out, book_of(run))
-    return max(run.statuses, default=DONE)
+    return max(run.statuses.values(), default=DONE)
 
 
 def merge_books(command: argparse.Namespace, programs: str) -> int:
     """Merges the books that a command from `parse` names; prints the result or writes --book-out. Returns a status."""
     if not command.words:
         raise misused("--merge-books needs the name of a book")
-    program, names = program_in(programs, "ffosolve"), list(map(shown, command.words))
+    program = program_in(programs, "ffosolve")
     if command.book_out:
         check_book_out(program, command.book_out, os.devnull)
-    paths = [regular(name) for name in command.words]
-    with tempfile.TemporaryFile() as whole:
-        try:
-            whole.writelines(merged(names, map(book_lines, paths)))
-            whole.seek(0)
-            check_books(program, ["the merged book"], [f"/proc/{os.getpid()}/fd/{whole.fileno()}"])
-        except (ValueError, Refusal) as why:
-            check_books(program, names, paths)  # refuses a book that is wrong by itself
-            raise why if isinstance(why, Refusal) else Refusal(str(why)) from None
-        if command.book_out:
-            replace(command.book_out, whole)
-        else:
-            print_all(whole)
+    books = [(shown(name), regular(name).read_bytes()) for name in command.words]
+    try:
+        whole = b"".join(merged((name, io.BytesIO(content)) for name, content in books))
+        check_books(program, [("the merged book", whole)])
+    except (ValueError, Refusal) as why:
+        check_books(program, books)  # refuses a book that is wrong by itself
+        raise why if isinstance(why, Refusal) else Refusal(str(why)) from None
+    replace(command.book_out, [whole]) if command.book_out else print_all([whole])
     return DONE
 
 

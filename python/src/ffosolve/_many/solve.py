@@ -5,6 +5,7 @@ import itertools
 import json
 import os
 import re
+import shutil
 import signal
 import subprocess
 import sys
@@ -14,12 +15,12 @@ from typing import Any, Callable, Dict, Iterator, List, NamedTuple, Optional, Tu
 
 KNOWN = b"-OXXXXX-XXXXXXXOXXXXXXXXXXXXXXXXXXXOXXXXXXXXXXXXXXXXXXXXXXXXXXXX X; H1:+62; A1:+52;\n"
 KNOWN_SECONDS = 30  # in which a machine has to solve it; that takes 0.01, but a busy machine starts programs late
-HEAD = re.compile(rb"(([01]) (\d+) (\d+) (\d+\.\d+)) ([0-9a-f]{64})\n")
+SETPRIV = shutil.which("setpriv") or "setpriv"
 PASSED_ON = ("--max-empties", "--scoring", "--workers", "--table", "--book-in", "--complete")  # to the program
 
-# What a run's task.json has. "options": {option that decides the results: value}, with "" for an option without value,
-# and None for one that is not given; "speed", the like for other options; "parts", how many there are; "list": the
-# size and the SHA-256 of the list; "programs": the SHA-256 of each program; "known": what they print for KNOWN.
+# What a run's file `task` has. "options": {option that decides the results: value}, "" for an option without value and
+# None for one that is not given; "speed", the like for other options; "parts", how many there are; "list", its SHA-256;
+# "programs", the SHA-256 of each; "known", what they print for KNOWN.
 Task = Dict[str, Any]
 Files = Dict[str, str]  # {name: path on this machine} of a run's programs, program-0 and so on, and of any book-in
 
@@ -31,9 +32,21 @@ def sha256(content: bytes) -> str:
     return hashlib.sha256(content).hexdigest()
 
 
-def guarded(words: List[str]) -> List[str]:
-    """Returns a command that runs `words` unless this process has ended, and is killed when this process ends."""
-    return ["setpriv", "--pdeathsig", "KILL", "sh", "-c", '[ "$PPID" = "$0" ] && exec "$@"', str(os.getpid()), *words]
+def sealed(about: object, content: bytes) -> bytes:
+    """Returns a content after a line with a digest: the SHA-256 of what it is `about`, as JSON, and of the content."""
+    return sha256(json.dumps(about, sort_keys=True).encode() + content).encode() + b"\n" + content
+
+
+def unsealed(about: object, text: bytes) -> bytes:
+    """Returns the content in a text from `sealed`, or b"" if it is damaged or about something else."""
+    content = text.partition(b"\n")[2]
+    return content if text == sealed(about, content) else b""
+
+
+def guarded(program: str, words: List[str]) -> List[str]:
+    """Returns a command that runs a program, which is killed when this process ends. The program's path leads through
+    this process, so that nothing is run once that has ended."""
+    return [SETPRIV, "--pdeathsig", "KILL", f"/proc/{os.getpid()}/root{program}", *words]
 
 
 def words_of(task: Task, book_in: Optional[str]) -> List[str]:
@@ -42,37 +55,35 @@ def words_of(task: Task, book_in: Optional[str]) -> List[str]:
     return [name if given[name] == "" else f"{name}={given[name]}" for name in PASSED_ON if given[name] is not None]
 
 
-def record_digest(task: Task, part: int, lines: str, head: bytes, results: bytes) -> bytes:
-    """Returns the digest in a record (see `solve`), in hexadecimal: the SHA-256 of the options that decide the results,
-    the part's number, the SHA-256 of its lines, which is `lines`, and the rest of the record."""
-    asked = json.dumps([task["options"], part, lines], sort_keys=True).encode()
-    return sha256(b"\n".join((asked, head, results))).encode()
+def record_of(task: Task, part: int, lines: str, solved: Solved) -> bytes:
+    """Returns a record: the results of a part, behind a digest which also covers the options that decide them, and the
+    part's number and lines. `lines` is the SHA-256 of these."""
+    head = b"%d %d %.3f\n" % (solved.status, len(solved.output), solved.seconds)
+    return sealed([task["options"], part, lines], head + solved.output + solved.book)
 
 
 def read_record(task: Task, part: int, lines: str, record: bytes) -> Optional[Solved]:
-    """Returns the results in a record, or None if it is damaged or of another task. `lines`: see `record_digest`."""
-    head = HEAD.match(record)
-    if not head or record_digest(task, part, lines, head[1], record[head.end():]) != head[6]:
+    """Returns the results in a record, or None if it is damaged or of another task. `lines`: see `record_of`."""
+    head, _, results = unsealed([task["options"], part, lines], record).partition(b"\n")
+    if not head:
         return None
-    middle = head.end() + int(head[3])
-    return Solved(int(head[2]), record[head.end():middle], record[middle:], float(head[5]))
+    status, size, seconds = head.split()
+    return Solved(int(status), results[:int(size)], results[int(size):], float(seconds))
 
 
 def solve(task: Task, files: Files, program: str, part: int, text: bytes,
           is_wanted: Callable[[], bool] = lambda: True) -> Tuple[bytes, str]:
     """Solves the lines `text` of a part with the program of that path, and kills it once `is_wanted` returns false.
-    Returns (record, "") or, if the program fails, (b"", the reason). A record is a line with the program's status, the
-    sizes of its output and its book in bytes, the seconds that it took, and its `record_digest`; then the output and
-    the book."""
+    Returns (record, "") or, if the program fails, (b"", the reason)."""
     # The program writes its book to the pipe of standard error, so that it needs no room on a disk.
     has_book, most = task["options"]["--book-out"] is not None, task["options"]["--scores"] is not None
-    words = [program, *words_of(task, files.get("book-in")), *["--book-out=/dev/stderr"] * has_book]
+    words = [*words_of(task, files.get("book-in")), *["--book-out=/dev/stderr"] * has_book]
     start = time.monotonic()
     try:  # after a timeout, `communicate` loses the rest of the input, so the lines are a file in memory
         with open(os.memfd_create("part"), "w+b") as file:
             file.write(text)
             file.seek(0)
-            process = subprocess.Popen(guarded(words), cwd=os.path.dirname(program), start_new_session=True, stdin=file,
+            process = subprocess.Popen(guarded(program, words), start_new_session=True, stdin=file,
                                        stdout=subprocess.PIPE, stderr=subprocess.PIPE)
     except OSError as why:
         return b"", f"{why.filename or 'part'}: {why.strerror}"
@@ -89,8 +100,7 @@ def solve(task: Task, files: Files, program: str, part: int, text: bytes,
         name = f"status {status}" if status >= 0 else f"killed by {signal.Signals(-status).name}"
         return b"", (errors.decode(errors="replace").strip() or name).splitlines()[0]
     book = errors[max(0, errors.find(b"% ffobook ")):] if has_book else b""
-    head = b"%d %d %d %.3f" % (status, len(output), len(book), time.monotonic() - start)
-    return b"%b %b\n%b%b" % (head, record_digest(task, part, sha256(text), head, output + book), output, book), ""
+    return record_of(task, part, sha256(text), Solved(status, output, book, time.monotonic() - start)), ""
 
 
 def fit_program(task: Task, files: Files) -> Tuple[str, str]:
@@ -104,7 +114,7 @@ def fit_program(task: Task, files: Files) -> Tuple[str, str]:
             why = "is damaged"
             continue
         record, fault = solve(task, files, program, 0, KNOWN, lambda: time.monotonic() < end)
-        results = record.partition(b"\n")[2].decode("latin-1")
+        results = record.partition(b"\n")[2].partition(b"\n")[2].decode("latin-1")
         if record and results == task.get("known", results):
             return program, results
         if record:
@@ -116,20 +126,20 @@ def fit_program(task: Task, files: Files) -> Tuple[str, str]:
     raise ChildProcessError(f"the program {why}")
 
 
-def task_text(task: Task) -> bytes:
-    """Returns what task.json has for a task: the task and its SHA-256."""
-    return json.dumps({"task": task, "sha256": sha256(json.dumps(task).encode())}, indent=1).encode()
+def content_of(path: Path) -> bytes:
+    """Returns what a regular file has, or b"" if there is none."""
+    try:
+        return path.read_bytes() if path.is_file() else b""
+    except OSError:
+        return b""
 
 
 def read_task(folder: Path) -> Task:
-    """Returns the task in a folder. Raises ValueError if task.json is damaged, and OSError if it can't be read."""
-    try:
-        found = json.loads((folder / "task.json").read_bytes())
-        if found["sha256"] == sha256(json.dumps(found["task"]).encode()):
-            return dict(found["task"])
-    except (LookupError, TypeError, ValueError):
-        pass
-    raise ValueError(f"{folder / 'task.json'} is damaged: run ffosolve-many again")
+    """Returns the task in a folder. Raises ValueError if its file is damaged or can't be read."""
+    content = unsealed("task", content_of(folder / "task"))
+    if not content:
+        raise ValueError(f"{folder / 'task'} is damaged: run ffosolve-many again")
+    return dict(json.loads(content))
 
 
 def files_in(folder: Path) -> Files:
