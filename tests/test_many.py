@@ -409,7 +409,7 @@ def test_the_time_left_is_known_within_a_factor_of_two_from_a_tenth_of_the_work_
             assert "left" not in one.text("")
         elif one.parts:
             ends.append(clock.now + one.left())
-            assert re.search(r"^[0-9]+%, [0-9]+ s left, ", one.text(""))
+            assert re.search(r"^[0-9]+%, 0:[0-9:]+ left, ", one.text(""))
     assert len(ends) > 30
     for end in ends:
         assert 0.5 < end / clock.now < 2, (end, clock.now)
@@ -422,14 +422,14 @@ LOST = [(0, {}, {0: "h1", 1: "h2"}), (100, {0: 100}, {1: "h2", 2: "h1"}), (190, 
 @pytest.mark.parametrize("parts, lines, times, text", [
     # The last two parts would take 150 seconds if two machines could share a part.
     ([FULL, FULL, 10 * FULL, FULL], 1, [(0, {}, {0: "h1", 2: "h2"}), (30, {0: 30, 3: 30}, {1: "h1", 2: "h2"})],
-     "50%, 4 min left, 2 machines at work, parts 2 of 4"),
-    (4 * [FULL], 1, LOST[:2], "25%, 100 s left, 2 machines at work, parts 1 of 4"),
-    (4 * [FULL], 1, LOST[:3], "25%, 4 min left, 1 machine at work, parts 1 of 4"),  # a part waits again
+     "50%, 0:04:30 left, 2 machines at work, parts 2 of 4"),
+    (4 * [FULL], 1, LOST[:2], "25%, 0:01:40 left, 2 machines at work, parts 1 of 4"),
+    (4 * [FULL], 1, LOST[:3], "25%, 0:03:30 left, 1 machine at work, parts 1 of 4"),  # a part waits again
     (4 * [FULL], 1, LOST, "25%, no machine at work, parts 1 of 4"),
     (4 * [FULL], 3, [*LOST[:1], (720, {}, LOST[0][2])],
-     "0%, 2 machines at work, parts 0 of 4; part 0000000 (lines 1 to 3) has been running for 12 min on h1"),
+     "0%, 2 machines at work, parts 0 of 4; part 0000000 (lines 1 to 3) has been running for 0:12:00 on h1"),
     (1200 * [FULL], 200, [(0, {}, {659: "h1"}), (55.4, dict.fromkeys(range(659), 55.4), {659: "h1"})],
-     "54%, 8 h 19 min left, 1 machine at work, parts 659 of 1200"),
+     "54%, 8:18:36 left, 1 machine at work, parts 659 of 1200"),
 ])
 def test_progress_shows_the_time_left_the_machines_and_a_part_that_runs_long(clock, parts, lines, times, text):
     one = progress(parts, lines)
@@ -449,14 +449,9 @@ def test_work_grows_with_the_empty_squares_of_both_spellings():
         assert 0.5 < growth ** empties / seconds < 2
 
 
-def test_times_are_shown_in_words():
-    for seconds, words in ((0, "0 s"), (119, "119 s"), (120, "2 min"), (3599, "1 h 0 min"), (7500, "2 h 5 min")):
-        assert engine.span_of(seconds) == words
-
-
 def test_the_line_fits_a_terminal():
-    whole = "54%, 8 h 19 min left, 1 machine at work, parts 659 of 1200"
-    for columns, line in ((64, whole), (39, "54%, 8 h 19 min left"), (200, whole)):
+    whole = "54%, 8:19:00 left, 1 machine at work, parts 659 of 1200"
+    for columns, line in ((64, whole), (39, "54%, 8:19:00 left"), (200, whole)):
         size = mock.patch.object(os, "get_terminal_size", return_value=os.terminal_size((columns, 24)))
         with size, mock.patch.object(_command_line, "name", "it"), mock.patch.object(os, "write") as written:
             _command_line.show(whole)

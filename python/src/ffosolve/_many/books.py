@@ -43,7 +43,7 @@ def merged(books: Iterable[Tuple[str, Iterable[bytes]]]) -> Iterator[bytes]:
         lines, last = iter(book), (-1, -1)
         first = next(lines, b"")
         header = first.decode("latin-1").rstrip()
-        scoring = header.removeprefix(BOOK_HEADER) if header.startswith("% ffobook ") else "winner"
+        scoring = re.sub(f"^{BOOK_HEADER}", "", header) if header.startswith("% ffobook ") else "winner"
         first_name, first_scoring = first_name or name, first_scoring or scoring
         if scoring != first_scoring:
             raise Refusal(f"{first_name} has the scoring {first_scoring} and {name} {scoring}: only books of one "

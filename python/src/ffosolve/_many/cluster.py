@@ -36,7 +36,6 @@ except Exception as fault:  # such as a malformed file of settings
 
 LOST_SECONDS = 30  # of silence, after which a scheduler is lost: as long as Dask waits for a connection
 SILENT_SECONDS = 5  # of silence, after which progress says so: a busy scheduler may need a second or two
-FILE_SECONDS = 2  # in which a scheduler has to write the whole of its file
 PYTHON = "%d.%d" % sys.version_info[:2]
 
 
@@ -76,8 +75,7 @@ def address_of(name: str) -> str:
             return name
         raise Refusal(f"cannot reach the scheduler {shown(name)}: it is neither an address with a port, such as "
                       "tcp://h1:8786, nor a file")
-    end = time.monotonic() + FILE_SECONDS
-    while time.monotonic() < end:
+    for _ in range(20):  # in this time, a scheduler has written the whole of its file
         with contextlib.suppress(ValueError, LookupError, TypeError):
             return str(json.loads(content_of(Path(name)))["address"])
         time.sleep(0.1)

@@ -223,10 +223,8 @@ def solve_list(command: argparse.Namespace, programs: str) -> int:
         say(f"{shown(command.list)}: {counted(run.count, 'line')} in {parts}, {len(run.statuses)} of them solved before"
             f"; folder {shown(run.folder)}")
     if run.unsolved():
-        if command.scheduler:
-            solve_parts(run, Cluster(command.scheduler, run), command.quiet)
-        else:
-            solve_parts(run, Threads(run, command.jobs or len(os.sched_getaffinity(0))), command.quiet)
+        jobs = command.jobs or len(os.sched_getaffinity(0))
+        solve_parts(run, Cluster(command.scheduler, run) if command.scheduler else Threads(run, jobs), command.quiet)
     if failed := run.unsolved():
         named = ", ".join(map(str, failed[:3])) + (", .." if len(failed) > 3 else "")
         raise Refusal(f"not solved: {len(failed)} of {parts}: {named}. The same command solves only these",

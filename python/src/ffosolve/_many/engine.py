@@ -8,6 +8,7 @@ import resource
 import threading
 import time
 from concurrent.futures import Future, ThreadPoolExecutor
+from datetime import timedelta
 from typing import Any, Dict, List, Optional, Sequence, Set, Tuple
 
 from .._command_line import counted, say, show
@@ -20,11 +21,6 @@ LONG_SECONDS = 600  # after which a part that is still being solved is named
 MOST_AHEAD = 7  # parts that a machine has beside each that it solves: those of a second, so that it never waits
 MOST_FAILS = 3  # parts failed in a row, after which the program or the worker that failed is doubted
 Answer = Tuple[Optional[Solved], str]  # a part's results; or None, and why it failed, or "" if it has to be sent again
-
-
-def span_of(seconds: float) -> str:
-    hours, minutes = divmod(round(seconds / 60), 60)
-    return f"{seconds:.0f} s" if seconds < 120 else f"{hours} h {minutes} min" if hours else f"{minutes} min"
 
 
 class Machine:
@@ -68,12 +64,12 @@ class Progress:
         count, parts, hosts = self.run.count, len(self.run.parts), {one.host for _, one, _ in self.running.values()}
         left = self.left() if hosts and not trouble else None
         text = f"{100 * (count - self.lines) // max(1, count)}%, "
-        text += f"{span_of(left)} left, " if left is not None else ""
+        text += f"{timedelta(seconds=round(left))} left, " if left is not None else ""
         text += trouble or f"{counted(len(hosts), 'machine') if hosts else 'no machine'} at work"
         text += f", parts {parts - self.parts} of {parts}"
         for part, machine, start in sorted(self.running.values(), key=lambda part: part[2])[:1]:
             if (seconds := time.monotonic() - start) >= LONG_SECONDS:
-                text += f"; {part} has been running for {span_of(seconds)} on {machine.host}"
+                text += f"; {part} has been running for {timedelta(seconds=round(seconds))} on {machine.host}"
         return text
 
 

@@ -1,7 +1,6 @@
 """The folder of a run: list, programs, solve.py and --book-in (copies), options (task), and the parts' results."""
 import argparse
 import collections
-import contextlib
 import fcntl
 import functools
 import hashlib
@@ -99,7 +98,7 @@ def cut(file: BinaryIO, name: str, count: int, most: int) -> Iterator[Tuple[Part
         start, first = start + len(text), first + len(lines)
 
 
-def store(path: Path, pieces: Iterable[bytes], mode: int = 0o666, is_synced: bool = False) -> None:
+def store(path: Path, pieces: Iterable[bytes], mode: int, is_synced: bool = False) -> None:
     """Writes a file of a folder anew. Unless `is_synced`, it may be lost if the power fails. A file that is not whole
     will be found out when it is read."""
     if os.path.lexists(path):
@@ -109,6 +108,12 @@ def store(path: Path, pieces: Iterable[bytes], mode: int = 0o666, is_synced: boo
         file.flush()
         if is_synced:
             os.fsync(file.fileno())
+
+
+def renew(path: Path, content: bytes, mode: int = 0o666) -> None:
+    """Writes a file of a folder if that does not have it."""
+    if content_of(path) != content:
+        store(path, [content], mode)
 
 
 class Run:
@@ -252,10 +257,8 @@ def lock(folder: Path) -> None:
 
 
 def earlier_task(folder: Path, options: Dict[str, Any]) -> Task:
-    """Returns the task in `folder`, or {} if it can't be read. Refuses `options` that contradict it."""
-    task: Task = {}
-    with contextlib.suppress(ValueError):
-        task = read_task(folder)
+    """Returns what `read_task` does. Refuses `options` that contradict it."""
+    task = read_task(folder)
     differing = [f"with {name} {kept}".strip() if kept is not None else f"without {name}"
                  for name, kept in task.get("options", {}).items() if kept != options.get(name)]
     if differing:
@@ -279,7 +282,7 @@ def begin(command: argparse.Namespace, source: Path, programs: Callable[[], List
                 with source.open("rb") as file:
                     store(folder / "list", file, source.stat().st_mode & 0o666)
             if book and claims is not None:
-                store(folder / "book-in", [claims], book.stat().st_mode & 0o666)
+                renew(folder / "book-in", claims, book.stat().st_mode & 0o666)
             prepare(run, programs)
         except OSError:  # such as on a full disk, which does not matter if all parts are solved
             if command.cut or run.unsolved():
@@ -288,14 +291,14 @@ def begin(command: argparse.Namespace, source: Path, programs: Callable[[], List
 
 
 def prepare(run: Run, programs: Callable[[], List[Path]]) -> None:
-    """Writes what solves the parts into a run's folder; the programs only if those that it has are not its own."""
+    """Writes what solves the parts into a run's folder. It keeps its programs, unless they are damaged."""
     (run.folder / "results").mkdir(exist_ok=True)
-    store(run.folder / "solve.py", [Path(solve.__file__).read_bytes()])
+    renew(run.folder / "solve.py", Path(solve.__file__).read_bytes())
     found = [content_of(path) for path in sorted(run.folder.glob("program-?"))]
     if [*map(sha256, found)] != run.task["programs"]:
         found = [path.read_bytes() for path in programs()]
-        for number, content in enumerate(found):
-            store(run.folder / f"program-{number}", [content], 0o777)
         run.task["programs"] = [*map(sha256, found)]
+    for number, content in enumerate(found):
+        renew(run.folder / f"program-{number}", content, 0o777)
     run.test()
-    store(run.folder / "task", [sealed("task", json.dumps(run.task, indent=1).encode())])
+    renew(run.folder / "task", sealed("task", json.dumps(run.task, indent=1).encode()))

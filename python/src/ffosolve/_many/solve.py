@@ -135,11 +135,8 @@ def content_of(path: Path) -> bytes:
 
 
 def read_task(folder: Path) -> Task:
-    """Returns the task in a folder. Raises ValueError if its file is damaged or can't be read."""
-    content = unsealed("task", content_of(folder / "task"))
-    if not content:
-        raise ValueError(f"{folder / 'task'} is damaged: run ffosolve-many again")
-    return dict(json.loads(content))
+    """Returns the task in a folder, or {} if its file is missing or damaged."""
+    return dict(json.loads(unsealed("task", content_of(folder / "task")) or b"{}"))
 
 
 def files_in(folder: Path) -> Files:
@@ -161,6 +158,8 @@ def main(folder: Path, words: List[str]) -> Iterator[str]:
     """Solves parts of the list in a run's folder, unless they are solved. Yields an error for each that fails. Makes
     room for a part's record first, so that no part is solved in vain."""
     task, files = read_task(folder), files_in(folder)
+    if not task:
+        raise ValueError(f"{folder / 'task'} is damaged: run ffosolve-many again")
     parts, program = parts_in(words, task["parts"]), fit_program(task, files)[0]
     with (folder / "list").open("rb") as source:
         mode = os.fstat(source.fileno()).st_mode & 0o666
