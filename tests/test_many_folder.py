@@ -16,7 +16,7 @@ import pytest
 from ffosolve import _command_line
 from ffosolve._many import folder, solve
 from tests.many import ACTING, BOARD, WORDS, files
-from tests.support import MOST_BYTES, NOBODY, SECONDS, ends, limited, processes_in, run, wait_until, write
+from tests.support import MOST_BYTES, NOBODY, ROOT, SECONDS, ends, limited, processes_in, run, wait_until, write
 
 pytest_plugins = ["tests.many"]
 
@@ -340,7 +340,7 @@ def test_a_part_has_at_most_the_bytes_of_a_file(case):
 
 
 def test_a_list_that_changes_while_it_is_copied_is_solved_by_the_next_command(case):
-    by = case.install("changing", ("folder", "store(folder / \"list\", file", "store(folder / \"list\", [b'?' * 9999]"))
+    by = case.install("changing", ("folder", "store(path, file,", "store(path, [b'?' * 9999],"))
     case.many("--lines=7", "work", "list.obf", by=by, status=1, message="not solved: 9 of 9 parts")
     case.many("--lines=7", "work", "list.obf", message=" 60 lines in 9 parts, 0 of them")
 
@@ -430,6 +430,14 @@ def test_a_signal_ends_the_run_while_python_ignores_exceptions(case):
         wait_until(Path("begun").exists)
         assert end(case, ran, number) == (b"", f"ffosolve-many: {INTERRUPTED}\n")
         assert ran.returncode == -number
+
+
+def test_a_program_does_not_start_once_its_caller_has_ended(case):
+    code = "import sys; from ffosolve._many.solve import guarded; print(*guarded(sys.argv[1], []), sep='\\n')"
+    program = case.MANY.with_name("ffosolve")
+    words = run(sys.executable, "-c", code, program, cwd=ROOT / "python/src", text=True).stdout.splitlines()
+    ran = run(*words, text=True)
+    assert ran.stdout == "" and f"root{program}: No such file or directory" in ran.stderr
 
 
 def test_two_signals_together_end_the_run_without_a_traceback(case):

@@ -5,6 +5,7 @@ import itertools
 import os
 import re
 import shlex
+import shutil
 import subprocess
 import sys
 from pathlib import Path
@@ -17,7 +18,7 @@ from .._text import BOOK_HEADER, shown
 from .books import book_of, merged
 from .engine import Threads, solve_parts
 from .folder import Run, begin, options_of
-from .solve import SETPRIV, guarded, words_of
+from .solve import guarded, words_of
 
 NAME = "ffosolve-many"
 NO_DISCS = b"-" * 64 + b" X;"  # refused with any options; the message has the limit of empty squares
@@ -131,7 +132,7 @@ def builds_of(program: Path) -> List[Path]:
 def try_run(program: Path, *words: str, text: bytes = NO_DISCS, to: int = subprocess.PIPE) -> Tuple[int, bytes, str]:
     """Runs a program, which inherits a shell's /dev/fd/63, with a `text` as its standard input. Returns its status, its
     output unless that goes to the file `to`, and, in one line, its messages."""
-    if not os.access(SETPRIV, os.X_OK):
+    if not shutil.which("setpriv"):
         raise Refusal("setpriv is not on the path: apt-get install util-linux", MISSING)
     ran = subprocess.run(guarded(str(program), [*words]), close_fds=False, input=text, stdout=to,
                          stderr=subprocess.PIPE)

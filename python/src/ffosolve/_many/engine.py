@@ -18,7 +18,7 @@ from .solve import Solved
 HERE = "this machine"
 FILES = 9  # that a job may have open at once, with its share of the others
 LONG_SECONDS = 600  # after which a part that is still being solved is named
-MOST_AHEAD = 7  # parts that a machine has beside each that it solves: those of a second, so that it never waits
+MOST_AHEAD = 3  # parts that a machine has beside each that it solves: those of a second, so that it never waits
 MOST_FAILS = 3  # parts failed in a row, after which the program or the worker that failed is doubted
 Answer = Tuple[Optional[Solved], str]  # a part's results; or None, and why it failed, or "" if it has to be sent again
 

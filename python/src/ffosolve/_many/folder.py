@@ -2,7 +2,6 @@
 import argparse
 import collections
 import fcntl
-import functools
 import hashlib
 import itertools
 import json
@@ -38,20 +37,11 @@ def weight_of(text: bytes, most: int) -> float:
     return sum((times * GROWTH ** count if count <= most else times for count, times in empties.items()), 0.0)
 
 
-def rows_of(report: bytes) -> List[Tuple[bytes, bytes]]:
-    """Returns the rows of a report, each as the number of its line and the rest."""
-    return [(number, rest) for number, _, rest in [row.partition(b" ") for row in report.split(b"\n")[1:-2]]]
-
-
-def refused_in(rows: List[Tuple[bytes, bytes]]) -> int:
-    return [rest[:9] for _, rest in rows].count(b"refused: ")
-
-
 def is_report(text: bytes, numbers: List[int]) -> bool:
     """Returns whether a text is the complete report on lines with these numbers."""
-    rows = rows_of(text)
-    refused = refused_in(rows)
-    return (REPORT.fullmatch(text) is not None and [number for number, _ in rows] == [b"%d" % one for one in numbers]
+    rows = [row.partition(b" ") for row in text.split(b"\n")[1:-2]]
+    refused = [rest[:9] for _, _, rest in rows].count(b"refused: ")
+    return (REPORT.fullmatch(text) is not None and [number for number, _, _ in rows] == [b"%d" % one for one in numbers]
             and text.endswith(b"\nsolved %d refused %d\n" % (len(rows) - refused, refused)))
 
 
@@ -60,9 +50,9 @@ def joined(reports: Iterable[Tuple[int, bytes]]) -> Iterator[bytes]:
     count = refused = 0
     yield b"[1]\n"
     for before, report in reports:
-        rows = rows_of(report)
-        count, refused = count + len(rows), refused + refused_in(rows)
-        yield b"".join([b"%d %b\n" % (before + int(number), rest) for number, rest in rows])
+        rows = [row.partition(b" ") for row in report.split(b"\n")[1:-2]]
+        count, refused = count + len(rows), refused + int(report.rpartition(b" ")[2])
+        yield b"".join([b"%d %b\n" % (before + int(number), rest) for number, _, rest in rows])
     yield b"solved %d refused %d\n" % (count - refused, refused)
 
 
@@ -135,15 +125,14 @@ class Run:
         task.update(parts=len(self.parts), list=whole.hexdigest())
         self.count = self.parts[-1].first + self.parts[-1].lines - 1 if self.parts else 0
 
-    def has_list(self, digest: Optional[str]) -> bool:
-        """Returns whether the folder has the list. Refuses a list that does not begin with the one in the folder,
-        unless that one is damaged: its SHA-256 is not `digest`."""
+    def keep_list(self, digest: Optional[str]) -> None:
+        """Copies the list into the folder, unless it is there. Refuses a list that does not begin with the one in the
+        folder, unless that one is damaged: its SHA-256 is not `digest`."""
         path, whole = self.folder / "list", hashlib.sha256()
-        if not path.is_file():
-            return False
-        with path.open("rb") as kept:
-            for block in iter(lambda: kept.read(MOST_BYTES), b""):
-                whole.update(block)
+        if path.is_file():
+            with path.open("rb") as kept:
+                for block in iter(lambda: kept.read(MOST_BYTES), b""):
+                    whole.update(block)
         if whole.hexdigest() == digest != self.task["list"]:
             with path.open("rb") as kept, self.source.open("rb") as file:
                 lines = itertools.chain(file, itertools.repeat(b""))
@@ -152,11 +141,9 @@ class Run:
                         raise Refusal(f"{self.name} is not the list that {shown(self.folder)} was begun with, from "
                                       f"line {number} on: use another folder, or the same list (it may have grown at "
                                       "its end)", MISUSED)
-        return bool(whole.hexdigest() == self.task["list"])
-
-    @functools.cached_property
-    def list(self) -> BinaryIO:
-        return (self.folder / "list").open("rb")
+        if whole.hexdigest() != self.task["list"] or not path.is_file():
+            with self.source.open("rb") as file:
+                store(path, file, self.source.stat().st_mode & 0o666)
 
     def test(self) -> None:
         """Sets `files` and `program`, the path of one that works on this machine; refuses if none does."""
@@ -171,7 +158,9 @@ class Run:
 
     def text(self, part: Part) -> bytes:
         """Returns the bytes of a part's lines, as they are in the folder's list."""
-        return os.pread(self.list.fileno(), part.size, part.start)
+        with (self.folder / "list").open("rb") as file:
+            file.seek(part.start)
+            return file.read(part.size)
 
     def unsolved(self) -> List[Part]:
         return [part for part in self.parts if part.number not in self.statuses]
@@ -199,7 +188,7 @@ class Run:
         found = self.check(part, text, record)
         if found:
             with refusing("write", self.folder):
-                store(self.path(part), [record], os.fstat(self.list.fileno()).st_mode & 0o666,
+                store(self.path(part), [record], (self.folder / "list").stat().st_mode & 0o666,
                       is_synced=found.seconds >= SYNCED_SECONDS)
         return found, "" if found else why or "its results are not complete"
 
@@ -276,11 +265,8 @@ def begin(command: argparse.Namespace, source: Path, programs: Callable[[], List
         lock(folder)
         before = earlier_task(folder, run.task["options"])
         run.task["programs"] = before.get("programs")
-        has_list = run.has_list(before.get("list"))
         try:
-            if not has_list:
-                with source.open("rb") as file:
-                    store(folder / "list", file, source.stat().st_mode & 0o666)
+            run.keep_list(before.get("list"))
             if book and claims is not None:
                 renew(folder / "book-in", claims, book.stat().st_mode & 0o666)
             prepare(run, programs)

@@ -5,7 +5,6 @@ import itertools
 import json
 import os
 import re
-import shutil
 import signal
 import subprocess
 import sys
@@ -15,7 +14,6 @@ from typing import Any, Callable, Dict, Iterator, List, NamedTuple, Optional, Tu
 
 KNOWN = b"-OXXXXX-XXXXXXXOXXXXXXXXXXXXXXXXXXXOXXXXXXXXXXXXXXXXXXXXXXXXXXXX X; H1:+62; A1:+52;\n"
 KNOWN_SECONDS = 30  # in which a machine has to solve it; that takes 0.01, but a busy machine starts programs late
-SETPRIV = shutil.which("setpriv") or "setpriv"
 PASSED_ON = ("--max-empties", "--scoring", "--workers", "--table", "--book-in", "--complete")  # to the program
 
 # What a run's file `task` has. "options": {option that decides the results: value}, "" for an option without value and
@@ -46,7 +44,7 @@ def unsealed(about: object, text: bytes) -> bytes:
 def guarded(program: str, words: List[str]) -> List[str]:
     """Returns a command that runs a program, which is killed when this process ends. The program's path leads through
     this process, so that nothing is run once that has ended."""
-    return [SETPRIV, "--pdeathsig", "KILL", f"/proc/{os.getpid()}/root{program}", *words]
+    return ["setpriv", "--pdeathsig", "KILL", f"/proc/{os.getpid()}/root{program}", *words]
 
 
 def words_of(task: Task, book_in: Optional[str]) -> List[str]:
