@@ -1,4 +1,5 @@
 """ffosolve-many cuts a list into parts, goes on after any interruption, and uses only complete results of a part."""
+import functools
 import os
 import random
 import re
@@ -13,7 +14,6 @@ from unittest import mock
 
 import pytest
 
-from ffosolve import _command_line
 from ffosolve._many import folder, solve
 from tests.many import ACTING, BOARD, WORDS, files
 from tests.support import MOST_BYTES, NOBODY, ROOT, SECONDS, ends, limited, processes_in, run, wait_until, write
@@ -46,14 +46,15 @@ def test_scores_are_complete_with_a_line_for_each_of_the_part(output, is_whole):
     assert bool(one.check(part, b"1\n2\n3\n", record)) == is_whole
 
 
-def test_a_file_is_on_the_disk_before_it_has_its_name(folder):
-    synced = []
-    with mock.patch.object(os, "fsync", lambda file: synced.append((os.fstat(file).st_size, os.path.exists("it")))):
-        _command_line.write_whole({"it": [b"te", b"xt"]})
-    assert synced == [(4, False)]
-    with mock.patch.object(os, "fsync", side_effect=OSError), pytest.raises(OSError):
-        _command_line.write_whole({"it": [b"other"]}, replaces=True)
-    assert (os.listdir(), Path("it").read_bytes()) == (["it"], b"text")
+def test_results_that_took_a_second_are_on_the_disk_at_once(tmp_path):
+    one, part = folder.Run.__new__(folder.Run), folder.Part(0, 0, 2, 1, 1, "digest", 1.0)
+    one.folder, one.task, one.statuses = tmp_path, {"options": {"--scores": ""}}, {}
+    write(tmp_path / "list", "1\n")
+    (tmp_path / "results").mkdir()
+    with mock.patch.object(os, "fsync") as synced:
+        for seconds, count in ((0.9, 0), (1.0, 1)):
+            record = solve.record_of(one.task, 0, "digest", solve.Solved(0, b"a\n", b"", seconds))
+            assert one.keep(part, b"1\n", record, "")[0] and synced.call_count == count
 
 
 def test_the_lock_of_a_run_that_ends_is_waited_for(tmp_path):
@@ -161,16 +162,18 @@ def test_only_the_parts_that_failed_are_solved_again(case):
               message="not solved: 2 of 7 parts: ")
 
 
-def test_other_files_in_the_folder_stay_and_links_are_not_followed(case):
-    case.many(*WORDS)
-    kept = [write(f"work/{name}", "?") for name in ("results/mine.txt", "notes", "results/0000001.0123abcd.new")]
-    for name in ("list", "task", "results/0000002", "book-in"):
-        Path("work", name).unlink(missing_ok=True)
-        os.symlink(case.folder / "one.book", f"work/{name}")
-    before = Path("one.book").read_bytes()
-    case.many(*WORDS, message="in 3 parts, 2 of them solved before;")
-    assert [path.read_text() for path in kept] == ["?"] * 3
-    assert Path("one.book").read_bytes() == before
+def test_links_and_pipes_in_place_of_files_are_replaced_and_other_files_stay(case):
+    case.many(*WORDS, "--book-in=one.book")
+    before = files()
+    kept = {write(name, "?") for name in ("other", "work/notes", "work/list.0123abcd.new", "work/results/mine.txt")}
+    for make in (os.mkfifo, functools.partial(os.symlink, case.folder / "other")):
+        for name in ("results/0000001", "list", "book-in", "program-0", "task"):
+            Path("work", name).unlink()
+            make(Path("work", name))
+            case.many(*WORDS, "--book-in=one.book")
+    now = files()
+    assert {path for path in now if now[path] != before.get(path)} - {Path("work/results/0000001")} == kept
+    assert {path.read_text() for path in kept} == {"?"}
 
 
 PRINTED = "    print_all(run.output())\n"
@@ -259,15 +262,6 @@ def test_copies_of_files_that_others_may_not_read_may_not_be_read_by_others(case
     run(case.MANY, "--cut", *WORDS, "--book-in=one.book")
     run(sys.executable, "work/solve.py", "1")
     assert stat.S_IMODE(Path("work/results/0000001").stat().st_mode) == 0o600
-
-
-def test_a_fifo_among_the_results_is_replaced(case):
-    case.many(*WORDS)
-    for name in ("results/0000001", "list", "book-in", "program-0", "task"):
-        Path("work", name).unlink(missing_ok=True)
-        os.mkfifo(Path("work", name))
-        case.many(*WORDS)
-    assert Path("work/results/0000001").is_file()
 
 
 def test_a_finished_folder_that_may_not_be_written_prints_its_report(case):
