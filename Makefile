@@ -161,7 +161,7 @@ install: $(programs:%=out/$(CPU)/%) $(libraries) ## installs programs, library, 
 	for program in $(programs:%=out/$(CPU)/%) $(scripts:%=bin/%); do
 	    name=$${program##*/}
 	    said=$$(COLUMNS=80 "$$program" --help) || echo "$$name: its manual page has no options, since --help can't be run" >&2
-	    echo "$$said" | awk -v program="$$name" -f share/man/page.awk | $(call fill,/dev/stdin,"$$man/man1/$$name.1")
+	    echo "$$said" | awk -v program="$$name" -v programs="$(scripts) $(programs)" -f share/man/page.awk | $(call fill,/dev/stdin,"$$man/man1/$$name.1")
 	    $(call fill,share/completions/bash,"$$share/bash-completion/completions/$$name")
 	    $(call fill,share/completions/zsh,"$$share/zsh/site-functions/_$$name")
 	    $(call fill,share/completions/fish,"$$share/fish/vendor_completions.d/$$name.fish")

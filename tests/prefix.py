@@ -8,7 +8,7 @@ from pathlib import Path
 
 import pytest
 
-from .support import ROOT, build, need, need_module, run, stored, write
+from .support import ROOT, build, need, run, stored, write
 
 TESTS = ROOT / "tests"
 VERSION = stored("VERSION").decode().strip()
@@ -107,8 +107,8 @@ class Prefix:
     @functools.cached_property
     def site(self):
         """The folder into which pip has installed the package for Python, without a network."""
-        need_module("pip")
-        need_module("hatchling")
+        pytest.importorskip("pip")
+        pytest.importorskip("hatchling")
         self.make(*PIP, "--target", self.work / "site", self.work / "python")
         return self.work / "site"
 

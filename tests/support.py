@@ -31,9 +31,6 @@ def need(*tools):
             lack(tool)
 
 
-need_module = pytest.importorskip
-
-
 def stored(*path):
     """Returns the bytes of a file of the checkout; `path` is its relative path, in one or more parts."""
     return ROOT.joinpath(*path).read_bytes()

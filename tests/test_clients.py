@@ -13,7 +13,7 @@ import pytest
 
 import ffosolve
 from tests.prefix import CXX, PIP, PREFIX, VERSION, C, installed  # noqa: F401 - a fixture
-from tests.support import ROOT, built, lack, need, need_module, preload, run, stored
+from tests.support import ROOT, built, lack, need, preload, run, stored
 
 PAGE = "docs/check-evaluation.md"  # its program reads a list of positions, and their scores
 SMALL, LARGE = 9, 10  # how many positions of examples/masks.txt an example solves; only the last has 20 empty squares
@@ -158,7 +158,7 @@ def test_each_program_of_the_documents_prints_what_is_shown(language, names):
 
 def test_the_packages_own_tests_pass():
     assert (PREFIX.site / "ffosolve/py.typed").exists()
-    need_module("pytest")
+    pytest.importorskip("pytest")
     words = (sys.executable, "-m", "pytest", "-q", "-p", "no:cacheprovider", PREFIX.work / "python/tests")
     assert re.search(r"(?m)^[1-9]\d* passed", PREFIX.make(*words, timeout=800).stdout)  # on a busy machine
 
@@ -186,7 +186,7 @@ def test_a_library_of_another_version_or_without_a_call_is_refused():
 def archives(source, *kinds):
     """Builds archives of the package for Python in the folder `source`, one of each of `kinds`, such as "sdist", by
     the build backend. Returns the archives' paths."""
-    need_module("hatchling")
+    pytest.importorskip("hatchling")
     hooks = "import sys, hatchling.build as made\n"
     hooks += "for kind in sys.argv[2:]: print(getattr(made, f'build_{kind}')(sys.argv[1]))"
     names = PREFIX.make(sys.executable, "-Bc", hooks, PREFIX.work, *kinds, cwd=source).stdout.split()

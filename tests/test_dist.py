@@ -12,7 +12,7 @@ from types import SimpleNamespace
 import pytest
 
 from tests.prefix import FIRST, FIRST_OBF, LEVELS, VERSION, copied_checkout, files_below, path_without
-from tests.support import ROOT, ends, is_v3, lack, need, need_module, run, stored, unshared, write
+from tests.support import ROOT, ends, is_v3, lack, need, run, stored, unshared, write
 from tests.test_install import completed_by_zsh
 
 COMMIT = "GIT_COMMITTER_DATE='1700000000 +0000' git -c user.name=a -c user.email=a@b commit -q -m one"
@@ -231,7 +231,7 @@ def is_used(start, version, place):
 
 @pytest.fixture(scope="module")
 def wheel(dist):
-    need_module("hatchling")
+    pytest.importorskip("hatchling")
     return made("wheel", dist.first, f"ffosolve-{dist.version}-py3-none-manylinux_2_34_x86_64.whl")
 
 
@@ -259,7 +259,7 @@ def test_an_empty_environment_needs_only_the_wheel(dist, wheel, folder):
 
 
 def test_without_git_and_at_the_release_the_version_is_plain(folder):
-    need_module("hatchling")
+    pytest.importorskip("hatchling")
     checkout = copied_checkout(folder / "plain")
     wheel = checkout / f"out/ffosolve-{VERSION}-py3-none-manylinux_2_34_x86_64.whl"
     for prepare in ("true", COMMIT_ALL):

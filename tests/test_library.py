@@ -14,7 +14,7 @@ import ffosolve
 from ffosolve._refusals import refusal_of
 from tests.games import random_positions
 from tests.prefix import CXX, LONGEST, NUMBER, PREFIX, STRICT, TESTS, VERSION, C, installed  # noqa: F401 - a fixture
-from tests.support import built, limited, need, need_module, preload, run, worked_rows
+from tests.support import built, limited, need, preload, run, worked_rows
 
 COMPILERS = [*itertools.product(("cc", "clang"), ("c90", "c99", "c11", "c17", "c2x"), ("c",)),
              *itertools.product(("c++", "clang++"), ("c++11", "c++14", "c++17", "c++20"), ("cpp",))]
@@ -90,7 +90,7 @@ def test_swig_wraps_the_header():
 
 
 def test_cffi_reads_the_declarations_of_the_header():
-    cffi = need_module("cffi")
+    cffi = pytest.importorskip("cffi")
     head, end = 'extern "C" {\n#endif\n', "/* end of the declarations */"
     declarations = PREFIX.text.split(head)[1].split(end)[0].replace("FFOSOLVE_MUST_USE", "")
     reader = cffi.FFI()

@@ -1,5 +1,5 @@
-# Makes the manual page of `program` from what it prints for --help, and from share/man/PROGRAM.1: a description in one
-# line, and the last sections. A heading of the help begins a section. An indented line with two blanks after a name
+# Makes the manual page of `program`, one of `programs`, from what it prints for --help, and from share/man/PROGRAM.1: a
+# description in one line, and more sections. A heading of the help begins a section. An indented line with two blanks after a name
 # begins an entry, and a line that is indented further continues it.
 BEGIN { title = "DESCRIPTION"; page = "share/man/" program ".1"; getline what <page }
 { gsub(/\\/, "\\e"); gsub(/-/, "\\-") }
@@ -20,4 +20,11 @@ END {
     printf ".SH SYNOPSIS\n%s.SH DESCRIPTION\n%s", text["SYNOPSIS"], text["DESCRIPTION"]
     for (at = 1; at <= count; at++) printf ".SH \"%s\"\n%s", order[at], text[order[at]]
     while ((getline <page) > 0) print
+    print ".SH SEE ALSO"
+    for (at = split(programs, names); at; at--) if (names[at] != program) {
+        gsub(/-/, "\\-", names[at])
+        printf "%s.BR %s (1)", comma, names[at]
+        comma = ",\n"
+    }
+    print ""
 }
