@@ -309,7 +309,7 @@ autoload -Uz compinit; compinit -u -d $ZDOTDIR/dump
 zle-line-init() {
     for line in ${(f)"$(<$ZDOTDIR/asked)"}; do
         BUFFER=$line CURSOR=$#line
-        zle expand-or-complete
+        zle menu-complete
         print -r -- $BUFFER >>$ZDOTDIR/completed
     done
     exit
@@ -319,8 +319,8 @@ zle -N zle-line-init
 
 
 def completed_by_zsh(lines, before="", start=run):
-    """Returns what zsh makes of each of `lines` after TAB. It runs the line `before`, if any, on a terminal, since only
-    its line editor completes words. `start` runs a command."""
+    """Returns what each of `lines` is with the first completion that zsh offers, if any. It runs the line `before` on a
+    terminal, since only its line editor completes words. `start` runs a command."""
     own = Path(".zsh").absolute()
     write(own / "asked", "\n".join(lines))
     write(own / ".zshrc", before + ZSHRC)
@@ -420,8 +420,9 @@ def test_fish_describes_each_option_in_all_words_of_the_help(texts):
 def test_zsh_completes_options_values_files_and_commands(texts):
     need("zsh")
     lines = {"ffosolve --sco": "ffosolve --scoring", "ffosolve --scoring=d": "ffosolve --scoring=discs",
+             "ffosolve --": "ffosolve --book-in", "ffoscores --": "ffoscores --complete",
              "ffoscores --scoring w": "ffoscores --scoring winner", "bin/ffosolve --sco": "bin/ffosolve --scoring",
-             "ffosolve --book-in fir": "ffosolve --book-in first.", "ffosolve kinds.o": "ffosolve kinds.obf",
+             "ffosolve --book-in fir": "ffosolve --book-in first.book", "ffosolve kinds.o": "ffosolve kinds.obf",
              "ffosolve-games com": "ffosolve-games compare", "ffosolve-games che": "ffosolve-games check",
              "ffosolve-games compare com": "ffosolve-games compare com", "ffosolve-many com": "ffosolve-many com",
              "ffosolve-games compare --re": "ffosolve-games compare --real",
