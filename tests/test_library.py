@@ -2,7 +2,6 @@
 ffosolve read lines with random faults alike; Python and C read tests/rows/ffosolve/lines.tsv, too."""
 import functools
 import itertools
-import os
 import random
 import re
 import subprocess
@@ -32,7 +31,6 @@ NAMES = {
     "SHARED": "3 2", "WIDE": "1 6", "START": "0x0000000810000000 0x0000001008000000",
     "BOARD": "-OXXXXX-XXXXXXXOXXXXXXXXXXXXXXXXXXXOXXXXXXXXXXXXXXXXXXXXXXXXXXXX",
     "READ": "fffffff7ffff7f7c 800008002", "AS_WHITE": "800008002 fffffff7ffff7f7c",
-    "LISTED": b"-OXXXXX-XXXXXXXOXXXXXXXXXXXXXXXXXXXOXXXXXXXXXXXXXXXXXXXXXXXXXXXX X; H1:+62;".hex(),
     "VERSION": VERSION, "NUMBER": NUMBER, "ENTRIES": ffosolve.MOST_ENTRIES, "MORE": ffosolve.MOST_ENTRIES + 1,
     "TEXTS": ", ".join(TEXTS_OF_LINES.get(it.name) or refusal_of(it).reason for it in ffosolve.Status if it.value),
 }
@@ -73,12 +71,6 @@ def test_the_shared_object_has_its_names_and_needs_only_the_c_library():
         assert part in printed
 
 
-@pytest.mark.parametrize(("compiler", "standard", "language"), COMPILERS)
-def test_each_compiler_takes_the_header_in_each_standard(compiler, standard, language):
-    source = PREFIX.write(f"header.{language}", PROGRAM)
-    PREFIX.make(PREFIX.compile([compiler, f"-std={standard}", *STRICT], "header", [source]))
-
-
 def test_swig_wraps_the_header():
     need("swig")
     include = '%include "stdint.i"\n%include "ffosolve.h"\n'
@@ -100,20 +92,18 @@ def test_cffi_reads_the_declarations_of_the_header():
 
 
 @pytest.mark.parametrize(("compiler", "standard", "language"), COMPILERS)
-def test_a_compiler_warns_if_a_status_is_ignored(compiler, standard, language):
-    """Tries every function that returns a status, whether it is in the library or inline in the header."""
+def test_each_compiler_takes_the_header_in_each_standard_and_warns_if_a_status_is_ignored(compiler, standard, language):
+    """Ignores the status of every function that returns one, whether it is in the library or inline in the header."""
     declared = re.findall(r"^(?:static __inline__ )?int32_t (ffosolve_\w+)\(([^)]*)\)", PREFIX.text, re.MULTILINE)
     names = {name for name, _ in declared}
     assert names >= {"ffosolve_solve", "ffosolve_solve_all_or_null", "ffosolve_read_line_or_null"}
-    source = '#include "ffosolve.h"\n' + "".join(f"#undef {name}\n" for name in names)
+    source = PROGRAM + "".join(f"#undef {name}\n" for name in names)
     for name, parameters in declared:
         arguments = re.findall(r"(\w+)(?:\[\d+\])?(?:,|$)", parameters)
         source += f"void {name}_unused({parameters}) {{ {name}({', '.join(arguments)}); }}\n"
-    need(compiler)
-    file = PREFIX.write(f"unused.{language}", source)
-    command = (compiler, f"-std={standard}", "-c", "-o", os.devnull, "-I", PREFIX.header.parent, file)
-    assert PREFIX.run(*command, "-Wno-unused-result").returncode == 0
-    errors = PREFIX.run(*command, "-Werror=unused-result").stderr
+    file, words = PREFIX.write(f"unused.{language}", source), [compiler, f"-std={standard}"]
+    PREFIX.make(PREFIX.compile([*words, *STRICT, "-Wno-unused-result"], "unused", [file]))
+    errors = PREFIX.run(*words, "-Werror=unused-result", "-c", "-I", PREFIX.header.parent, file).stderr
     assert len(re.findall(r"\[-Werror[=,](?:-W)?unused-result\]", errors)) == len(names)
 
 
@@ -132,6 +122,15 @@ def test_a_status_has_one_name_number_and_text_in_each_language():
         assert in_rust == f"{solved}; {read}"
 
 
+def call_of(template):
+    """Returns a call as library_calls.c reads it: with the values of NAMES, and the text for read_line in hexadecimal.
+    """
+    call = template.format_map(NAMES)
+    if call.startswith("read_line"):
+        call = call[:12] + call[12:].encode().decode("unicode_escape").encode().hex()
+    return call
+
+
 @functools.cache
 def worked_calls():
     """Returns the calls of tests/library_calls.txt, and the text that library_calls.c has to print for them according
@@ -141,10 +140,7 @@ def worked_calls():
     for row in (TESTS / "library_calls.txt").read_text().splitlines():
         template, printed = row.rsplit(" = ", 1)
         for words in itertools.product(*(word.split("|") for word in template.split(" "))):
-            call = " ".join(words).format_map(NAMES)
-            if call.startswith("read_line"):
-                call = call[:12] + call[12:].encode().decode("unicode_escape").encode().hex()
-            calls.append(call)
+            calls.append(call_of(" ".join(words)))
             wanted += printed.format_map(NAMES) + "\n"
     return calls, wanted
 
@@ -190,16 +186,16 @@ def test_each_wrong_header_is_noticed():
             assert noticed, wrong[number]
 
 
-@pytest.mark.parametrize(("call", "needs_memory"), [
-    ("solve {CORNERS} 0 64", True), ("confirm {CORNERS} 0 64 62 0 0x80", True), ("move_scores {CORNERS} 0 64", True),
-    ("solve_all 0 64 1 {CORNERS}", True), ("move_scores_all 0 64 1 {CORNERS}", True), ("read_line 0 {LISTED}", True),
-    ("solve {CORNERS} 0 0", False),
+@pytest.mark.parametrize(("requests", "call"), [
+    (1, "solve {CORNERS} 0 64"), (1, "confirm {CORNERS} 0 64 62 0 0x80"), (1, "move_scores {CORNERS} 0 64"),
+    (1, "solve_all 0 64 1 {CORNERS}"), (1, "move_scores_all 0 64 1 {CORNERS}"), (1, "read_line 0 {BOARD} X;A1:0"),
+    (0, "solve {CORNERS} 0 0"),
 ])
-def test_a_call_without_memory_returns_its_status(call, needs_memory):
-    """Refuses one of the program's requests for memory after the other; all but one are not the call's."""
-    call = call.format_map(NAMES)
+def test_a_call_without_memory_returns_its_status(requests, call):
+    """Refuses the program's requests for memory, one in each run. Those that are not the call's change nothing."""
+    call = call_of(call)
     found = [PREFIX.called(call, env=preload(PREFIX.work, REFUSED=str(number))) for number in range(1, 6)]
-    assert sorted(found) == sorted([["7"]] * needs_memory + [PREFIX.called(call)] * (5 - needs_memory))
+    assert sorted(found) == sorted([["7"]] * requests + [PREFIX.called(call)] * (5 - requests))
 
 
 def test_the_stack_that_the_header_names_is_enough():
@@ -211,7 +207,7 @@ def test_the_stack_that_the_header_names_is_enough():
     printed = PREFIX.called(*calls, env={}, preexec_fn=limited(RLIMIT_STACK=32 << 10))
     assert [line[:2] for line in printed] == ["0 "] * len(calls)
     with pytest.raises(subprocess.TimeoutExpired):
-        call = "solve {START} 0 1024".format_map(NAMES)
+        call = call_of("solve {START} 0 1024")
         PREFIX.called(call, env={}, preexec_fn=limited(RLIMIT_STACK=128 << 10), timeout=2)
 
 
