@@ -1,6 +1,7 @@
 //! The exit status of `ffoscores`.
 
-ghost use Rattle.std.specs.Prelude.{◌≡◌, IfOk, IsErr};
+ghost use Rattle.std.specs.Prelude.{◌≡◌, IfErr, IfOk, IsErr};
+ghost use Rattle.std.specs.IoError.{error_kind};
 ghost use Rattle.std.specs.Process.{exit_status};
 ghost use Rattle.program_parts.specs.Inputs.{names_of};
 ghost use Rattle.program_parts.specs.Endings.{EndsUnread};
@@ -10,7 +11,7 @@ use crate::ffoscores::list_program;
 use program_parts::{ErrorStream, ProgramError, borrow_words, words_error};
 use std::alloc::Global;
 use std::io;
-use std::io::{Eprint, Read, Write};
+use std::io::{Eprint, ErrorKind, Read, Write};
 use std::process::{ExitCode, Termination};
 use std::rt::Files;
 use std::sync::Wait;
@@ -66,6 +67,10 @@ pub fn list_program_of<T: Files + Threads + Wait, R: Read, W: Write, E: ErrorStr
         (R.remaining input.old) (W.contents output.old) (W.contents output.new) result.status) }
     ensures unread { IsErr words
         → EndsUnread 3 (W.contents output.old) (W.contents output.new) result.status }
+    ensures memory { IfErr words (λ fault. error_kind fault ≡ ErrorKind.OutOfMemory
+        → result.status ≡ 3) }
+    ensures words { IfErr words (λ fault. (error_kind fault ≡ ErrorKind.OutOfMemory → ⊥)
+        → result.status ≡ 2) }
 {
     let words = match words {
         Ok(words) => words,
