@@ -68,26 +68,24 @@ def test_a_call_takes_a_quarter_of_the_time_of_a_call_for_each_position(name, re
     assert together < apart / 4
 
 
-def masks(line):
-    return "{0.own} {0.opp}".format(Position.from_obf(line))
+def call(name, line, *words):
+    """Returns a call as tests/library_calls.c reads it, for the position in `line` under the scoring winner."""
+    position = Position.from_obf(line)
+    return " ".join(map(str, (name, position.own, position.opp, 0, *words)))
 
 
-def spent_by(*calls):
-    """Returns the seconds of each call, which is written as in tests/library_calls.c."""
-    assert PREFIX.caller  # compiles
-    return [seconds(lambda: PREFIX.called(call)) for call in calls]
+RIGHT = call("confirm", ADVISED, 65_536, -14, 0, 0)
 
 
-@pytest.mark.parametrize("call", [
-    f"solve {masks(HARD)} 0 {{}}",
-    f"confirm {masks(HARD)} 0 {{}} -16 0 0",  # it is worth -18
-    f"move_scores {masks(MOVES)} 0 {{}}",
-], ids=["solve", "confirm", "move_scores"])
-def test_a_call_for_one_position_uses_its_table(call):
-    usual, without = spent_by(call.format(65_536), call.format(0))
-    assert usual < without / 1.3
-
-
-def test_a_call_with_a_right_claim_takes_less_time():
-    solved, confirmed = spent_by(f"solve {masks(ADVISED)} 0 65536", f"confirm {masks(ADVISED)} 0 65536 -14 0 0")
-    assert confirmed < solved / 1.5
+@pytest.mark.parametrize(("slow", "quick", "times"), [
+    pytest.param(call("solve", HARD, 0), call("solve", HARD, 65_536), 1.3, id="a table for solve"),
+    pytest.param(call("confirm", HARD, 0, -16, 0, 0), call("confirm", HARD, 65_536, -16, 0, 0), 1.3,  # it is worth -18
+                 id="a table for confirm"),
+    pytest.param(call("move_scores", MOVES, 0), call("move_scores", MOVES, 65_536), 1.3, id="a table for move_scores"),
+    pytest.param(call("solve", ADVISED, 65_536), RIGHT, 1.5, id="a right claim"),
+    pytest.param(call("confirm", ADVISED, 65_536, 20, 0, 0), RIGHT, 1.5, id="a right claim for a wrong one"),
+])
+def test_a_call_for_one_position_takes_less_time_with(slow, quick, times):
+    assert PREFIX.caller  # compiles it
+    without, usual = (seconds(lambda: PREFIX.called(words)) for words in (slow, quick))
+    assert usual < without / times
