@@ -143,16 +143,6 @@ def test_what_is_there_stays_if_a_file_appears_or_the_folder_is_closed_during_th
     left({**before, **new})
 
 
-def test_a_long_name_a_missing_folder_and_a_folder_are_refused():
-    write("some.book", OLD)
-    os.mkdir("it.book")
-    for name, cause in (("b" * 251, "its name is too long"), ("no/it.book", ""), ("it.book", "it is a folder"),
-                        ("some.book/it.book", "a part of its name is not a folder")):
-        solves(unwritten(cause, name), name)
-    os.rmdir("it.book")  # fails unless the folder is empty
-    left({"some.book": OLD})
-
-
 def test_a_link_stays_and_its_target_is_written():
     keeps({"it.book": "no/there"}, unwritten(""))
     for before in ({"it.book": "there"}, LINKED):
@@ -202,11 +192,13 @@ def test_files_with_one_inode_number_on_two_file_systems_are_two_files():
 @pytest.mark.parametrize("place, wanted", (
     ("", unwritten("", "")), ("no/it.book", unwritten("", "no/it.book")),
     ("notes/it.book", unwritten("a part of its name is not a folder", "notes/it.book")),
+    ("folder", unwritten("it is a folder", "folder")), ("b" * 251, unwritten("its name is too long", "b" * 251)),
     ("notes", (3, b"", NO_BOOK[2].replace(b"it.book", b"notes"))),
 ))
 def test_files_are_counted_and_measured_then_the_place_of_the_book_is_tried_then_positions_are_solved(place, wanted):
     write("list", TEXT)
     write("notes", NOTES)
+    os.mkdir("folder")
     write("large", b" " * (MOST_BYTES + 1))
     write("long", b"-" * 27 + b"OX" + b"-" * 6 + b"XO" + b"-" * 27 + b" X\n")  # solving it would take too long
     os.mkfifo("pipe")  # reading it would never end
@@ -215,7 +207,7 @@ def test_files_are_counted_and_measured_then_the_place_of_the_book_is_tried_then
     os.close(writer)
     solves((1, b"", b"ffosolve: file 2 is larger than %d bytes\n" % MOST_BYTES), place, "list", "large")
     solves(wanted, place, "--max-empties", "60", "long")
-    assert (content("notes"), os.path.exists("it.book")) == (NOTES, False)
+    assert (content("notes"), os.listdir("folder"), len(os.listdir())) == (NOTES, [], 6)
 
 
 @pytest.mark.parametrize("before, place", ((OVER, "it.book"), (LINKED, "there")))

@@ -219,11 +219,6 @@ def test_the_wheel_and_the_source_archive_are_fit_to_be_published():
     assert (ran.returncode, ran.stdout.count(b"PASSED")) == (0, 2), ran
 
 
-def test_the_crate_declares_the_calls_of_the_header():
-    declared = re.findall(r"pub fn (ffosolve_\w+)", (ROOT / "rust/src/raw.rs").read_text())
-    assert sorted(declared) == sorted(PREFIX.calls)
-
-
 @pytest.mark.parametrize("features", [(), ("--features", "shared")])
 def test_the_crates_own_tests_pass_with_either_library(features):
     need("readelf")

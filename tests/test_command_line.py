@@ -1,4 +1,4 @@
-"""ffosolve and ffoscores: --help, --version, --progress, refused words, files after --, and a full or closed output."""
+"""ffosolve and ffoscores: --help, --version, --progress, refused words, and a full or closed output."""
 import re
 
 import pytest
@@ -103,12 +103,6 @@ def test_a_full_or_closed_output_is_reported_even_for_an_empty_report(folder, na
         for output in (">/dev/full", ">&-"):
             wanted = (3, "", f"{name}: cannot write standard output\n")
             ends(wanted, "sh", "-c", f'exec "$0" "$1" {output}', built(name), word)
-
-
-@pytest.mark.parametrize("name", PROGRAMS)
-def test_words_after_two_dashes_are_files(says, name):
-    for word in ("--best", "-x", "--help"):
-        says((3, "", f"{name}: cannot read {word}\n"), name, "--", word)
 
 
 @pytest.fixture

@@ -13,7 +13,7 @@ import ffosolve
 from ffosolve._refusals import refusal_of
 from tests.games import random_positions
 from tests.prefix import CXX, LONGEST, NUMBER, PREFIX, STRICT, TESTS, VERSION, C, installed  # noqa: F401 - a fixture
-from tests.support import built, limited, need, preload, run, worked_rows
+from tests.support import built, limited, need, preload, run, stored, worked_rows
 
 COMPILERS = [*itertools.product(("cc", "clang"), ("c90", "c99", "c11", "c17", "c2x"), ("c",)),
              *itertools.product(("c++", "clang++"), ("c++11", "c++14", "c++17", "c++20"), ("cpp",))]
@@ -49,7 +49,8 @@ fn main() {
 """
 
 
-def test_it_exports_exactly_the_calls_of_the_header():
+def test_it_exports_and_the_crate_declares_exactly_the_calls_of_the_header():
+    assert set(re.findall(r"pub fn (ffosolve_\w+)", stored("rust/src/raw.rs").decode())) == PREFIX.calls
     need("nm")
     for words in (["-D", PREFIX.shared], ["-g", PREFIX.archive]):
         printed = PREFIX.make("nm", "--defined-only", *words).stdout

@@ -129,6 +129,7 @@ def test_the_largest_file_and_64_files_are_read_but_not_65():
     ("ffosolve ffoscores", "list .", "cannot read .\n{name}: it is a folder"),
     ("ffosolve ffoscores", "list none.obf", "cannot read none.obf"),
     ("ffosolve ffoscores", "list none.obf none", "cannot read none.obf"),
+    *(("ffosolve ffoscores", f"-- {word}", f"cannot read {word}") for word in ("--best", "-x", "--help")),
     ("ffosolve", "--book-in . list", "cannot read .\n{name}: it is a folder"),
     ("ffosolve", "--book-in none.book none.obf", "cannot read none.book"),
     ("ffosolve", "--book-in bad.book none.obf", "book line 1: bad square at column 1"),
@@ -153,11 +154,9 @@ def test_an_error_in_any_file_is_reported_before_anything_is_printed(names, word
 def test_more_empty_squares_than_the_limit_are_refused():
     report = b"[1]\n1 refused: 2 empties, limit 1\nsolved 0 refused 1\n"
     ends((0, report, b""), built(), "--max-empties", "1", input=TWO)
-    line = b"% refused: 2 empties, limit 1: " + TWO
-    ends((1, line, b""), built("ffoscores"), "--max-empties", "1", input=TWO)
 
 
-def test_a_too_large_file_is_read_only_to_one_byte_past_the_limit():
+def test_a_too_large_file_is_read_only_to_one_byte_past_the_limit_and_refused_even_if_nobody_can_be_told():
     with open("large.obf", "wb") as large:
         large.truncate(256 << 20)
     for name, status in PROGRAMS.items():
@@ -167,12 +166,8 @@ def test_a_too_large_file_is_read_only_to_one_byte_past_the_limit():
         with open("large.obf", "rb") as large:
             ends(wanted, built(name), stdin=large)
             assert os.lseek(large.fileno(), 0, os.SEEK_CUR) == MOST_BYTES + 1
-
-
-@pytest.mark.parametrize("name", PROGRAMS)
-def test_a_full_standard_error_changes_no_status(name):
-    with open("/dev/full", "wb") as full:
-        ends((PROGRAMS[name], b"", None), built(name), input=b" " * (MOST_BYTES + 1), stderr=full)
+        with open("/dev/full", "wb") as full:
+            ends((status, "", None), built(name), "large.obf", stderr=full)
 
 
 @pytest.mark.parametrize("name, words", (("ffosolve", ["--book-out", "it.book"]), ("ffoscores", []),
@@ -237,6 +232,7 @@ def test_odd_texts_are_printed_again_and_options_set_the_limit_the_table_and_the
         ("", 1, wrong + b"\0" * MOST_BYTES + b"\n", b"\0" * MOST_BYTES),
         ("", 0, SOLVED * whole, TWO * whole),
         ("--max-empties=2", 0, SOLVED, TWO),
+        ("--max-empties=1", 1, b"% refused: 2 empties, limit 1: " + TWO, TWO),
         ("--table 0", 1, SCORES, KINDS),
         ("--table 1", 1, SCORES, KINDS),
         (f"--table {MOST_ENTRIES}", 1, SCORES, KINDS),
