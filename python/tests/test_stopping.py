@@ -166,11 +166,6 @@ def test_a_call_that_is_left_ends_at_once_and_stops(name, threads, leave, solver
     assert_no_processor_works()
 
 
-def with_empties(empties):
-    discs = 2**(64 - empties) - 1
-    return Position(discs & 0x5555555555555555, discs & 0xAAAAAAAAAAAAAAAA)
-
-
 @pytest.mark.parametrize("changed", ["other name", "other frame"])
 def test_on_another_executor_asyncio_does_not_stop_a_call_but_its_timeout_does(changed, solver, monkeypatch):
     found, run = [], executors._WorkItem.run
@@ -192,7 +187,8 @@ def test_on_another_executor_asyncio_does_not_stop_a_call_but_its_timeout_does(c
 @pytest.mark.parametrize("count, empties, is_brief", [
     (1, 14, True), (1, 15, False), (2, 14, False), (16, 12, True), (17, 12, False), (4096, 8, True), (4097, 2, False)])
 def test_only_a_brief_call_is_made_without_another_process(count, empties, is_brief, solver):
-    solver.solve_all([with_empties(empties)] * count)
+    discs = 2**(64 - empties) - 1
+    solver.solve_all([Position(discs & 0x5555555555555555, discs & 0xAAAAAAAAAAAAAAAA)] * count)
     assert len(kept()) == (0 if is_brief else 1)
 
 

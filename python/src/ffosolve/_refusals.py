@@ -125,11 +125,6 @@ class UnknownSymmetry(Refused, ValueError, status=Status.UNKNOWN_SYMMETRY, reaso
     """The number of a symmetry is not from 0 to 7."""
 
 
-def refusal_of(status: int) -> Refused:
-    """Returns the refusal for a status other than DONE; for one that is not in Status, an OtherRefusal."""
-    return REFUSALS[status]() if status in REFUSALS else OtherRefusal(status)
-
-
 def checked_number(name: str, value: int, least: int) -> int:
     """Returns `value`. Raises TypeError unless it is a whole number, and ValueError if it is less than `least`."""
     if not hasattr(value, "__index__"):

@@ -6,7 +6,7 @@ import reprlib
 from typing import Any, Callable, Iterable, Optional, Sequence
 
 from ._library import CPosition, loaded
-from ._refusals import SharedSquare, Status, TooManyEmpties, refusal_of
+from ._refusals import REFUSALS, OtherRefusal, SharedSquare, Status, TooManyEmpties
 
 WRONG_MASK = "a mask is a number from 0 to 2**64 - 1"
 # How many squares a mask has; `bit_count` came with Python 3.10.
@@ -69,4 +69,4 @@ def moves(position: Sequence[int]) -> int:
 def accept(status: int) -> None:
     """Raises the refusal that `status` stands for, or does nothing if it is DONE."""
     if status != Status.DONE:
-        raise refusal_of(status)
+        raise REFUSALS[status]() if status in REFUSALS else OtherRefusal(status)
