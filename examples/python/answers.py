@@ -12,14 +12,9 @@ from ffosolve import LibraryNotFound, Position, Refused, Solver
 
 def play_on(solver, position):
     """Plays to the end of the game, and prints each move with all the legal ones."""
-    while not position.is_over:
-        if position.must_pass:
-            position = position.passed()
-            print("PS")
-            continue
-        best = solver.solve(position).squares[0]
-        print(best, "of", ",".join(position.legal_moves))
-        position = position.play(best)
+    for move, _ in solver.best_line(position):
+        print(f"{move} of {','.join(position.legal_moves)}" if position.legal_moves else move)
+        position = position.play(move)
 
 
 def main():

@@ -20,26 +20,13 @@ from unittest import mock
 
 import pytest
 
+from calls import ANSWER, AT_PASS, CORNERS, ITERATORS, LISTS, MANY, ONE, OVER, POSITION, SEARCHES, find
 import ffosolve
 from ffosolve import START, Answer, Game, Kind, Position, Scoring, Solver, masks_of, parse_lines, read_lines
 from ffosolve._library import places
 
-CORNERS = "-OXXXXX-XXXXXXXOXXXXXXXXXXXXXXXXXXXOXXXXXXXXXXXXXXXXXXXXXXXXXXXX X; H1:+62;"
-POSITION = Position(0xFFFFFFF7FFFF7F7C, 0x0000000800008002)
-ANSWER = Answer(62, Kind.MOVES, 0x80)
-AT_PASS = Position.from_obf("-OOOOOOXXXXXXXXXXXXXXXXXXXXXXXXXXXXXXXXXXXXXXXXXXXXXXXXXXXXXXXXX O;")
-OVER = Position.from_obf("XXXXXXXXXXXXXXXXXXXXXXXXXXXXXXXX----------------OOOOOOOOOOOOOOOO X;")
 EIGHT = Position.from_obf("XOOOO-O-XOOO-OO-XOOOO-OXXXXXXXO-XXOXXXO-OOOOXOOOOXXXOOOOOX-XXXXO X;")  # 8 empty squares
 SHARED, WIDE, WIDER = Position(3, 2), Position(1, 2**31 - 2), Position(1, 2**30 - 2)  # 33 and 34 empty squares
-# Calls of a solver: those that search one position, all those for one position, and those for many.
-SEARCHES = (Solver.solve, Solver.move_scores, lambda solver, position: solver.confirm(position, ANSWER),
-            Solver.best_line, Solver.scored_line)
-ONE = (*SEARCHES, Solver.moves, lambda solver, position: solver.play(position, "A1"))
-ITERATORS = tuple(lambda solver, positions, call=call: list(call(solver, positions))
-                  for call in (Solver.solve_iter, Solver.move_scores_iter))
-MANY = (Solver.solve_all, Solver.move_scores_all, *ITERATORS)
-LISTS = (*MANY[:2], lambda solver, positions: solver.solve_arrays(*masks_of(positions)),
-         lambda solver, positions: solver.move_scores_arrays(*masks_of(positions)))
 MORE = "34 empty squares are more than max_empties=33 of the Solver"
 
 
@@ -281,7 +268,7 @@ def test_one_thread_makes_one_table_for_all_positions(call, monkeypatch):
 
 def test_calls_keep_no_memory():
     calls = [
-        *((call, Solver(), POSITION) for call in ONE), *((call, Solver(), [POSITION] * 9) for call in MANY),
+        *((find, name, 1, Solver(), [POSITION] * 9) for name in ONE + MANY[:4]),
         (START.play_all, "f5d6c3"), (lambda lines: list(read_lines(lines)), [CORNERS] * 9), (START.symmetries,),
     ]
     for call, *given in calls:
@@ -298,17 +285,16 @@ def test_calls_keep_no_memory():
         tracemalloc.stop()
 
 
-@pytest.mark.parametrize("calls, given, error, why, index", [
-    (ONE, SHARED, ffosolve.SharedSquare, "the masks share a square", None),
-    (SEARCHES, WIDER, ffosolve.TooManyEmpties, MORE, None),
+@pytest.mark.parametrize("names, given, error, why, index", [
+    (ONE, [SHARED], ffosolve.SharedSquare, "the masks share a square", None),
+    (SEARCHES, [WIDER], ffosolve.TooManyEmpties, MORE, None),
     (LISTS, [WIDE, WIDER, SHARED], ffosolve.TooManyEmpties, f"position at index 1: {MORE}", 1),
     (ITERATORS, [POSITION, WIDER, SHARED], ffosolve.TooManyEmpties, f"position at index 1: {MORE}", 1),
 ])
-def test_positions_are_refused_by_each_call(calls, given, error, why, index):
+def test_positions_are_refused_by_each_call(names, given, error, why, index):
     """In a list, before anything is solved: the first position would take hours."""
-    pytest.importorskip("numpy")
-    for call in calls:
-        refusal = refused(error, call, Solver(max_empties=33), given)
+    for name in names:
+        refusal = refused(error, find, name, 1, Solver(max_empties=33), given)
         assert (str(refusal), refusal.index) == (why, index)
 
 
@@ -345,8 +331,8 @@ def test_each_call_raises_out_of_memory_and_unknown_statuses(status, refusal, re
     solver = Solver()
     solver._library = library_that_returns(status)
     monkeypatch.setattr("ffosolve._library._loaded", [solver._library])
-    for call in (*ONE, *MANY):
-        error = refused(refusal, call, solver, POSITION if call in ONE else [POSITION])
+    for name in ONE + MANY:
+        error = refused(refusal, find, name, 1, solver, [POSITION])
         for it in (error, pickle.loads(pickle.dumps(error))):
             assert (type(it), it.status, str(it), it.index) == (refusal, status, reason, None)
 
@@ -358,23 +344,22 @@ def test_a_line_whose_moves_do_not_fit_into_memory_raises_no_memory(read):
         assert refused(ffosolve.NoMemory, read, CORNERS).index is None
 
 
-@pytest.mark.parametrize("call", [
-    *ONE, *(lambda solver, it, call=call: call(solver, [POSITION, it]) for call in MANY)])
-def test_an_object_that_is_not_a_position_is_named(call):
+@pytest.mark.parametrize("name", ONE + MANY)
+def test_an_object_that_is_not_a_position_is_named(name):
     for it in ("x", "ab", None, 5, ANSWER, (1,), (1, 2, 3), (0.5, 1), Position("a", "b"), CORNERS):
         with pytest.raises(TypeError, match=r"^a position is two masks, as Position\(own, opp\) and .* not "):
-            call(Solver(), it)
+            find(name, 1, Solver(), [POSITION, it])
     for it in (Position(-1, 0), Position(0, 2**64)):
         with pytest.raises(ValueError, match=r"^a mask is a number from 0 to 2\*\*64 - 1$"):
-            call(Solver(), it)
+            find(name, 1, Solver(), [POSITION, it])
 
 
-@pytest.mark.parametrize("call", MANY)
-def test_a_single_position_is_no_list(call):
+@pytest.mark.parametrize("name", MANY)
+def test_a_single_position_is_no_list(name):
     with pytest.raises(TypeError, match=r"^positions are a list or .*, as \[position\], not a single one$"):
-        call(Solver(), POSITION)
+        find(name, 1, Solver(), POSITION)
     with pytest.raises(TypeError, match="^a position is two masks, .* not [0-9.]+$"):
-        call(Solver(), tuple(POSITION))
+        find(name, 1, Solver(), tuple(POSITION))
 
 
 @pytest.mark.parametrize("path", [
@@ -419,7 +404,7 @@ def test_lines_are_numbered_skipped_and_refused(end, tmp_path):
         wrong = []
         found = pickle.loads(pickle.dumps(list(read(given, refused=wrong.append))))
         assert [(line, line.number, line.side, line.listed) for line in found] == [
-            (POSITION, 2, "X", (("H1", 62),)), (POSITION.passed(), 5, "O", ())]
+            (POSITION, 2, "X", (("H1", 62), ("PS", -4))), (POSITION.passed(), 5, "O", ())]
         assert [(type(error), str(error), error.line) for error in wrong] == [
             (ffosolve.ShortBoard, "line 4: board has 63 of 64 squares", 4),
             (ffosolve.BadSquare, "line 6: bad square at column 1", 6)]

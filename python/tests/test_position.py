@@ -7,11 +7,9 @@ import xml.etree.ElementTree
 
 import pytest
 
+from calls import AT_PASS, CORNERS, OVER, PASS, POSITION
 import ffosolve
 from ffosolve import START, Position, Solver, Symmetry
-
-LINE = "-OXXXXX-XXXXXXXOXXXXXXXXXXXXXXXXXXXOXXXXXXXXXXXXXXXXXXXXXXXXXXXX X; H1:+62; ps:-4;"
-AT_PASS = "-OOOOOOXXXXXXXXXXXXXXXXXXXXXXXXXXXXXXXXXXXXXXXXXXXXXXXXXXXXXXXXX O;"
 
 
 class Mine(Position):
@@ -27,7 +25,7 @@ def all_of(position):
 
 @pytest.mark.parametrize("name, value", [
     ("own", 1), ("opp", 1), ("side", "O"), ("last_move", "F5"), ("listed", ()), ("number", 3)])
-@pytest.mark.parametrize("position", [Position.start(), START, Position.from_obf(LINE), Mine(1, 2)])
+@pytest.mark.parametrize("position", [Position.start(), START, POSITION, Mine(1, 2)])
 def test_no_attribute_can_be_assigned(position, name, value):
     before = all_of(position)
     with pytest.raises(AttributeError):
@@ -54,8 +52,8 @@ def test_mypy_sees_each_assignment(tmp_path, monkeypatch):
     *(lambda it, protocol=protocol: pickle.loads(pickle.dumps(it, protocol)) for protocol in range(2, 6))])
 @pytest.mark.parametrize("kind", [Position, Mine])
 def test_a_copy_has_all_that_the_position_has(kind, copied):
-    played, (read,) = kind.start().play("F5"), ffosolve.read_lines([LINE])
-    read = kind.from_obf(LINE) if kind is Mine else read
+    played, (read,) = kind.start().play("F5"), ffosolve.read_lines([CORNERS])
+    read = kind.from_obf(CORNERS) if kind is Mine else read
     for position in (played, read, kind(1, 2, "O"), kind(1, 2)):
         if kind is Mine:
             position.note = "kept"
@@ -78,11 +76,11 @@ def test_replace_and_asdict_have_the_side():
 
 def test_new_positions_are_of_the_same_class():
     start = Mine.start()
-    made = [start, start.play("F5"), start.play_all("f5d6"), start.passed(), Mine.from_obf(LINE), start.canonical(),
-            start.image(3), *start.symmetries(), Solver().play(start, "F5"), Mine.from_obf(AT_PASS).play("PS")]
+    made = [start, start.play("F5"), start.play_all("f5d6"), start.passed(), Mine.from_obf(CORNERS), start.canonical(),
+            start.image(3), *start.symmetries(), Solver().play(start, "F5"), Mine.from_obf(PASS).play("PS")]
     assert {type(position) for position in made} == {Mine}
-    assert {type(position) for position in (Position.start(), Position.from_obf(LINE), START.play("F5"))} == {Position}
-    assert Mine.from_obf(LINE).listed == (("H1", 62), ("PS", -4))
+    assert {type(position) for position in (Position.start(), POSITION, START.play("F5"))} == {Position}
+    assert Mine.from_obf(CORNERS).listed == (("H1", 62), ("PS", -4))
 
 
 def test_the_last_move_is_known_of_a_position_that_a_move_made():
@@ -102,8 +100,7 @@ def test_a_position_tells_its_discs():
 
 
 def test_a_legal_move_is_one_that_play_takes():
-    at_pass, over = Position.from_obf(AT_PASS), Position(2**64 - 1, 0)
-    for position, legal in ((START, ["D3", "C4", "F5", "E6"]), (at_pass, []), (over, [])):
+    for position, legal in ((START, ["D3", "C4", "F5", "E6"]), (AT_PASS, []), (OVER, [])):
         assert [name for name in map(ffosolve.square_name, range(64)) if position.is_legal(name)] == legal
         for move in (*range(-1, 66), *("PS", "pass", "PA", "--"), "f5", "A1"):
             try:
@@ -115,10 +112,9 @@ def test_a_legal_move_is_one_that_play_takes():
 
 
 def test_a_pass_is_played_where_it_is_legal():
-    at_pass = Position.from_obf(AT_PASS)
     for word in ("PS", "ps", "pass", "PASS", "pa", "--"):
-        assert at_pass.play(word).to_obf() == at_pass.passed().to_obf() == Solver().play(at_pass, word).to_obf()
-        assert at_pass.play_all([word, "A1", word]) == at_pass.play_all(["A1"]) == at_pass.passed().play("A1")
+        assert AT_PASS.play(word).to_obf() == AT_PASS.passed().to_obf() == Solver().play(AT_PASS, word).to_obf()
+        assert AT_PASS.play_all([word, "A1", word]) == AT_PASS.play_all(["A1"]) == AT_PASS.passed().play("A1")
 
 
 def test_moves_of_a_list_are_counted_from_its_own_first_position():
@@ -185,8 +181,7 @@ def test_the_picture_marks_the_last_move_and_is_saved(tmp_path):
 
 
 def test_a_line_lists_moves():
-    position = Position.from_obf(LINE)
-    assert position.to_obf() == LINE[:67]
-    assert position.to_obf(moves=position.listed) == LINE[:67] + " H1:+62; PS:-04;"
-    assert position.to_obf("O", moves={"a1": 5, "--": -7.5}) == Position(*position, "O").to_obf() + " A1:+05; --:-7.5;"
-    assert Position.from_obf(position.to_obf(moves=position.listed)).listed == position.listed
+    assert POSITION.to_obf() == CORNERS[:67]
+    assert POSITION.to_obf(moves=POSITION.listed) == CORNERS[:67] + " H1:+62; PS:-04;"
+    assert POSITION.to_obf("O", moves={"a1": 5, "--": -7.5}) == Position(*POSITION, "O").to_obf() + " A1:+05; --:-7.5;"
+    assert Position.from_obf(POSITION.to_obf(moves=POSITION.listed)).listed == POSITION.listed

@@ -3,15 +3,12 @@ import re
 
 import pytest
 
+from calls import AT_PASS, CORNERS, END, OVER, PASS, POSITION
 import ffosolve
 from ffosolve import (
     START, Answer, Board, Kind, NoMove, Position, SharedSquare, Solver, TooManyEntries, UnknownScoring,
     UnknownSymmetry, parse_lines, read_lines, square_name, square_names, square_number)
 
-LINE = "-OXXXXX-XXXXXXXOXXXXXXXXXXXXXXXXXXXOXXXXXXXXXXXXXXXXXXXXXXXXXXXX X; H1:+62; ps:-4;"
-PASS = "-OOOOOOXXXXXXXXXXXXXXXXXXXXXXXXXXXXXXXXXXXXXXXXXXXXXXXXXXXXXXXXX O;"  # White has no move
-OVER = "XXXXXXXXXXXXXXXXXXXXXXXXXXXXXXXX----------------OOOOOOOOOOOOOOOO X;"  # neither side has a move
-POSITION, AT_PASS, FINISHED = map(Position.from_obf, (LINE, PASS, OVER))
 AFTER, SHARED, FULL = START.play("F5"), Position(3, 2), Position(2**64 - 1, 0)
 FIRST, SECOND, THIRD = START.to_obf(), AFTER.to_obf(), AFTER.play("D6").to_obf()
 NO_SQUARE = "a square is a name such as 'F5' or a number from 0 to 63, not "
@@ -29,10 +26,11 @@ REFUSED = [
     (NoMove, f"F5 is not a legal move for White in {SECOND}", lambda: AFTER.play(37)),
     (NoMove, f"F5 is not a legal move for White in {SECOND}", lambda: Solver().play(AFTER, "f5")),
     (NoMove, f"A1 is not a legal move: White has to pass in {PASS}", lambda: AT_PASS.play("A1")),
-    (NoMove, f"A5 is not a legal move: the game is over in {OVER}", lambda: FINISHED.play("A5")),
+    (NoMove, f"A5 is not a legal move: the game is over in {END}", lambda: OVER.play("A5")),
     (NoMove, f"move 3: D6 is not a legal move for Black in {THIRD}", lambda: START.play_all("f5d6d6")),
     (NoMove, f"move 2: a pass is not a legal move for White in {SECOND}", lambda: START.play_all("f5 --")),
     (NoMove, "move 2: no square has the name 'z9'", lambda: START.play_all("f5z9")),
+    (ValueError, "it is a game in GGF or SGF without GM[Othello]", lambda: START.play_all("(;GM[2]B[f5];)")),
     *((NoMove, None, lambda square=square: Solver().play(START, square)) for square in ("A1", 0, 255, 256, 256 + 19)),
     *((NoMove, f"square {square} is not a legal move for Black in {FIRST}", lambda square=square: START.play(square))
       for square in (64, -1)),
@@ -52,7 +50,7 @@ REFUSED = [
     *((ValueError, f"{MASK}, not {mask}", lambda mask=mask: square_names(mask)) for mask in (-1, 1 << 64)),
     (ValueError, f"the game is not over, so only a Solver finds the score: {FIRST}", START.score),
     (ValueError, f"the game is not over, so only a Solver finds the score: {PASS}", AT_PASS.score),
-    (UnknownScoring, f"{SCORING}'loser'", lambda: FINISHED.score("loser")),
+    (UnknownScoring, f"{SCORING}'loser'", lambda: OVER.score("loser")),
     *((SharedSquare, SHARES, call) for call in (
         lambda: SHARED.legal_moves, lambda: SHARED.must_pass, lambda: SHARED.is_over, SHARED.score, SHARED.canonical,
         lambda: SHARED.play(9), lambda: SHARED.play_all("f5"))),
@@ -80,7 +78,7 @@ REFUSED = [
     *((TypeError, TEXT + type(it).__name__, lambda it=it: Position.from_obf(it)) for it in (5, None, ["a"])),
     *((TypeError, TEXT + type(it).__name__, lambda it=it: list(parse_lines(it))) for it in (5, None, ["a"])),
     *((TypeError, LINES + what, lambda it=it: read_lines(it)) for it, what in (
-        (f"{LINE}\n", "a text, which parse_lines reads"), (b"", "a text, which parse_lines reads"), (5, "5"),
+        (f"{CORNERS}\n", "a text, which parse_lines reads"), (b"", "a text, which parse_lines reads"), (5, "5"),
         (None, "None"))),
     (FileNotFoundError, None, lambda: read_lines("/nowhere/none.obf")),
     *((UnknownScoring, SCORING + repr(it), lambda it=it: Solver(scoring=it)) for it in (3, -1, "loser", None, 0.5)),

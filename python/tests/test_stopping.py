@@ -15,29 +15,19 @@ from concurrent.futures import thread as executors
 import psutil
 import pytest
 
+from calls import ANSWER, MANY, SEARCHES, find
+from calls import POSITION as EASY
 import ffosolve
 from ffosolve import START, Answer, Kind, Position, Solver, _library, _processes
 
 HOPELESS = START  # would take years
 HARD = Position.from_obf("XXX--OXOOXOOOOOO-XXXXXOO-XXXXOOO---XOXOO--OOOOOO---OOXOO----OOOO X;")  # 16 empty squares
-EASY = Position.from_obf("-OXXXXX-XXXXXXXOXXXXXXXXXXXXXXXXXXXOXXXXXXXXXXXXXXXXXXXXXXXXXXXX X;")
 QUICK = Position.from_obf("OXXX-XO-XOXXXXXX--OXOXOXOOOOXXOXOOOXXXXXOOOOOOXXXXOOOXXX--OOX-XO O;")  # 7 empty squares
-ANSWER = Answer(62, Kind.MOVES, 0x80)
 LATE = 60  # seconds that a busy machine may take for what is done at once
 
 
-ONE = ["solve", "confirm", "move_scores", "best_line", "scored_line"]  # the calls of a Solver for one position
-MANY = ["solve_all", "solve_iter", "move_scores_all", "move_scores_iter", "solve_arrays", "move_scores_arrays"]
-CALLS = [*((name, None) for name in ONE), *((name, threads) for threads in (1, 3) for name in MANY)]
+CALLS = [*((name, None) for name in SEARCHES), *((name, threads) for threads in (1, 3) for name in MANY)]
 each_call, on_threads = pytest.mark.parametrize("name, threads", CALLS), pytest.mark.parametrize("threads", [1, 3])
-
-
-def find(name, threads, solver, positions, **how):
-    """Makes a call for positions or, if it is for one, for the last of them. Returns what it finds."""
-    call = getattr(solver, name)
-    if name in ONE:
-        return call(positions[-1], *[ANSWER] * (name == "confirm"), **how)
-    return list(call(*ffosolve.masks_of(positions) if "arrays" in name else [positions], threads=threads, **how))
 
 
 @pytest.fixture(autouse=True)

@@ -172,10 +172,10 @@ class Position(NamedTuple("Masks", [("own", int), ("opp", int)])):
         passes."""
         if not hasattr(squares, "__iter__"):
             raise TypeError(f"moves are a transcript or a list of squares, not {reprlib.repr(squares)}")
+        squares, position = words_of(squares) if isinstance(squares, str) else squares, self
         moves(self)  # raises SharedSquare, and ValueError for a wrong mask
-        position = self
         try:
-            for position in played(self, words_of(squares) if isinstance(squares, str) else squares):
+            for position in played(self, squares):
                 pass
         except ValueError as why:
             raise NoMove(reason=f"move {self.empties - position.empties + 1}: {why}") from None
