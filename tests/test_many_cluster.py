@@ -13,6 +13,7 @@ from unittest import mock
 
 import pytest
 
+from ffosolve._many import engine
 from tests import many
 from tests.many import ACTING
 from tests.support import SECONDS, limited, need, run, wait_until, write
@@ -312,40 +313,34 @@ def test_a_full_disk_ends_the_run_and_it_goes_on_when_there_is_room(cluster, cas
 
 
 def test_parts_go_to_fit_workers_by_their_threads_and_those_that_failed_to_others():
-    pytest.importorskip("distributed")
-    from ffosolve._many.cluster import Cluster, Worker
-    from ffosolve._many.engine import machine_for
-    one = Cluster.__new__(Cluster)
-    one.client, one.test, one.in_dask = mock.Mock(status="running"), mock.Mock(), mock.Mock()
-    one.workers = {name: Worker(name, {"local_directory": "", "host": name, "nthreads": threads})
-                   for name, threads in (("h1", 1), ("h2", 20), ("h3", 9))}
-    h1, h2, h3 = one.machines
-    h1.is_fit = h2.is_fit = True
+    machines = [engine.Machine(name, name, threads) for name, threads in (("h1", 1), ("h2", 20), ("h3", 9))]
+    _, h2, h3 = machines
+    h3.is_fit = False
 
-    def sent(count, failed, most=1):
-        machines = [machine for _ in range(count) if (machine := machine_for(one.machines, most, failed))
-                    and not machine.parts.add(Future())]
-        return sorted(machine.name for machine in machines)
+    def sent(count, failed, most=1, busy=()):
+        for machine in machines:
+            machine.parts = {Future() for _ in range(machine in busy)}
+        found = [machine for _ in range(count) if (machine := engine.machine_for(machines, most, failed))
+                 and not machine.parts.add(Future())]
+        return sorted(machine.name for machine in found)
 
     assert sent(90, []) == ["h1"] + ["h2"] * 20  # as many as threads
-    assert sent(90, [], 2) == ["h1"] + ["h2"] * 20  # as many once more
-    h1.parts.clear()
-    assert sent(3, ["h2"]) == ["h1"]
-    h1.parts.clear()
-    assert sent(3, ["h1"], 3) == []  # a part that has failed is alone on its worker
-    h2.parts.clear()
+    assert sent(90, [], 2) == ["h1"] * 2 + ["h2"] * 40
+    assert sent(3, ["h2"]) == ["h1"]  # a part that has failed is alone on its worker
+    assert sent(3, ["h1"], 3, [h2]) == []
     assert sent(3, ["h1"]) == ["h2"]
-    h2.parts.clear()
-    one.leave_out(h2, "it fails")
+    h2.is_fit = False
     assert sent(3, ["h1"]) == ["h1"]  # the only one that is left
-    one.update({name: {"local_directory": "new", "host": name, "nthreads": 1} for name in one.workers})
-    assert [worker.is_fit for worker in one.machines] == [False] * 3  # they were started again: all are tested
-    assert one.test.call_count == 3 and h1.ended == h3.ended == "the worker ended"
-    assert all(future.cancelled() for future in h1.parts)
-    for worker in one.machines:
-        worker.is_fit = True
-    one.client.status = "connecting"
-    assert sent(3, []) == []
+
+
+def test_a_client_that_connects_again_has_no_workers():
+    pytest.importorskip("distributed")
+    from ffosolve._many.cluster import Cluster
+    one = Cluster.__new__(Cluster)
+    one.workers = {"h1": engine.Machine("h1", "h1", 1)}
+    for status, count in (("running", 1), ("connecting", 0)):
+        one.client = mock.Mock(status=status)
+        assert len(one.machines) == count
 
 
 @pytest.fixture(scope="module")
