@@ -388,9 +388,10 @@ def progress(texts, lines=1):
 
 
 def at_work(one, hosts):
-    """Sets which parts are at work, and on which hosts: {part: host}."""
-    one.running = {number: one.running.get(number, (one.run.parts[number], types.SimpleNamespace(host=host),
-                                                    time.monotonic())) for number, host in hosts.items()}
+    """Sets which parts are at work, and on which hosts, of two threads: {part: host}."""
+    machines = {host: engine.Machine(host, host, 2) for host in hosts.values()}
+    one.running = {number: one.running.get(number, (one.run.parts[number], machines[host], time.monotonic()))
+                   for number, host in hosts.items()}
 
 
 def test_the_time_left_is_known_within_a_factor_of_two_from_a_tenth_of_the_work_on(clock):
@@ -423,6 +424,8 @@ LOST = [(0, {}, {0: "h1", 1: "h2"}), (100, {0: 100}, {1: "h2", 2: "h1"}), (190, 
     # The last two parts would take 150 seconds if two machines could share a part.
     ([FULL, FULL, 10 * FULL, FULL], 1, [(0, {}, {0: "h1", 2: "h2"}), (30, {0: 30, 3: 30}, {1: "h1", 2: "h2"})],
      "50%, 0:04:30 left, 2 machines at work, parts 2 of 4"),
+    (10 * [FULL], 1, [(0, {}, {0: "h1", 1: "h1"}), (10, {0: 10, 1: 10}, dict.fromkeys(range(2, 8), "h1"))],
+     "20%, 0:00:40 left, 1 machine at work, parts 2 of 10"),  # two at a time: four were sent ahead
     (4 * [FULL], 1, LOST[:2], "25%, 0:01:40 left, 2 machines at work, parts 1 of 4"),
     (4 * [FULL], 1, LOST[:3], "25%, 0:03:30 left, 1 machine at work, parts 1 of 4"),  # a part waits again
     (4 * [FULL], 1, LOST, "25%, no machine at work, parts 1 of 4"),

@@ -286,7 +286,8 @@ def test_a_full_disk_ends_the_run_and_it_goes_on_when_there_is_room(case):
 
 
 def test_a_list_is_read_from_standard_input(case):
-    case.many("--lines=20", "work", "-", message="-: 60 lines in 3 parts", input=case.SMALL)
+    case.many("--lines=20", "work", "-", message="-: 60 lines in 3 parts", input=case.SMALL, umask=0o022)
+    assert stat.S_IMODE(os.stat("work/list").st_mode) == 0o644
     case.many("--lines=20", "work", "/dev/stdin", message=", 3 of them solved before", input=case.SMALL)
     assert {*os.listdir("work")} == {folder.LOCK, "list", "program-0", "results", "solve.py", "task"}
     with open("list.obf", "rb") as file:

@@ -57,7 +57,8 @@ class Progress:
         rate, now, running = self.seconds / self.done, time.monotonic(), self.running.values()
         rests = [max(0, part.weight * rate - now + start) for part, _, start in running]
         waiting = self.work - sum(part.weight for part, _, _ in running)
-        return max(rests + [(waiting * rate + sum(rests)) / max(1, len(rests))])
+        threads = sum(machine.threads for machine in {machine for _, machine, _ in running})
+        return max(rests + [(waiting * rate + sum(rests)) / max(1, min(threads, len(rests)))])
 
     def text(self, trouble: str) -> str:
         """Returns the line to show, with any `trouble`. It names the part that has run longest, if for LONG_SECONDS."""
