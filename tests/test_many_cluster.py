@@ -333,14 +333,22 @@ def test_parts_go_to_fit_workers_by_their_threads_and_those_that_failed_to_other
     assert sent(3, ["h1"]) == ["h1"]  # the only one that is left
 
 
-def test_a_client_that_connects_again_has_no_workers():
+def test_a_worker_that_was_started_again_meanwhile_is_tested_and_none_is_there_without_a_connection():
     pytest.importorskip("distributed")
-    from ffosolve._many.cluster import Cluster
-    one = Cluster.__new__(Cluster)
-    one.workers = {"h1": engine.Machine("h1", "h1", 1)}
-    for status, count in (("running", 1), ("connecting", 0)):
-        one.client = mock.Mock(status=status)
-        assert len(one.machines) == count
+    from ffosolve._many.cluster import Cluster, Worker
+    one, about, part = Cluster.__new__(Cluster), {"local_directory": "old", "host": "h1", "nthreads": 1}, Future()
+    one.client, one.test, one.in_dask = mock.Mock(status="running"), mock.Mock(), mock.Mock()
+    one.workers = {"h1": Worker("h1", about)}
+    (worker,) = one.machines
+    worker.is_fit, worker.parts = True, {part}
+    one.update({"h1": about})
+    assert one.machines == [worker]
+    one.update({"h1": {**about, "local_directory": "new"}})
+    (again,) = one.machines
+    assert (again.is_fit, one.test.call_count) == (False, 1)
+    assert (worker.ended, part.cancelled()) == ("the worker ended", True)
+    one.client.status = "connecting"
+    assert one.machines == []
 
 
 @pytest.fixture(scope="module")
