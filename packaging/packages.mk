@@ -6,6 +6,9 @@ package = $(eval package := $(or $(shell $(PYTHON) python/src/ffosolve/_version.
 archive = ffosolve-$(package)-linux-x86-64
 clean = change=$$(git status --porcelain | head -n 1) || exit; [ -z "$$change" ] || { echo "not committed:$$change" >&2; exit 1; }
 room = room=$$(mktemp -d); trap 'rm -rf "$$room"' EXIT; umask 022
+# Moves packages from the temporary folder to out/, each first under another name, since a disk may be full.
+finish = for file in "$$room"/$1; do \
+    made="out/$${file\#\#*/}"; install -m 644 "$$file" "$$made.new"; mv -f "$$made.new" "$$made"; echo "made: $$PWD/$$made"; done
 seconds = $$(git log -1 --format=%ct 2>/dev/null || stat -c %Y "$(CURDIR)/VERSION")
 
 # $(call starters,FOLDER) writes programs into FOLDER/bin which start those for the processor's level. These are all in one
@@ -36,10 +39,9 @@ dist: levels ## makes out/ffosolve-VERSION-linux-x86-64.tar.gz, which runs where
 	$(call texts,$$top)
 	(cd "$$top" && find . -type f | LC_ALL=C sort | xargs -d '\n' sha256sum) >"$$room/SHA256SUMS"
 	mv "$$room/SHA256SUMS" "$$top"
-	tar -C "$$room" --sort=name --mtime="@$(seconds)" --owner=0 --group=0 --numeric-owner --format=ustar -c $(archive) | gzip -9n >out/$(archive).tar.gz.new
-	mv -f out/$(archive).tar.gz.new out/$(archive).tar.gz
+	tar -C "$$room" --sort=name --mtime="@$(seconds)" --owner=0 --group=0 --numeric-owner --format=ustar -I 'gzip -9n' -cf "$$room/$(archive).tar.gz" $(archive)
+	$(call finish,*.gz)
 	(cd out && sha256sum $(archive).tar.gz >$(archive).tar.gz.sha256)
-	echo "made: $$PWD/out/$(archive).tar.gz"
 
 # dpkg-buildpackage runs debian/rules in a copy of the checkout, whose first lines are those that only make knows.
 deb: levels ## makes packages for Debian: out/ffosolve_VERSION_amd64.deb, out/libffosolve1_VERSION_amd64.deb, ..
@@ -55,16 +57,14 @@ deb: levels ## makes packages for Debian: out/ffosolve_VERSION_amd64.deb, out/li
 	echo '$(package)' >"$$copy/VERSION"
 	touch -r LICENSE "$$copy/VERSION"
 	said=$$(cd "$$copy" && PATH=/usr/sbin:/usr/bin:/sbin:/bin dpkg-buildpackage --build=binary --unsigned-changes 2>&1) || { echo "$$said" | tail -n 20 >&2; exit 1; }
-	for package in "$$room"/*.deb; do cp "$$package" out && echo "made: $$PWD/out/$${package##*/}"; done
+	$(call finish,*.deb)
 
 wheel: levels ## makes out/ffosolve-VERSION-py3-none-manylinux_2_34_x86_64.whl, the package for Python with programs and library
 	$(clean)
 	$(room)
 	$(call starters,$$room)
 	for level in $(levels); do install -D -m 644 out/$$level/libffosolve.so "$$room/package/$$level/libffosolve.so.$(major)"; done
-	(cd python && FFOSOLVE_STAGE="$$room" SOURCE_DATE_EPOCH="$(seconds)" $(PYTHON) -Bm hatchling build --target wheel --directory ../out >/dev/null)
-	made="$$PWD/out/ffosolve-$(package)-py3-none-manylinux_2_34_x86_64.whl"
-	chmod 644 "$$made"
-	echo "made: $$made"
+	(cd python && FFOSOLVE_STAGE="$$room" SOURCE_DATE_EPOCH="$(seconds)" $(PYTHON) -Bm hatchling build --target wheel --directory "$$room" >/dev/null)
+	$(call finish,*.whl)
 
 .PHONY: stage dist deb wheel
