@@ -99,7 +99,7 @@ class Solver:
         `solve`, and TypeError for a claim that is not an Answer."""
         if not isinstance(claim, Answer):
             raise TypeError(f"a claim is an Answer(score, kind, best), not {reprlib.repr(claim)}")
-        return self._answers(Run(self._library, timeout), self._part(position), "ffosolve_confirm", claim)[0]
+        return self._answers(Run(self._library, timeout), self._part(position), "ffosolve_confirm", CAnswer(*claim))[0]
 
     def best_line(self, position: Position, *, timeout: Optional[float] = None) -> List[Tuple[str, int]]:
         """Perfect play from a position to the end of the game: each move and its score for the side that makes it, such
@@ -112,7 +112,7 @@ class Solver:
             line.append((move, answer.score))
             position = self.play(position, move)
             claim = answer._replace(score=-answer.score)
-            answer = self._answers(run, self._part(position), "ffosolve_confirm", claim)[0]
+            answer = self._answers(run, self._part(position), "ffosolve_confirm", CAnswer(*claim))[0]
         return line
 
     def move_scores(self, position: Position, *, timeout: Optional[float] = None) -> Dict[str, int]:
@@ -204,20 +204,21 @@ class Solver:
                 raise parts[-1]
         return in_order(run, call, parts, threads)
 
-    def _answers(self, run: Run, part: PartOrRefusal, name: str = "ffosolve_solve_all", *claim: Answer) -> List[Answer]:
-        rows = ANSWER.iter_unpack(self._found(run, part, name, CAnswer, *claim))
+    def _answers(self, run: Run, part: PartOrRefusal, call: str = "ffosolve_solve_all", *claim: CAnswer
+                 ) -> List[Answer]:
+        rows = ANSWER.iter_unpack(self._found(run, part, call, CAnswer, *claim))
         return [Answer(score, KINDS[kind], best) for score, kind, best in rows]
 
     def _scores(self, run: Run, part: PartOrRefusal) -> List[Dict[str, int]]:
         rows = MOVE_SCORES.iter_unpack(self._found(run, part, "ffosolve_move_scores_all", CMoveScores))
         return [{name: score for name, score in zip(NAMES, row) if score != NO_SCORE} for row in rows]
 
-    def _found(self, run: Run, part: PartOrRefusal, name: str, record: Any, *claim: Answer) -> Any:
+    def _found(self, run: Run, part: PartOrRefusal, name: str, record: Any, *claim: CAnswer) -> Any:
         """Returns the array that the call `name` of the library writes: a `record` (a C structure) for each position of
         `part`. Raises `part` if it is a Refused, and another if the library refuses the call."""
         if isinstance(part, Refused):
             raise part
-        found = (record * len(part.positions))(*(CAnswer(*it) for it in claim))
+        found = (record * len(part.positions))(*claim)
         self._search(run, name, c_positions(part.positions), found, part.empties)
         return found
 
