@@ -158,18 +158,22 @@ def test_files_that_are_missing_or_have_no_theoretical_scores_are_refused():
     games("compare", "book", "pipe", status=3, err="pipe is not a regular file")
 
 
-def test_the_number_of_empty_squares_is_that_of_the_header_if_it_has_one():
+def test_the_number_of_empty_squares_is_that_of_the_header_if_it_has_one_and_copies_are_written_into_a_folder():
     """Two files have a header without the number, so --empties counts for them; the third file has another number."""
     other = wthor([record(PLAYED[0], discs_of_black(positions_of(PLAYED[0])[4]))], empties=4)
-    for name, content in ("a.wtb", wthor(RECORDS, empties=0)), ("b.wtb", wthor(EXACT_RECORDS, 0)), ("c.wtb", other):
+    files = ("a.wtb", "other/c.wtb", "b.wtb")
+    for name, content in zip(files, (wthor(RECORDS, empties=0), other, wthor(EXACT_RECORDS, 0))):
         write(name, content)
     write("book", BOOK + book_of([positions_of(PLAYED[0])[4]]).split("\n", 1)[1])
-    games("compare", "book", "a.wtb", "--empties", "5", "c.wtb", "b.wtb", status=1,
-          out=both(name="a.wtb") + counts(2 * COUNT + 1))
+    out = both(name="a.wtb") + counts(2 * COUNT + 1)
+    games("compare", "book", "a.wtb", "--empties", "5", *files[1:], status=1, out=out)
     os.mkdir("new")
-    fix(1, f"new/a.wtb{CHANGED[7:]}\nnew/c.wtb: theoretical scores changed 0 of 1, not compared 0", "--empties=5",
-        files=["a.wtb", "c.wtb"], place="new", written={"new/a.wtb": RIGHT, "new/c.wtb": other})
-    games("compare", "book", "a.wtb", "c.wtb", status=2,
+    fix(1, f"new/a.wtb{CHANGED[7:]}\nnew/c.wtb: theoretical scores changed 0 of 1, not compared 0\n"
+           f"new/b.wtb: theoretical scores changed 0 of {COUNT}, not compared 0", "--empties=5", files=files, place="new",
+        written={"new/a.wtb": RIGHT, "new/b.wtb": RIGHT, "new/c.wtb": other}, out=out)
+    os.remove("new/a.wtb")
+    fix(3, "new/c.wtb already exists and would be overwritten", "--empties=5", place="new", files=files)
+    games("compare", "book", *files, status=2,
           err="a.wtb does not say how many squares are empty at its theoretical scores; "
               "try --empties 22 or 24, the usual numbers")
 
@@ -210,17 +214,6 @@ def test_the_scores_that_are_wrong_are_changed_and_no_other_byte():
     fix(0, again, place="again.wtb", written={"again.wtb": RIGHT})
 
 
-def test_games_that_are_not_compared_stay_as_they_are():
-    """The book lacks the position of one game. Another game has a byte that is not a square."""
-    records = [RECORDS[0][:8] + b"\x63" + RECORDS[0][9:], *RECORDS[1:]]
-    write("it.wtb", wthor(records, empties=EMPTIES))
-    write("book", "".join([HEADER, *LINES[:2], *LINES[3:]]))
-    records[5] = EXACT_RECORDS[5]
-    fix(1, f"it.wtb, game 1, move 1: 99 is not a square\n"
-           f"new.wtb: theoretical scores changed 1 of {COUNT}, not compared 2",
-        written={"new.wtb": wthor(records, empties=EMPTIES)}, out=difference(6, EXACT[5], 7) + counts(COUNT - 2, 1, 1))
-
-
 def test_a_file_that_has_changed_since_its_games_were_read_is_not_copied():
     games = [(game, {7: 33}) for game in read_games("it.wtb")]
     with open("it.wtb", "rb") as file:
@@ -230,7 +223,7 @@ def test_a_file_that_has_changed_since_its_games_were_read_is_not_copied():
             list(corrected(file, 0, games[1:]))
 
 
-def test_real_scores_are_changed_only_if_asked():
+def test_games_that_are_not_compared_stay_as_they_are_and_real_scores_are_changed_only_if_asked():
     """Games 1 and 5 have wrong real scores; the book lacks the position of game 5. Game 2 ends too early, and game 3
     has a byte that is not a square."""
     records = [*RECORDS]
@@ -247,23 +240,12 @@ def test_real_scores_are_changed_only_if_asked():
         f"game 5 (2001): its real score is 0, but its moves give {RECORDS[4][6]}",
         f"game {COUNT + 1}: the file goes on, but its header counts {COUNT} games"))
     changed = f"theoretical scores changed 1 of {COUNT}, not compared 2"
+    out = difference(6, EXACT[5], 7) + counts(COUNT - 2, 1, 1)
     records[5] = EXACT_RECORDS[5]
-    fix(1, f"{said}new.wtb: {changed}", written={"new.wtb": wthor(records, empties=EMPTIES) + more})
+    fix(1, f"{said}new.wtb: {changed}", written={"new.wtb": wthor(records, empties=EMPTIES) + more}, out=out)
     records[0], records[4] = record(PLAYED[0], PUBLISHED[0]), record(PLAYED[4], 9)
     fix(1, f"{said}real.wtb: {changed}; real scores changed 2, not checked 2", "--real", place="real.wtb",
-        written={"real.wtb": wthor(records, empties=EMPTIES) + more})
-
-
-def test_all_files_are_written_into_a_folder():
-    write("other/one.wtb", wthor(RECORDS[:3], empties=0))
-    os.mkdir("new")
-    files = ("it.wtb", "other/one.wtb")
-    written = {"new/it.wtb": RIGHT, "new/one.wtb": wthor(EXACT_RECORDS[:3], empties=EMPTIES)}
-    fix(1, f"new/it.wtb: theoretical scores changed 2 of {COUNT}, not compared 0\n"
-           "new/one.wtb: theoretical scores changed 1 of 3, not compared 0", "--empties=5", place="new", files=files,
-        written=written, out=both() + difference(3, EXACT[2], -2, "other/one.wtb") + counts(COUNT + 3, 3))
-    os.remove("new/it.wtb")
-    fix(3, "new/one.wtb already exists and would be overwritten", "--empties=5", place="new", files=files)
+        written={"real.wtb": wthor(records, empties=EMPTIES) + more}, out=out)
 
 
 def test_several_files_are_written_all_or_none_and_a_full_disk_leaves_no_file():
