@@ -169,8 +169,8 @@ def test_the_number_of_empty_squares_is_that_of_the_header_if_it_has_one_and_cop
     games("compare", "book", "a.wtb", "--empties", "5", *files[1:], status=1, out=out)
     os.mkdir("new")
     fix(1, f"new/a.wtb{CHANGED[7:]}\nnew/c.wtb: theoretical scores changed 0 of 1, not compared 0\n"
-           f"new/b.wtb: theoretical scores changed 0 of {COUNT}, not compared 0", "--empties=5", files=files, place="new",
-        written={"new/a.wtb": RIGHT, "new/b.wtb": RIGHT, "new/c.wtb": other}, out=out)
+           f"new/b.wtb: theoretical scores changed 0 of {COUNT}, not compared 0", "--empties=5", place="new",
+        files=files, written={"new/a.wtb": RIGHT, "new/b.wtb": RIGHT, "new/c.wtb": other}, out=out)
     os.remove("new/a.wtb")
     fix(3, "new/c.wtb already exists and would be overwritten", "--empties=5", place="new", files=files)
     games("compare", "book", *files, status=2,
