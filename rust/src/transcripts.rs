@@ -35,19 +35,19 @@ fn words_of(transcript: &str) -> Vec<String> {
     for part in parts {
         let mut rest = part.trim_start_matches(is_digit);
         while !rest.is_empty() {
-            rest = match rest.split_once(['.', ')', ':']) {
-                Some((number, after)) if number.chars().all(is_digit) => after,
-                _ => {
-                    let length = match rest.len() - rest.trim_start_matches('-').len() {
-                        0 if rest.starts_with("pass") => 4,
-                        0 => rest.chars().take(2).map(char::len_utf8).sum(),
-                        hyphens => hyphens,
-                    };
-                    let (word, after) = rest.split_at(length);
-                    words.push(word.to_owned());
-                    after
-                }
+            let numbered = rest.split_once(['.', ')', ':']).filter(|(number, _)| number.chars().all(is_digit));
+            if let Some((_, after)) = numbered {
+                rest = after;
+                continue;
+            }
+            let length = match rest.len() - rest.trim_start_matches('-').len() {
+                0 if rest.starts_with("pass") => 4,
+                0 => rest.chars().take(2).map(char::len_utf8).sum(),
+                hyphens => hyphens,
             };
+            let (word, after) = rest.split_at(length);
+            words.push(word.to_owned());
+            rest = after;
         }
     }
     words.retain(|word| word != "-");
