@@ -18,7 +18,8 @@ fn main() {
         println!("cargo:rerun-if-env-changed={name}");
     }
     let (kind, file) = if cfg!(feature = "shared") { ("dylib", "libffosolve.so") } else { ("static", "libffosolve.a") };
-    let folder = var_os("FFOSOLVE_LIB_DIR").map_or_else(default_folder, PathBuf::from);
+    let named = var_os("FFOSOLVE_LIB_DIR").filter(|folder| !folder.is_empty());
+    let folder = named.map_or_else(default_folder, PathBuf::from);
     let file = folder.join(file);
     println!("cargo:rerun-if-changed={}", file.display());
     assert!(file.exists(), "{} is missing: install ffosolve, or set FFOSOLVE_LIB_DIR to its folder", file.display());

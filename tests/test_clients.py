@@ -252,7 +252,8 @@ def test_the_library_gets_the_scoring_the_table_and_the_claim_that_were_asked_fo
     assert (sorted(ran.stdout.splitlines()), ran.stderr) == (sorted(wanted), "thread " * 4)
 
 
-def test_a_folder_without_the_library_is_refused_and_pkg_config_not_asked():
+def test_a_folder_without_the_library_is_refused_and_pkg_config_asked_only_if_none_is_named():
+    PREFIX.cargo("check", "--quiet", env={**PREFIX.environment, "FFOSOLVE_LIB_DIR": ""})
     nowhere = {**PREFIX.environment, "FFOSOLVE_LIB_DIR": "/nowhere"}
     ran = PREFIX.run("cargo", "check", cwd=PREFIX.work / "rust", env=nowhere)
     assert ran.returncode != 0
