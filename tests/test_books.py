@@ -143,10 +143,9 @@ def test_what_is_there_stays_if_a_file_appears_or_the_folder_is_closed_during_th
     left({**before, **new})
 
 
-def test_a_link_stays_and_its_target_is_written():
+def test_a_link_to_no_file_stays_and_its_target_is_made():
     keeps({"it.book": "no/there"}, unwritten(""))
-    for before in ({"it.book": "there"}, LINKED):
-        keeps(before, DONE, {"there": BOOK})
+    keeps({"it.book": "there"}, DONE, {"there": BOOK})
 
 
 def test_a_pipe_gets_the_book(start):
