@@ -10,7 +10,7 @@ from concurrent.futures import ThreadPoolExecutor
 import pytest
 
 import ffosolve
-from ffosolve._refusals import refusal_of
+from ffosolve._refusals import REFUSALS, OtherRefusal
 from tests.games import random_positions
 from tests.prefix import CXX, LONGEST, NUMBER, PREFIX, STRICT, TESTS, VERSION, C, installed  # noqa: F401 - a fixture
 from tests.support import built, limited, need, preload, run, stored, worked_rows
@@ -32,7 +32,7 @@ NAMES = {
     "BOARD": "-OXXXXX-XXXXXXXOXXXXXXXXXXXXXXXXXXXOXXXXXXXXXXXXXXXXXXXXXXXXXXXX",
     "READ": "fffffff7ffff7f7c 800008002", "AS_WHITE": "800008002 fffffff7ffff7f7c",
     "VERSION": VERSION, "NUMBER": NUMBER, "ENTRIES": ffosolve.MOST_ENTRIES, "MORE": ffosolve.MOST_ENTRIES + 1,
-    "TEXTS": ", ".join(TEXTS_OF_LINES.get(it.name) or refusal_of(it).reason for it in ffosolve.Status if it.value),
+    "TEXTS": ", ".join(TEXTS_OF_LINES.get(it.name) or REFUSALS[it].reason for it in ffosolve.Status if it.value),
 }
 LINES, COLUMNS = worked_rows("ffosolve/lines")
 MOVES = {**{ffosolve.square_name(number): f"0/{number}" for number in range(64)}, "PS": "1/64", "--": "2/64"}  # in C
@@ -115,7 +115,8 @@ def test_a_status_has_one_name_number_and_text_in_each_language():
     source = "".join(f"int {name}(void) {{ static int status; return ++status; }}\n" for name in PREFIX.calls)
     program = PREFIX.rust_client_of("statuses", STATUSES_IN_RUST, source)
     for number, in_rust in enumerate(PREFIX.make(program).stdout.splitlines(), 1):
-        refusal, other = refusal_of(number), f"refused with status {number}"
+        refusal = REFUSALS[number]() if number in REFUSALS else OtherRefusal(number)
+        other = f"refused with status {number}"
         text, is_of_line = refusal.reason, isinstance(refusal, ffosolve.LineRefused)
         # The crate has no text for 3, another for 5, and reports 7, out of memory, from both calls.
         special = {3: (other, other), 5: ("position at index 0: " + IN_RUST, other), 7: (text, text)}
