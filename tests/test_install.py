@@ -30,14 +30,13 @@ def times(paths):
 
 
 class Place:
-    """The folder `stage`, into which make installs from the checkout `source`, and in it `root`, that of `prefix`."""
+    """The folder `stage`, into which make installs from the checkout `source`, and in it `root`, that of PREFIX."""
 
-    def __init__(self, source, stage, prefix=PREFIX):
-        self.source, self.stage, self.prefix, self.root = source, stage, prefix, Path(f"{stage}{prefix}")
+    def __init__(self, source, stage):
+        self.source, self.stage, self.root = source, stage, Path(f"{stage}{PREFIX}")
 
-    def make(self, target, *words, prefix=None, **how):
-        prefix = self.prefix if prefix is None else prefix
-        words = ["make", "-s", "-C", self.source, target, f"PREFIX={prefix}", f"DESTDIR={self.stage}", *words]
+    def make(self, *words, **how):
+        words = ["make", "-s", "-C", self.source, f"PREFIX={PREFIX}", f"DESTDIR={self.stage}", *words]
         return run(*words, text=True, timeout=LONGEST, **how)
 
     def install(self, *words, **how):
@@ -182,7 +181,7 @@ def test_without_python_two_manual_pages_have_no_options_and_that_is_reported(pl
 def test_a_relative_prefix_a_wrong_target_and_a_file_for_a_folder_are_refused(place):
     for prefix in ("relative", "", "~/a"):
         for target in ("install", "uninstall"):
-            refused(place.make(target, prefix=prefix), f"PREFIX is {prefix}, but has to begin with a slash")
+            refused(place.make(target, f"PREFIX={prefix}"), f"PREFIX is {prefix}, but has to begin with a slash")
     refused(place.make("instal"), "No rule to make target 'instal'")
     place.root.mkdir(parents=True)
     (place.root / "bin").touch()
@@ -195,7 +194,7 @@ def test_without_programs_and_rt_nothing_is_installed(place, folder):
     os.environ["PATH"] = path_without("rt", folder)
     error = "ffosolve: not built: rt (rattle-kit-13b or rattle-kit-13f) is not on the path"
     refused(place.make("install", "-C", checkout), error)
-    refused(place.make("install", "-C", checkout, prefix="relative"), "PREFIX is relative")
+    refused(place.make("install", "-C", checkout, "PREFIX=relative"), "PREFIX is relative")
     assert not place.stage.exists()
 
 
@@ -332,9 +331,8 @@ def completed_by_zsh(lines, before="", start=run):
 @pytest.fixture(scope="module")
 def root(checkout, shared_folder):
     """The folder of a prefix, which is one for all tests of manual pages and completions."""
-    place = Place(checkout, "", shared_folder / "a prefix")
-    place.install()
-    return place.root
+    run("make", "-s", "-C", checkout, "install", f"PREFIX={shared_folder}/a prefix", check=True)
+    return shared_folder / "a prefix"
 
 
 @pytest.fixture
