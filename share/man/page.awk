@@ -1,6 +1,6 @@
 # Makes the manual page of `program`, one of `programs`, from what it prints for --help, and from share/man/PROGRAM.1: a
-# description in one line, and more sections. A heading of the help begins a section. An indented line with two blanks after a name
-# begins an entry, and a line that is indented further continues it.
+# description in one line, and more sections. A heading of the help begins a section. An indented line with two blanks
+# after a name begins an entry, and a line that is indented further continues it.
 BEGIN { title = "DESCRIPTION"; page = "share/man/" program ".1"; getline what <page }
 { gsub(/\\/, "\\e"); gsub(/-/, "\\-") }
 /^[Uu]sage: / { title = "SYNOPSIS"; sub(/^[^ ]* /, ".nf\n") }
