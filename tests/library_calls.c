@@ -15,7 +15,7 @@
 #include <stdlib.h>
 #include <string.h>
 
-enum { ROOM = 4, WORDS = 16, LONGEST = 10000 };
+enum { ROOM = 8, WORDS = 20, LONGEST = 10000 };
 
 static uint64_t number[WORDS];
 static size_t numbers;
@@ -27,7 +27,7 @@ static struct written {
     ffosolve_answer answers[ROOM];
     ffosolve_move_scores_of found[ROOM];
     ffosolve_line line;
-    ffosolve_listed listed[2 * ROOM];
+    ffosolve_listed listed[ROOM];
 } now, unset;
 
 #define IS_SET(member) (memcmp(&now.member, &unset.member, sizeof now.member) != 0)
@@ -66,7 +66,7 @@ static void make(const char *call, const char *hexadecimal) {
         printf(" %" PRIx64 " %" PRIx64, now.line.position.own, now.line.position.opp);
         printf(" %" PRId32 " %zu", now.line.side, now.line.listed);
     }
-    for (size_t i = 0; i < 2 * ROOM; i++) {
+    for (size_t i = 0; i < ROOM; i++) {
         const ffosolve_listed it = now.listed[i];
         if (IS_SET(listed[i])) printf(" %" PRId32 "/%d/%" PRId32, it.kind, it.square, it.score);
     }

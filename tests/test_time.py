@@ -1,13 +1,10 @@
 """The memory and the time that programs and the library's calls take, with tables of several sizes and with a book."""
-import ctypes
 import resource
 import timeit
 
 import pytest
 
 from ffosolve import MOST_ENTRIES, Position
-from ffosolve._library import CAnswer, CMoveScores, load
-from ffosolve._rules import c_positions
 from tests.prefix import PREFIX, installed  # noqa: F401 - a fixture
 from tests.support import built, ends, limited, run, stored, write
 
@@ -56,36 +53,24 @@ def test_a_run_takes_a_quarter_of_the_time_without_a_table(name, workers):
     assert usual < without / 4
 
 
-@pytest.mark.parametrize(("name", "record"), [("solve_all", CAnswer), ("move_scores_all", CMoveScores)])
-def test_a_call_takes_a_quarter_of_the_time_of_a_call_for_each_position(name, record):
-    call = getattr(load(str(PREFIX.shared)), f"ffosolve_{name}")
-    asked = c_positions([Position.from_obf(HARD.decode())] * AGAIN)
-
-    def solve(count):
-        assert call(asked, count, 0, 65_536, (record * count)(), count, ctypes.c_size_t()) == 0
-
-    apart, together = (seconds(lambda: [solve(count) for _ in range(AGAIN // count)]) for count in (1, AGAIN))
-    assert together < apart / 4
+def masks(line):
+    return "{0.own} {0.opp}".format(Position.from_obf(line))
 
 
-def call(name, line, *words):
-    """Returns a call as tests/library_calls.c reads it, for the position in `line` under the scoring winner."""
-    position = Position.from_obf(line)
-    return " ".join(map(str, (name, position.own, position.opp, 0, *words)))
-
-
-RIGHT = call("confirm", ADVISED, 65_536, -14, 0, 0)
+CALLED, CLAIMED, MOVED = masks(HARD), masks(ADVISED), masks(MOVES)
 
 
 @pytest.mark.parametrize(("slow", "quick", "times"), [
-    pytest.param(call("solve", HARD, 0), call("solve", HARD, 65_536), 1.3, id="a table for solve"),
-    pytest.param(call("confirm", HARD, 0, -16, 0, 0), call("confirm", HARD, 65_536, -16, 0, 0), 1.3,  # it is worth -18
-                 id="a table for confirm"),
-    pytest.param(call("move_scores", MOVES, 0), call("move_scores", MOVES, 65_536), 1.3, id="a table for move_scores"),
-    pytest.param(call("solve", ADVISED, 65_536), RIGHT, 1.5, id="a right claim"),
-    pytest.param(call("confirm", ADVISED, 65_536, 20, 0, 0), RIGHT, 1.5, id="a right claim for a wrong one"),
+    pytest.param(f"solve {CALLED} 0 0", f"solve {CALLED} 0 65536", 1.3, id="a table for solve"),
+    pytest.param(f"confirm {CALLED} 0 0 -16 0 0", f"confirm {CALLED} 0 65536 -16 0 0", 1.3, id="a table for confirm"),
+    pytest.param(f"move_scores {MOVED} 0 0", f"move_scores {MOVED} 0 65536", 1.3, id="a table for move_scores"),
+    pytest.param(f"solve {CLAIMED} 0 65536", f"confirm {CLAIMED} 0 65536 -14 0 0", 1.5, id="a right claim"),
+    pytest.param(f"confirm {CLAIMED} 0 65536 20 0 0", f"confirm {CLAIMED} 0 65536 -14 0 0", 1.5, id="no wrong claim"),
+    *(pytest.param(f"{name} 0 65536 1 {CALLED}\n" * AGAIN, f"{name} 0 65536 {AGAIN}" + f" {CALLED}" * AGAIN, 4,
+                   id=f"one table for {name}") for name in ("solve_all", "move_scores_all")),
 ])
-def test_a_call_for_one_position_takes_less_time_with(slow, quick, times):
+def test_calls_take_less_time_with(slow, quick, times):
+    """In library_calls.txt's words; CALLED is worth -18, and CLAIMED -14."""
     assert PREFIX.caller  # compiles it
-    without, usual = (seconds(lambda: PREFIX.called(words)) for words in (slow, quick))
+    without, usual = (seconds(lambda: PREFIX.called(calls)) for calls in (slow, quick))
     assert usual < without / times
