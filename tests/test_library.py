@@ -37,7 +37,6 @@ NAMES = {
 LINES, COLUMNS = worked_rows("ffosolve/lines")
 MOVES = {**{ffosolve.square_name(number): f"0/{number}" for number in range(64)}, "PS": "1/64", "--": "2/64"}  # in C
 PIECES = b"| w|ps:-4;|--:0;|I1:+1|h8:64 ;|B2:+65;| |\t|%|;|:|?|-|X|O|b|\r|\0|\x80|\xff".split(b"|")
-IN_RUST = "more empty squares than the solver takes"
 STATUSES_IN_RUST = """
 fn main() {
     let position = ffosolve::Position::new(1, !1).expect("masks apart");
@@ -114,14 +113,12 @@ def test_a_status_has_one_name_number_and_text_in_each_language():
     assert listed == [(it.name, str(it.value)) for it in ffosolve.Status]
     source = "".join(f"int {name}(void) {{ static int status; return ++status; }}\n" for name in PREFIX.calls)
     program = PREFIX.rust_client_of("statuses", STATUSES_IN_RUST, source)
+    of_calls = {number: REFUSALS[number].reason for number in (1, 2, 4, 6, 7, 12)}
+    of_calls[5] = "position at index 0: more empty squares than the solver takes"
+    of_lines = {number: REFUSALS[number]().reason for number in (7, 8, 9, 10, 11)}
     for number, in_rust in enumerate(PREFIX.make(program).stdout.splitlines(), 1):
-        refusal = REFUSALS[number]() if number in REFUSALS else OtherRefusal(number)
-        other = f"refused with status {number}"
-        text, is_of_line = refusal.reason, isinstance(refusal, ffosolve.LineRefused)
-        # The crate has no text for 3, another for 5, and reports 7, out of memory, from both calls.
-        special = {3: (other, other), 5: ("position at index 0: " + IN_RUST, other), 7: (text, text)}
-        solved, read = special.get(number, (other, text) if is_of_line else (text, other))
-        assert in_rust == f"{solved}; {read}"
+        other = OtherRefusal(number).reason
+        assert in_rust == f"{of_calls.get(number, other)}; {of_lines.get(number, other)}"
 
 
 def call_of(template):
