@@ -104,6 +104,11 @@ def pytest_runtest_makereport():
 pytest_make_collect_report = pytest_runtest_makereport
 
 
+def pytest_collection_modifyitems(items):
+    """Puts the module that waits longest first, so that no processor is left with it at the end."""
+    items.sort(key=lambda item: item.path.stem != "test_many_cluster")
+
+
 def pytest_sessionstart(session):
     session.config.status = status()
 
