@@ -351,28 +351,38 @@ def test_check_solves_compares_and_fixes():
     games("compare", "it.wtb.check/list.book", "it.wtb", out=counts(differ=0))
 
 
+@pytest.fixture
+def slow_check():
+    """The words of a command that checks 90 games, one after the other, and what it prints."""
+    played = [game for game in random_games(110, seed=8) if EMPTIES in positions_of(game)][:90]
+    exact = [discs_of_black(positions_of(game)[EMPTIES]) for game in played]
+    write("it.wtb", wthor(list(map(record, played, exact)), empties=EMPTIES))
+    return (sys.executable, PROGRAM, *CHECK, "--lines=1", "--jobs=1"), counts(90, 0)
+
+
 @pytest.mark.parametrize("number, of_all", ((signal.SIGINT, True), (signal.SIGTERM, False), (signal.SIGKILL, False)))
-def test_an_interrupted_check_goes_on(start, number, of_all):
-    words = (sys.executable, PROGRAM, *CHECK, "--lines=1", "--jobs=1")
+def test_an_interrupted_check_goes_on(start, slow_check, number, of_all):
+    words, printed = slow_check
     child = start(*words, start_new_session=True)
     wait_until(parts)
     (os.killpg if of_all else os.kill)(child.pid, number)
     child.communicate(timeout=SECONDS)
     assert child.returncode == -number
-    assert 0 < parts() < COUNT
-    games(*words[2:], status=1, out=both() + counts())
-    assert parts() == COUNT
+    assert 0 < parts() < 90
+    games(*words[2:], out=printed)
+    assert parts() == 90
 
 
-def test_a_second_check_in_one_folder_is_refused(start):
-    first = start(sys.executable, PROGRAM, *CHECK, "--lines=1", "--jobs=1", start_new_session=True)
+def test_a_second_check_in_one_folder_is_refused(start, slow_check):
+    words, printed = slow_check
+    first = start(*words, start_new_session=True)
     wait_until(parts)
     os.killpg(first.pid, signal.SIGSTOP)
-    ran = run(sys.executable, PROGRAM, *CHECK, "--lines=1", text=True)
+    ran = run(*words, text=True)
     assert (ran.returncode, ran.stdout) == (3, "")
     assert ran.stderr.splitlines() == [f"ffosolve-many: another run works in {FOLDER}", FAILED]
     os.killpg(first.pid, signal.SIGCONT)
-    assert first.communicate(timeout=SECONDS)[0].decode() == both() + counts()
+    assert first.communicate(timeout=SECONDS)[0].decode() == printed
 
 
 def test_options_are_those_of_ffosolve_many():
