@@ -359,7 +359,7 @@ def test_an_entry_of_a_book_has_the_greatest_score_of_its_line_and_the_moves_wit
                           (b" A1:+02; B1:-04;", b" A1:+02;"), (b" A2:+02; B1:+02;", b" B1:+02; A2:+02;"),
                           (b" PS:+04; A1:+04;", b" A1:+04;"), (b" A1:+02; A1:+02;", b" A1:+02;")):
         lines = [b"\n", b" \t\r\n", b"% X\n", head + fields + b"\n"]
-        ((number, _, line),) = books.entries_of(lines)
+        ((_, _, number, line),) = books.entries_of("a book", lines)
         assert (number, line) == (4, head + claim + b"\n"), fields
 
 

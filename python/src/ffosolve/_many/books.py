@@ -1,8 +1,10 @@
 """Merges books."""
+import heapq
 import io
 import itertools
 import re
-from typing import Dict, Iterable, Iterator, Tuple
+from operator import itemgetter
+from typing import Iterable, Iterator, List, Tuple
 
 from .._command_line import MISUSED, Refusal
 from .._positions import BLACK, WHITE, Position
@@ -11,14 +13,16 @@ from .._squares import NAMES
 from .._text import BOOK_HEADER
 from .folder import Run
 
-Masks = Tuple[int, int]  # X's and O's squares as bits, by which books are sorted
+Entry = Tuple[Tuple[int, int], str, int, bytes]  # see `entries_of`
 # A line of a book, as ffosolve writes it, except that the moves may be in another order.
 ENTRY = re.compile(rb"[XO-]{64} X;(?: (?:PS|--):[+-]\d\d;| [A-H][1-8]:([+-]\d\d);(?: [A-H][1-8]:\1;)*)\n")
 
 
-def entries_of(lines: Iterable[bytes]) -> Iterator[Tuple[int, Masks, bytes]]:
-    """Yields (line number, masks, text) for each position in `lines`; `text` is the line in ENTRY's form. Raises
-    ValueError if a line is malformed or lists no move."""
+def entries_of(name: str, lines: Iterable[bytes]) -> Iterator[Entry]:
+    """Yields (masks, name, line number, text) for each position in the book of that name. Books are sorted by `masks`:
+    X's and O's squares as bits; `text` is the line in ENTRY's form. Raises ValueError at a line that is malformed,
+    lists no move, is repeated or not in order."""
+    last = (-1, -1)
     for number, text in enumerate(lines, 1):
         moves = [*zip(text[69:-1:8], text[68:-1:8])]  # the row and the column of each move of an ENTRY
         if not ENTRY.fullmatch(text) or moves != sorted({*moves}):
@@ -31,16 +35,20 @@ def entries_of(lines: Iterable[bytes]) -> Iterator[Tuple[int, Masks, bytes]]:
             best = [square for square in NAMES if square in equal] or [max(equal)]  # PS if listed, otherwise --
             text = f"{line.to_obf()}{''.join(f' {move}:{greatest:+03d};' for move in best)}\n".encode()
         board = text[63::-1]
-        yield number, (int(board.translate(BLACK), 2), int(board.translate(WHITE), 2)), text
+        masks = int(board.translate(BLACK), 2), int(board.translate(WHITE), 2)
+        if masks <= last:
+            raise ValueError(f"{name} line {number} is not in order")
+        last = masks
+        yield masks, name, number, text
 
 
 def merged(books: Iterable[Tuple[str, Iterable[bytes]]]) -> Iterator[bytes]:
     """Yields the lines of one book with all positions of `books`, each a name and lines. Refuses two scorings, and
-    lines that disagree. Raises ValueError at a line that is malformed, repeated or not in order."""
-    found: Dict[Masks, Tuple[str, int, bytes]] = {}
+    lines that disagree. Raises ValueError where `entries_of` does."""
+    entries: List[Iterator[Entry]] = []
     first_name = first_scoring = ""
     for name, book in books:
-        lines, last = iter(book), (-1, -1)
+        lines = iter(book)
         first = next(lines, b"")
         header = first.decode("latin-1").rstrip()
         scoring = re.sub(f"^{BOOK_HEADER}", "", header) if header.startswith("% ffobook ") else "winner"
@@ -48,17 +56,15 @@ def merged(books: Iterable[Tuple[str, Iterable[bytes]]]) -> Iterator[bytes]:
         if scoring != first_scoring:
             raise Refusal(f"{first_name} has the scoring {first_scoring} and {name} {scoring}: only books of one "
                           "scoring can be merged", MISUSED)
-        for number, masks, text in entries_of(itertools.chain([first], lines)):
-            if masks <= last:
-                raise ValueError(f"{name} line {number} is not in order")
-            other, place, line = found.setdefault(masks, (name, number, text))
-            if line != text:
-                raise Refusal(f"{other} line {place} and {name} line {number} disagree: {line[:-1].decode()} and "
-                              f"{text[64:-1].decode().strip()}")
-            last = masks
+        entries.append(entries_of(name, itertools.chain([first], lines)))
     yield f"{BOOK_HEADER}{first_scoring}\n".encode()
-    for masks in sorted(found):
-        yield found[masks][2]
+    for _, (kept, *others) in itertools.groupby(heapq.merge(*entries, key=itemgetter(0)), itemgetter(0)):
+        _, name, number, text = kept
+        for _, other, place, line in others:
+            if line != text:
+                raise Refusal(f"{name} line {number} and {other} line {place} disagree: {text[:-1].decode()} and "
+                              f"{line[64:-1].decode().strip()}")
+        yield text
 
 
 def book_of(run: Run) -> Iterator[bytes]:
