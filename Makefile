@@ -133,7 +133,7 @@ tools:
 	$(has_rt)
 	packages=
 	lacks() { echo "$$1; Debian's package $$2 has it$${3-}" >&2; packages="$$packages $$2"; }
-	for need in cc:gcc ld:binutils flock:util-linux git:git; do
+	for need in cc:build-essential ld:binutils flock:util-linux git:git; do
 	    command -v "$${need%:*}" >/dev/null || lacks "$${need%:*} is missing" "$${need#*:}"
 	done
 	for need in psutil:psutil pytest:pytest xdist:pytest-xdist pytest_timeout:pytest-timeout; do
