@@ -8,6 +8,7 @@ import signal
 import stat
 import sys
 import tempfile
+import threading
 from pathlib import Path
 from types import FrameType
 from typing import IO, Any, Callable, Dict, Iterable, Iterator, Mapping, NoReturn, Optional, Set, Tuple, Type, Union
@@ -188,10 +189,13 @@ def run(program: str, main: Callable[[], int], interrupted: str = "") -> NoRetur
     global name
     name = program
 
-    def handle(number: int, frame: Optional[FrameType]) -> NoReturn:
-        if interrupted:
-            say(interrupted)
-        end_by(number)
+    handled = threading.Lock()
+
+    def handle(number: int, frame: Optional[FrameType]) -> None:
+        if handled.acquire(blocking=False):  # otherwise, this interrupts itself, and goes on
+            if interrupted:
+                say(interrupted)
+            end_by(number)
 
     for number in SIGNALS:
         if signal.getsignal(number) != signal.SIG_IGN:
