@@ -134,6 +134,12 @@ AsksForText program words =
 abbrev pub IsTextKind : ErrorKind → Type 0
 IsTextKind kind = (kind ≡ DisplayHelp) ⊎ (kind ≡ DisplayVersion)
 
+-- clap finds a fault in the words of a program that is no request for help or for the version
+pub record IsRefusedBy (program : Program) (words : List Text) : Type 0 where
+  pub kind : ErrorKind
+  pub found : HasFaultBy program words kind
+  pub unasked : IsTextKind kind → ⊥
+
 -- the fault is `Memory`, or an error of a kind that clap finds in the words of a program
 abbrev pub IsFaultFor : Program → List Text → OptionFault → Type 0
 IsFaultFor program words Memory = Unit {0}

@@ -1,17 +1,18 @@
 -- How a call of a program ended, with which status, and what it printed.
 use Rattle.std.specs.Prelude.{◌≡◌, ◌≢◌, ◌⊎◌, ℕ, ◌≤◌, List, Option}
-use Rattle.program_parts.specs.CommandLine.{AsksForText, IsFaultless, IsTakenBy, Program}
+use Rattle.program_parts.specs.CommandLine.{AsksForText, IsFaultless, IsRefusedBy, IsTakenBy, Program}
 
 -- A call of a program over these words ended with this status. Standard output held `old` before
 -- and holds `new` now; `Done` is what 0 says, if the words ask for neither help nor the version.
--- With a status other than 2, clap finds no fault in the words, or they ask for help or the
--- version, or the status is `memory`, since memory may be refused before clap has taken them.
+-- With 2, clap refuses the words, and nothing was printed. With another status, clap finds no
+-- fault in the words, or they ask for help or the version, or the status is `memory`, since memory
+-- may be refused before clap has taken them.
 pub record EndsProgram (program : Program) (memory : ℕ) (words : List (List ℕ))
     (old new : Option (List ℕ)) (status : ℕ) (Done : Type 0) : Type 0 where
   pub in_range : status ≤ 3
   pub done : status ≡ 0 → AsksForText program words ⊎ Done
   pub taken : IsTakenBy program words → status ≢ 2
-  pub refused : status ≡ 2 → new ≡ old
+  pub refused : status ≡ 2 → IsRefusedBy program words × (new ≡ old)
   pub unrefused : status ≢ 2
       → (status ≡ memory) ⊎ (AsksForText program words ⊎ IsFaultless program words)
 

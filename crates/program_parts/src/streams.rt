@@ -1,6 +1,6 @@
 //! The streams of a program, and what clap returns in place of options, printed.
 
-ghost use Rattle.std.specs.Prelude.{◌≡◌, ◌≢◌, ◌⊎◌, true, false, IfOk, IsErr};
+ghost use Rattle.std.specs.Prelude.{◌≡◌, ◌≢◌, ◌⊎◌, ◌↔◌, true, false, IfOk, IsErr};
 ghost use Rattle.clap.specs.Words.{kind_of};
 ghost use Rattle.program_parts.specs.CommandLine.{IsTextKind};
 
@@ -30,7 +30,7 @@ fn explain<W: Write, E: Write>(
     output: &mut W,
     errors: &mut E,
 ) -> io::Result<bool>
-    ensures helped { IfOk result (λ helped. helped ≡ true → IsTextKind (kind_of error.now)) }
+    ensures helped { IfOk result (λ helped. (helped ≡ true) ↔ IsTextKind (kind_of error.now)) }
     ensures failed { IsErr result → IsTextKind (kind_of error.now) }
     ensures unwritten { IfOk result
         (λ helped. helped ≡ false → W.contents output.new ≡ W.contents output.old) }
@@ -58,7 +58,7 @@ pub fn end_without_options<W: Write, E: Write>(
     errors: &mut E,
 ) -> u8
     ensures status { (result ≡ 0) ⊎ ((result ≡ 2) ⊎ (result ≡ 3)) }
-    ensures helped { result ≢ 2 → IsTextKind (kind_of error.now) }
+    ensures helped { (result ≢ 2) ↔ IsTextKind (kind_of error.now) }
     ensures unwritten { result ≡ 2 → W.contents output.new ≡ W.contents output.old }
 {
     match explain(error, output, errors) {

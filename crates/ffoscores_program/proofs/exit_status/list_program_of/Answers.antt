@@ -7,7 +7,7 @@ returns-clause-read g c = rw c.in-Ok.is (record {
     in_range = omega arith;
     done = λ e. absurd (omega arith);
     taken = λ t e. absurd (omega arith);
-    refused = λ e. refl;
+    refused = λ e. absurd (omega arith);
     unrefused = λ h. inl (omega arith);
   };
   wrong = λ e. absurd (omega arith);

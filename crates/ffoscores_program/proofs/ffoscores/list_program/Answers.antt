@@ -7,13 +7,13 @@ use Rattle.ffoscores_program.proofs.ffoscores.list_program.Goals as goal
 pub returns : goal.returns
 returns g c = record {
   ends = record {
-    in_range = in_range_of _ c.end_without_options.ensures.status;
+    in_range = search (rules, in_range_of);
     done = search rules;
     taken = search rules;
     refused = search rules;
     unrefused = search rules;
   };
-  wrong = not_one _ _ c.end_without_options.ensures.status;
+  wrong = search (rules, not_one);
   stopped = search rules;
 }
 

@@ -5,11 +5,11 @@ use Rattle.suite_solver.proofs.ffosolve.program.Goals as goal
 pub returns : goal.returns
 returns g c = record {
   ends = record {
-    in_range = in_range_of _ c.end_without_options.ensures.status;
+    in_range = search (rules, in_range_of);
     done = search rules;
     taken = search rules;
     refused = search rules;
     unrefused = search rules;
   };
-  unwritten = not_one _ _ c.end_without_options.ensures.status;
+  unwritten = search (rules, not_one);
 }
