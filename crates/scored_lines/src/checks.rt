@@ -16,23 +16,12 @@ pub struct Wrong {
     pub score: Option<i8>,
 }
 
-// Whether two listed moves are equal.
-fn same_move(a: ListedMove, b: ListedMove) -> bool
-    ensures { result ≡ same_move a b }
-{
-    match b {
-        ListedMove::At(square) => a.is_move_to(square),
-        ListedMove::Pass => matches!(a, ListedMove::Pass),
-        ListedMove::Over => matches!(a, ListedMove::Over),
-    }
-}
-
 // The field of a move among the scores of a position. It is a function of its own so that a
 // contract states what is found.
 fn field_in(scores: &[(ListedMove, i8)], listed: ListedMove) -> Option<&(ListedMove, i8)>
     ensures { option_map (λ f. f.now) result ≡ find (λ f. same_move f.0 listed) scores.now }
 {
-    scores.iter().find(|field| same_move(field.0, listed))
+    scores.iter().find(|field| field.0 == listed)
 }
 
 // The score of a move among the scores of a position. None if the position has no such move.
