@@ -1,6 +1,6 @@
 -- The lines of a book that are read, against the text of which they are lines.
-use Rattle.std.proofs.Common.{◌≡◌, ◌≢◌, ◌==◌, ◌⊎◌, ℕ, suc, zero, ◌+◌, ◌-◌, ◌<◌, ◌≤◌, Bool, true, false, cond, List, [], ◌∷◌, ◌++◌, All, drop, length, take, refl, ap, subst, sym, ◌∙◌, Option, Some, None, arith, append_assoc, get_or, inl, inr, take_all}
-use Rattle.std.specs.Prelude.{Result, Ok, Err, IfSome, option_map}
+use Rattle.std.proofs.Common.{◌≡◌, ◌≢◌, ◌==◌, ◌⊎◌, ℕ, suc, zero, ◌+◌, ◌-◌, ◌<◌, ◌≤◌, Bool, true, false, cond, List, [], ◌∷◌, ◌++◌, length, take, refl, ap, subst, sym, ◌∙◌, Option, Some, None, arith, append_assoc, get_or, inl, inr, take_all}
+use Rattle.std.specs.Prelude.{Ok, Err, IfSome, option_map}
 use Rattle.std.specs.Option.{OnSome}
 use Rattle.std.specs.Io.{IsEmptyOrEndsWith, StopsAt}
 use Rattle.std.specs.Io.BufRead.{DropsThrough, drop_through, take_through}

@@ -1,5 +1,5 @@
 -- The lines of a book that is read: a line with its end, or the front of a long one.
-use Rattle.std.specs.Prelude.{◌≡◌, ℕ, ◌≤◌, Bool, true, false, List, [], ◌++◌, length, Option, Some, None, Err}
+use Rattle.std.specs.Prelude.{◌≡◌, ℕ, ◌≤◌, Bool, true, false, List, ◌++◌, length, Option, Some, None, Err}
 use Rattle.std.specs.Io.{IsEmptyOrEndsWith, StopsAt}
 use Rattle.std.specs.Io.BufRead.{drop_through, take_through}
 use Rattle.std.specs.Io.KnownBytes.{Consumes, IsAtEnd}

@@ -1,4 +1,4 @@
-use Rattle.std.proofs.Common.{◌≡◌, ◌∙◌, ap, length, refl, rules, subst, sym, None, Some}
+use Rattle.std.proofs.Common.{◌≡◌, ◌∙◌, ap, length, refl, rules, subst, sym}
 use Rattle.std.specs.Prelude.{Err, Ok, option_map}
 use Rattle.obf_text.specs.LineText.{lines_of}
 use Rattle.solved_book.specs.Claims.{GivesAdvice, more_claims, no_claims, scoring_of_lines}

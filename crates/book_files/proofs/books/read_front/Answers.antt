@@ -1,4 +1,4 @@
-use Rattle.std.proofs.Common.{◌≢◌, ◌≤◌, ◌∙◌, ap, length, rules, subst, sym, true, false}
+use Rattle.std.proofs.Common.{◌≢◌, ◌≤◌, length, rules, subst, sym, true, false}
 use Rattle.std.specs.Prelude.{IfSome}
 use Rattle.std.specs.Io.KnownBytes.{Consumes}
 use Rattle.std.proofs.KnownBytes.{Consumes-nil, Consumes-trans}
