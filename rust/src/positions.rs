@@ -1,9 +1,11 @@
 //! A position, and the rules of the game.
 use crate::{raw, Error, Line, ObfError, Square, Squares, Symmetry};
+use std::fmt;
 
-/// The discs of the mover, which is the side to move, and those of the other side. No square has both.
+/// The discs of the mover, which is the side to move, and those of the other side. No square has both. `{:?}` prints
+/// its OBF line.
 #[repr(C)] // laid out as `raw::Position`
-#[derive(Clone, Copy, PartialEq, Eq, Hash, Debug)]
+#[derive(Clone, Copy, PartialEq, Eq, Hash)]
 pub struct Position {
     pub(crate) own: u64,
     pub(crate) opp: u64,
@@ -114,6 +116,12 @@ impl Position {
 
     pub(crate) const fn raw(self) -> raw::Position {
         raw::Position { own: self.own, opp: self.opp }
+    }
+}
+
+impl fmt::Debug for Position {
+    fn fmt(&self, f: &mut fmt::Formatter<'_>) -> fmt::Result {
+        write!(f, "Position({})", self.to_obf())
     }
 }
 

@@ -184,7 +184,8 @@ fn positions_have_discs_and_sets_have_squares() {
     let two = position(1, 2);
     assert_eq!([two.own(), two.opp(), two.empties()], [Squares(1), Squares(2), Squares(!3)]);
     assert_eq!(two.passed(), position(2, 1));
-    assert_eq!(two.to_obf(), format!("XO{} X;", "-".repeat(62)));
+    let text = format!("XO{} X;", "-".repeat(62));
+    assert_eq!((two.to_obf(), format!("{two:?}")), (text.clone(), format!("Position({text})")));
     for (mask, len, text) in [(0x81, 2, "A1,H1"), (2, 1, "B1"), (0, 0, "")] {
         let set = Squares(mask);
         assert_eq!((set.mask(), set.len(), set.size_hint(), set.is_empty()), (mask, len, (len, Some(len)), len == 0));
