@@ -224,7 +224,7 @@ def test_the_log_that_standard_output_goes_to_is_not_overwritten(old, wanted):
     write("log", old)
     with open("log", "ab") as log:
         solves((3, None, wanted[2]), stdout=log)
-    assert content("log") == old or REPORT
+    assert content("log") == (old or REPORT)
 
 
 def test_the_book_that_is_read_is_not_overwritten_and_can_be_merged_as_the_error_says():
