@@ -1,33 +1,29 @@
 //! The calls of `ffosolve.h`, which says what each takes, writes and refuses. No pointer may be null.
 
-/// Defines structures with the layout of C, given their members.
-macro_rules! structures {
-    ($($(#[$about:meta])* $name:ident { $($member:ident: $kind:ty),* })*) => {$(
-        $(#[$about])*
-        #[repr(C)]
-        #[derive(Clone, Copy, PartialEq, Eq, Hash, Debug)]
-        pub struct $name {
-            $(pub $member: $kind),*
-        }
-    )*};
-}
+/// The discs of the mover, and those of the other side.
+#[repr(C)]
+#[derive(Clone, Copy, PartialEq, Eq, Hash, Debug, Default)]
+pub struct Position { pub own: u64, pub opp: u64 }
 
-structures! {
-    /// The discs of the mover, and those of the other side.
-    #[derive(Default)]
-    Position { own: u64, opp: u64 }
-    /// The score, how it is reached (0 by moves, 1 by a pass, 2 the game is over), and the mask of the best moves.
-    #[derive(Default)]
-    Answer { score: i32, kind: i32, best: u64 }
-    /// A position that a line holds, how many moves the line lists, and the side to move (0 black, 1 white).
-    #[derive(Default)]
-    Line { position: Position, listed: usize, side: i32 }
-    /// A move that a line lists: its score, what it is (0 a move, 1 a pass, 2 the end of the game), and the square.
-    #[derive(Default)]
-    Listed { score: i32, kind: i32, square: u8 }
-    /// The score of each move at its square's number, with 127 at the other squares; and the mask of the moves.
-    MoveScores { scores: [i8; 64], moves: u64 }
-}
+/// The score, how it is reached (0 by moves, 1 by a pass, 2 the game is over), and the mask of the best moves.
+#[repr(C)]
+#[derive(Clone, Copy, PartialEq, Eq, Hash, Debug, Default)]
+pub struct Answer { pub score: i32, pub kind: i32, pub best: u64 }
+
+/// A position that a line holds, how many moves the line lists, and the side to move (0 black, 1 white).
+#[repr(C)]
+#[derive(Clone, Copy, PartialEq, Eq, Hash, Debug, Default)]
+pub struct Line { pub position: Position, pub listed: usize, pub side: i32 }
+
+/// A move that a line lists: its score, what it is (0 a move, 1 a pass, 2 the end of the game), and the square.
+#[repr(C)]
+#[derive(Clone, Copy, PartialEq, Eq, Hash, Debug, Default)]
+pub struct Listed { pub score: i32, pub kind: i32, pub square: u8 }
+
+/// The score of each move at its square's number, with 127 at the other squares; and the mask of the moves.
+#[repr(C)]
+#[derive(Clone, Copy, PartialEq, Eq, Hash, Debug)]
+pub struct MoveScores { pub scores: [i8; 64], pub moves: u64 }
 
 extern "C" {
     pub fn ffosolve_solve(position: Position, scoring: u32, entries: usize, answer: *mut Answer) -> i32;
