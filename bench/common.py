@@ -17,10 +17,7 @@ FOLDER = tempfile.TemporaryDirectory(prefix="ffosolve-bench-")  # removed when t
 
 @cache
 def built(name="ffosolve", level=""):
-    """Returns the path of a program in out/ or, if `level` is given, in out/LEVEL; make builds it if needed. If the
-    environment variable PROGRAMS is set, the folder that it names takes the place of out/, and nothing is built."""
-    if "PROGRAMS" in os.environ:
-        return Path(os.environ["PROGRAMS"], level, name)
+    """Returns the path of a program in out/ or, if `level` is given, in out/LEVEL; make builds it if needed."""
     path = Path("out", level, name)
     subprocess.run(["make", "-rRs", "-C", ROOT, path], stdin=subprocess.DEVNULL, stdout=subprocess.DEVNULL, check=True)
     return ROOT / path
@@ -29,19 +26,6 @@ def built(name="ffosolve", level=""):
 def options(entries, scoring="winner"):
     """Returns options for ffosolve: up to 60 empty squares, one thread, a table of `entries` entries, and a scoring."""
     return ["--max-empties", 60, "--workers", 0, "--table", entries, "--scoring", scoring]
-
-
-def published():
-    """Returns {number: (board and side, [[move, score], ..])} for positions 40 to 51 of the FFO endgame test. All these
-    are texts, also the numbers. The moves are those published as best."""
-    rows = [line.strip().split(" % ") for line in open(ROOT / "examples/ffo-40-51.obf") if line[0] != "%"]
-    return {number: (row[:66], [claim.strip().split(":") for claim in row.split(";")[1:-1]]) for row, number in rows}
-
-
-def agrees(score, moves, claims):
-    """Returns whether the score is the published one, and `moves`, such as "G3,C7", has each published move. `claims`
-    are those of `published`."""
-    return score == claims[0][1] and {move for move, _ in claims} <= set(moves.split(","))
 
 
 def write(lines):
