@@ -232,14 +232,14 @@ def test_the_crates_own_tests_pass_with_either_library(features):
     assert len(passed) > 2, ran.stdout
 
 
-def test_the_compiler_that_the_manifest_names_takes_crate_and_example():
+def test_the_compiler_that_the_manifest_names_takes_all_of_a_copy_of_the_crate_alone():
     crate = shutil.copytree(PREFIX.shipped / "rust", PREFIX.work / "oldest/rust")  # without what another cargo made
     oldest = re.search(r'^rust-version = "(.+)"$', (crate / "Cargo.toml").read_text(), re.MULTILINE)[1]
     folders = [folder for folder in os.get_exec_path() if os.path.exists(f"{folder}/rustc")
                and run(f"{folder}/rustc", "--version", text=True).stdout.startswith(f"rustc {oldest}.")]
     folder = folders[0] if folders else lack(f"rustc {oldest}")
     places = {"RUSTC": f"{folder}/rustc", "CARGO_TARGET_DIR": str(PREFIX.work / "oldest/target")}
-    words = "check", "--quiet", "--lib", "--examples"
+    words = "check", "--quiet", "--all-targets"
     PREFIX.make(f"{folder}/cargo", *words, cwd=crate, env={**PREFIX.environment, **places})
 
 

@@ -243,8 +243,7 @@ fn threads_may_share_all_and_sets_hold_all_but_errors() {
 
 #[test]
 fn versions_sizes_and_limits_are_those_of_the_header() {
-    let release = include_str!("../../VERSION").trim().split('+').next().expect("a version");
-    let parts = release.split('.').map(|part| part.parse::<u32>().expect("a number"));
+    let parts = env!("CARGO_PKG_VERSION").split('.').map(|part| part.parse::<u32>().expect("a number"));
     assert_eq!(parts.fold(0, |number, part| 100 * number + part), library_version());
     let sizes = [0, 10, 11, 14, 15, 22, 23, 60].map(table_entries);
     assert_eq!(sizes, [0, 0, 4096, 4096, 65536, 65536, 1000000, 1000000]);
