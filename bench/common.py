@@ -3,15 +3,13 @@ import os
 import subprocess
 import sys
 import tempfile
-import time
 from functools import cache
 from pathlib import Path
 
 sys.dont_write_bytecode = True
 BENCH = Path(__file__).resolve().parent
 ROOT = BENCH.parent
-CORES = os.sched_getaffinity(0)
-CORE = max(CORES)
+CORE = max(os.sched_getaffinity(0))
 FOLDER = tempfile.TemporaryDirectory(prefix="ffosolve-bench-")  # removed when the program ends
 
 
@@ -35,27 +33,27 @@ def write(lines):
     return file.name
 
 
-def race(*commands, cores=(CORE,)):
-    """Runs commands at the same time on the processors `cores`, by default all on one. Returns (output, processor
-    seconds, seconds by the clock until this command and those before it ended) for each. Exits if a command fails."""
-    outputs, begun = [tempfile.TemporaryFile("w+") for _ in commands], time.monotonic()
-    how = {"stdin": subprocess.DEVNULL, "preexec_fn": lambda: os.sched_setaffinity(0, cores)}
+def race(*commands):
+    """Runs commands at the same time on one processor. Returns (output, processor seconds) for each. Exits if a command
+    fails."""
+    outputs = [tempfile.TemporaryFile("w+") for _ in commands]
+    how = {"stdin": subprocess.DEVNULL, "preexec_fn": lambda: os.sched_setaffinity(0, (CORE,))}
     started = [subprocess.Popen([*map(str, words)], stdout=output, **how) for words, output in zip(commands, outputs)]
     results = []
     for ran, output in zip(started, outputs):
         _, status, usage = os.wait4(ran.pid, 0)
-        ran.returncode, clock = os.waitstatus_to_exitcode(status), time.monotonic() - begun
+        ran.returncode = os.waitstatus_to_exitcode(status)
         if ran.returncode:
             sys.exit(f"{' '.join(ran.args)} ended with {ran.returncode}")
         output.seek(0)
-        results.append((output.read(), usage.ru_utime + usage.ru_stime, clock))
+        results.append((output.read(), usage.ru_utime + usage.ru_stime))
     return results
 
 
 def least(rounds, *commands):
     """Runs commands by `race`, `rounds` times. Returns (set of outputs, least processor seconds) for each command."""
-    columns = [zip(*column) for column in zip(*(race(*commands) for _ in range(rounds)))]
-    return [(set(outputs), min(seconds)) for outputs, seconds, _ in columns]
+    columns = zip(*(race(*commands) for _ in range(rounds)))
+    return [(set(outputs), min(seconds)) for outputs, seconds in (zip(*column) for column in columns)]
 
 
 def table(heads, rows):
