@@ -54,7 +54,7 @@ fn main() {
         solver.solve_all(&[some, many, few]).expect("answers");
         solver.move_scores_all(&[some, few]).expect("scores");
         solver.threads(2).solve_all(&[many, few, few]).expect("answers");
-        let parts = [vec![few, many], vec![few; 9]].concat();
+        let parts = [vec![few, many], vec![few; 8], vec![many; 3]].concat();
         assert_eq!(solver.threads(2).solve_all(&parts), Err(Error::NoMemory));
     }
 }
@@ -68,7 +68,7 @@ def asked(scoring, few, some, many):
         yield f"move_scores_all 1 {scoring} {entries}"
     yield from (f"solve_all 3 {scoring} {many}", f"move_scores_all 2 {scoring} {some}")
     yield from (f"solve_all 1 {scoring} {many}", f"solve_all 2 {scoring} {few}")  # a part for each thread
-    yield from (f"solve_all 2 {scoring} {many}", f"solve_all 9 {scoring} {few}")
+    yield from (f"solve_all 2 {scoring} {many}", f"solve_all 9 {scoring} {many}")  # and no part after the refused one
 
 
 def shown(language, *names):

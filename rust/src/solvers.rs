@@ -202,7 +202,13 @@ impl Solver {
         };
         let (threads, left) = (self.threads.min(parts.len()), Mutex::new(parts.iter_mut()));
         let take = || left.lock().expect("a thread that takes a part does not panic").next();
-        let work = || std::iter::from_fn(take).try_for_each(solve);
+        let work = || {
+            let done = std::iter::from_fn(take).try_for_each(solve);
+            if done.is_err() {
+                std::iter::from_fn(take).for_each(drop); // nothing is left for other threads
+            }
+            done
+        };
         thread::scope(|scope| {
             let start = |_| thread::Builder::new().spawn_scoped(scope, work).ok(); // the caller works in any case
             let started: Vec<_> = (1..threads).map_while(start).collect();
