@@ -17,7 +17,7 @@ static ffosolve_answer answers[MOST_POSITIONS];
 /* Reads positions, and sets how many; returns whether they end the input and are at most MOST_POSITIONS. */
 static int read_positions(size_t *count) {
     for (*count = 0;; ++*count) {
-        int masks = scanf("%" SCNx64 " %" SCNx64, &positions[*count].own, &positions[*count].opp);
+        int masks = scanf("%16" SCNx64 " %16" SCNx64, &positions[*count].own, &positions[*count].opp);
         if (masks != 2 || *count == MOST_POSITIONS) return masks == EOF;
     }
 }
