@@ -24,8 +24,8 @@ def test_the_list_has_names_of_files_as_they_are_and_a_hyphen_or_no_file_means_s
     for words in ((), ("-",)):
         games("--empties=20", *words, input=TEXT.encode(), out=LINE.format("-"))
     games("-", input=WTHOR, out=LINE.format("-").rstrip() + ", theoretical score 33\n")
-    for name, shown in (("a b%c, game 7", "a b%c, game 7"), ("new\nline", "$'new\\nline'")):
-        reads(name, TEXT, "--empties=20", out=LINE.format(shown))
+    for name, shown in (("a b%c, game 7", "a b%c, game 7"), ("new\nline", "$'new\\nline'"), ("-V", "-V")):
+        reads(name, TEXT, "--empties=20", "--", out=LINE.format(shown))
     name = b"\xff.WTB"
     write(os.fsdecode(name), WTHOR)
     assert b"% \xff.WTB, game 1, theoretical score 33\n" in run(sys.executable, PROGRAM, name).stdout

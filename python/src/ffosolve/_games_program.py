@@ -121,7 +121,9 @@ def options_of(words: List[str]) -> argparse.Namespace:
             how = {"action": "append", "metavar": value, "type": f"{name}={{}}".format}
         group.add_argument(name, dest="many", default=[], help=text, **how)
     task = words[0] if words[:1] in (["check"], ["compare"]) else None
-    options = parser.parse_intermixed_args(words[task is not None:], argparse.Namespace(task=task))
+    end = words.index("--") if "--" in words else len(words)  # argparse would forget one that no FILE precedes
+    options = parser.parse_intermixed_args(words[task is not None:end], argparse.Namespace(task=task))
+    options.files += words[end + 1:]
     of_check = ["--folder"] * (options.folder is not None) + [word.partition("=")[0] for word in options.many]
     fixes, names = options.fix is not None, options.files[task == "compare":]
     for is_wrong, why in (
