@@ -408,6 +408,8 @@ def test_check_refuses_before_it_solves():
         ("--fix=it.wtb", EXISTS.format("it.wtb")),
         ("--fix=none/it.wtb", "cannot write none/it.wtb: its folder is missing, or may not be written"),
         ("none.wtb", "cannot read none.wtb: No such file or directory"),
+        ("--folder=book", "cannot make book: File exists"),
+        ("--folder=", "cannot make '': No such file or directory"),
     ):
         games(*CHECK, word, status=3, err=err)
     assert sorted(os.listdir()) == ["book", "it.wtb"]

@@ -259,8 +259,9 @@ def solved(positions: Iterable[Position], options: argparse.Namespace) -> str:
     --cut, only cut their list. Returns the path of the book that it writes. Refuses unless it ends with status 0."""
     folder = f"{options.files[0]}.check" if options.folder is None else options.folder
     listed, book = os.path.join(folder, "list.obf"), os.path.join(folder, "list.book")
-    with refusing("write", listed):
+    with refusing("make", folder):
         os.makedirs(folder, exist_ok=True)
+    with refusing("write", listed):
         write_whole({listed: (it.to_obf().encode() + b"\n" for it in positions)}, replaces=True)
     here = os.path.dirname(os.path.realpath(sys.argv[0]))
     program = shutil.which(os.path.join(here, SOLVER)) or shutil.which(SOLVER)
