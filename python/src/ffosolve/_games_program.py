@@ -182,8 +182,8 @@ def list_games(options: argparse.Namespace, messages: Messages) -> Iterator[byte
                 if it.position is not None:
                     score = "" if it.game.score is None else f", theoretical score {it.game.score}"
                     yield os.fsencode(f"{it.position.to_obf()} % {listed}, game {it.game.number}{score}")
-        except Refusal as why:
-            messages.report(why, why.status)
+        except (Refusal, NotText) as why:
+            messages.report(why, getattr(why, "status", UNREADABLE))
 
 
 def found_in(name: str, options: argparse.Namespace, messages: Messages) -> Iterator[Found]:
@@ -334,9 +334,6 @@ def fix(copies: Dict[str, str], found: List[Found], options: argparse.Namespace,
 
 @contextlib.contextmanager
 def opened(name: str) -> Iterator[io.BufferedReader]:
-    """Opens a file, or standard input for `-`. OSError and NotText, also in the body of the `with`, become Refusal."""
-    try:
-        with refusing("read", name), open(0 if name == "-" else name, "rb", closefd=name != "-") as file:
-            yield file
-    except NotText as why:
-        raise Refusal(str(why)) from None
+    """Opens a file, or standard input for `-`. Refuses if that, or reading in the body of the `with`, fails."""
+    with refusing("read", name), open(0 if name == "-" else name, "rb", closefd=name != "-") as file:
+        yield file
