@@ -25,34 +25,26 @@ PLAYED = random_games(60, seed=66)
 LINE = line_of(AT[22], "it.wtb, game 1, theoretical score 33")
 
 
-def prints(name, empties, known, more):
-    """Asserts that ffosolve-games prints, for each game in the file `name`, a line ending with `more`, or a message if
-    no position has `empties` empty squares. `known` has what `positions_of` returns for each game."""
-    out = err = ""
-    for number, found in enumerate(known, 1):
-        left = min(found)
-        if empties in found:
-            out += line_of(found[empties], f"{name}, game {number}{more}")
-        else:
-            err += (f"{name}, game {number}, move {60 - left}: it ends here, with {left} empty square"
-                    f"{'s' * (left > 1)}; {empties} are asked for\n")
-    games(name, f"--empties={empties}", out=out, err=err)
-
-
-def test_positions_of_transcripts_and_records_are_those_of_the_plain_player():
+@pytest.mark.parametrize("name, count, numbers", (
+    ("games.txt", 1000, (22, 9)), ("games.wtb", 1000, (22, 9)), ("games.wtb", 5, range(61)),
+))
+def test_positions_are_those_of_the_plain_player(name, count, numbers):
+    """A game that ends before the position gets a message instead of a line."""
     assert sum(None in game for game in RANDOM) > 100
     assert min(map(len, RANDOM)) < 60 - 22
-    write("games.txt", "\n".join(map(transcript, RANDOM)))
-    write("games.wtb", wthor(list(map(record, RANDOM))))
-    for empties in (22, 9):
-        prints("games.txt", empties, KNOWN, "")
-        prints("games.wtb", empties, KNOWN, ", theoretical score 33" * (empties == 22))
-
-
-def test_every_number_of_empty_squares_is_taken():
-    write("games.wtb", wthor([record(game) for game in RANDOM[:5]], empties=0))
-    for empties in range(61):
-        prints("games.wtb", empties, KNOWN[:5], ", theoretical score 33")
+    write("games.txt", "\n".join(map(transcript, RANDOM[:count])))
+    write("games.wtb", wthor(list(map(record, RANDOM[:count]))))
+    for empties in numbers:
+        out = err = ""
+        score = ", theoretical score 33" * (name == "games.wtb" and empties == 22)
+        for number, found in enumerate(KNOWN[:count], 1):
+            left, game = min(found), f"{name}, game {number}"
+            if empties in found:
+                out += line_of(found[empties], game + score)
+            else:
+                err += (f"{game}, move {60 - left}: it ends here, with {left} empty square{'s' * (left > 1)}; "
+                        f"{empties} are asked for\n")
+        games(name, f"--empties={empties}", out=out, err=err)
 
 
 GGF = "(;GM[Othello]PC[GGS/os]DT[2003.12.15_13:24:03.MST]PB[a1\\]]PW[B[b]RB[2197.01]TI[05:00//02:00]TY[8]RE[+2]{}{};)"

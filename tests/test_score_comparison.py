@@ -88,6 +88,7 @@ def test_output_for_another_list_is_refused(scored):
     refuses(9, listed, scored[:8] + scored[1:2])
     refuses(1, listed[1:], scored)
     refuses(3, listed, scored[:1] + scored[3:])
+    refuses(3, KINDS, KINDS)  # the list again
 
 
 @pytest.mark.parametrize("answer", (
@@ -103,7 +104,3 @@ def test_a_pass_and_the_end_of_a_game_are_scored_as_such(position, move):
     assert compare_scores([position], [position]).moves == 1
     for other in {b"PS", b"--", b"A1", b"B1"} - {move}:
         refuses(1, [position], [position.replace(move, other)])
-
-
-def test_two_lists_are_not_compared():
-    refuses(3, KINDS, KINDS)
