@@ -14,8 +14,8 @@ import pytest
 from bench import player
 from tests.games import PROGRAM, book_of, discs_of_black, games, positions_of, random_games, record, wthor
 from tests.support import ROOT, SECONDS, built, limited, run, stored, wait_until, write
-from ffosolve import Position, read_games
-from ffosolve._theoretical_scores import corrected, scores_in
+from ffosolve import read_games
+from ffosolve._theoretical_scores import corrected
 
 pytestmark = pytest.mark.usefixtures("folder")
 EMPTIES = 5
@@ -102,12 +102,6 @@ def test_wrong_scores_are_told_and_all_are_counted(content, book, out):
         games(*words, input=text, status=int(out != counts(differ=0)), out=out)
     if book == HEADER:
         fix(3, "no theoretical score is compared, so --fix has none to write")
-
-
-def test_each_score_is_that_of_its_position():
-    at = [found[4] for found in map(positions_of, random_games(120, seed=8)) if 4 in found][:100]
-    wanted = {Position(own, opp).canonical(): player.values(own, opp)[0] for own, opp, _ in at}
-    assert (scores_in(book_of(at).encode().splitlines(True), ""), len(wanted)) == (wanted, 100)
 
 
 WRONG_SCORES = [(f"--:{score};", f"its line 2 has the score {score}, with which no game ends")
@@ -349,6 +343,7 @@ def test_check_solves_compares_and_fixes():
     assert (COUNT, parts()) == (14, 3)  # each position once
     write("it.wtb", RIGHT)  # other scores of positions that are solved
     games("compare", "it.wtb.check/list.book", "it.wtb", out=counts(differ=0))
+    games(*CHECK, "--max-empties=4", "--folder=other", status=1, out=counts(0, 0, COUNT))
 
 
 @pytest.fixture
@@ -383,16 +378,6 @@ def test_a_second_check_in_one_folder_is_refused(start, slow_check):
     assert ran.stderr.splitlines() == [f"ffosolve-many: another run works in {FOLDER}", FAILED]
     os.killpg(first.pid, signal.SIGCONT)
     assert first.communicate(timeout=SECONDS)[0].decode() == printed
-
-
-def test_options_are_those_of_ffosolve_many():
-    games(*CHECK, "--max-empties=4", status=1, out=counts(0, 0, COUNT))
-    for word, status in (("--jobs=x", 2), ("--lines=", 2), ("--book-in=none", 3), ("--max-empties=5", 2)):
-        ran = run(sys.executable, PROGRAM, *CHECK, word, text=True)
-        assert (ran.returncode, ran.stdout) == (status, "")
-        said, last = ran.stderr.splitlines()
-        assert said.startswith("ffosolve-many: ") and re.search("--jobs|--lines|none|--max-empties 4", said)
-        assert last == FAILED
 
 
 def test_check_can_be_cut_for_another_scheduler():
