@@ -241,7 +241,7 @@ def compare(options: argparse.Namespace, messages: Messages) -> Iterator[bytes]:
         if it.position and (score := scores.get(it.position.canonical())) is not None:
             found[at] = it._replace(exact=discs_of_black(score, it.position.side))
     if copies:
-        fix(copies, found, options, messages)
+        fix(copies, found, options)
     differ = [it for it in found if it.difference]
     for it in differ:
         name = os.fsencode(f"{shown(it.file)}, game {it.game.number}")
@@ -308,9 +308,9 @@ def places(options: argparse.Namespace) -> Dict[str, str]:
     return dict(zip(paths, names))
 
 
-def fix(copies: Dict[str, str], found: List[Found], options: argparse.Namespace, messages: Messages) -> None:
+def fix(copies: Dict[str, str], found: List[Found], options: argparse.Namespace) -> None:
     """Writes copies of WTHOR files, {path: file}, with the right scores of the games that were found. Refuses if that
-    fails, and otherwise reports how many scores changed."""
+    fails, and otherwise says how many scores changed."""
     if all(it.exact is None for it in found):
         raise Refusal("no theoretical score is compared, so --fix has none to write")
     games = {path: [it for it in found if it.file == name and it.game.fault is None] for path, name in copies.items()}
@@ -329,7 +329,7 @@ def fix(copies: Dict[str, str], found: List[Found], options: argparse.Namespace,
         if options.real:
             changed = sum(it.real not in (None, it.game.real) for it in listed)
             text += f"; real scores changed {changed}, not checked {sum(it.real is None for it in listed)}"
-        messages.report(f"{shown(path)}: {text}", DONE)
+        say(f"{shown(path)}: {text}")
 
 
 @contextlib.contextmanager
