@@ -183,6 +183,7 @@ def test_players_tournament_and_year_are_told():
     players, tournaments = [*["?"] * 300, "Ann Smith", "Andr\u00e9 \x01\u00a0B."], [*["?"] * 7, "Rome"]
     for name, content, title in (
         ("it.wtb", whole, " (2001)"),
+        ("folder.jou/it", b"", " (2001)"),
         ("WTHOR.JOU", names(20, *players), " (2001, Ann Smith - Andr\u00e9 B.)"),
         ("WTHOR.TRN", names(26, *tournaments), " (2001, Ann Smith - Andr\u00e9 B., Rome)"),
         ("it.wtb", whole[:10] + b"\0\0" + whole[12:], " (Ann Smith - Andr\u00e9 B., Rome)"),

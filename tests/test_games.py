@@ -3,6 +3,7 @@ import contextlib
 import gzip
 import inspect
 import io
+import os
 import pickle
 import random
 import re
@@ -151,11 +152,17 @@ WRONG = f"its real score is {REAL + 1}, but its moves give {REAL}"
     (WHOLE[:-1], 33, 200, 22, ["its real score is 200, more than 64 discs"]),
     (BEFORE, 33, 20, 22, ["its moves stop before the end of the game, so its real score 20 is not checked"]),
 ))
-def test_wrong_scores_of_records_are_reported_and_the_line_is_printed(squares, theoretical, written, empties, why):
+def test_wrong_scores_of_records_are_reported_and_the_line_is_printed(
+        start, squares, theoretical, written, empties, why):
     comment = "it.wtb, game 1" + f", theoretical score {theoretical}" * (empties == 22)
     err = "".join(f"it.wtb, game 1 (2001): {it}\n" for it in why)
-    content = wthor([record(squares, theoretical, written)])
-    reads("it.wtb", content, f"--empties={empties}", out=line_of(positions_of(WHOLE)[empties], comment), err=err)
+    content, out = wthor([record(squares, theoretical, written)]), line_of(positions_of(WHOLE)[empties], comment)
+    reads("it.wtb", content, f"--empties={empties}", out=out, err=err)
+    # A pipe is not opened again for the year: its writer has ended.
+    os.mkfifo("pipe")
+    start("sh", "-c", "exec cat it.wtb >pipe")
+    out, err = (text.replace("it.wtb", "pipe").replace(" (2001)", "") for text in (out, err))
+    games(f"--empties={empties}", "pipe", out=out, err=err)
 
 
 @pytest.mark.parametrize("content, why", (
