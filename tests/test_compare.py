@@ -198,10 +198,11 @@ def test_players_tournament_and_year_are_told():
 
 
 def test_the_scores_that_are_wrong_are_changed_and_no_other_byte():
-    """The files have four more bytes than their headers say."""
+    """The files have 200,000 more bytes than their headers say."""
     goes_on = f"{{}}, game {COUNT + 1}: the file goes on, but its header counts {COUNT} games\n"
-    write("it.wtb", WHOLE + b"more")
-    fix(1, goes_on.format("it.wtb") + CHANGED, written={"new.wtb": RIGHT + b"more"}, out=both() + counts())
+    more = b"more" * 50_000
+    write("it.wtb", WHOLE + more)
+    fix(1, goes_on.format("it.wtb") + CHANGED, written={"new.wtb": RIGHT + more}, out=both() + counts())
     assert stat.S_IMODE(os.stat("new.wtb").st_mode) == 0o644
     games("compare", "book", "new.wtb", err=goes_on.format("new.wtb"), out=counts(differ=0))
     write("it.wtb", RIGHT)
