@@ -268,7 +268,7 @@ TEXT = "".join(f"{transcript(game)}\n\n" for game in PLAYED[:30]).encode()
 @pytest.mark.parametrize("content, name, wanted", (
     (RECORDS, "it.wtb", [(at + 1, 20 + at, 40, 22) for at in range(30)]),
     (TEXT, "it.txt", [(2 * at + 1, None, None, None) for at in range(30)]),
-))
+), ids=("wthor", "text"))
 def test_texts_and_wthor_files_are_read_by_path_and_from_files_of_each_kind(folder, content, name, wanted):
     write(name, content)
     write("packed", gzip.compress(content))
