@@ -272,7 +272,8 @@ TEXT = "".join(f"{transcript(game)}\n\n" for game in PLAYED[:30]).encode()
 def test_texts_and_wthor_files_are_read_by_path_and_from_files_of_each_kind(folder, content, name, wanted):
     write(name, content)
     write("packed", gzip.compress(content))
-    with open(name, "rb") as file, open(name, "rb", buffering=0) as raw, gzip.open("packed") as packed:
+    number = os.open(name, os.O_RDONLY)
+    with open(name, "rb") as file, open(number, "rb", buffering=0) as raw, gzip.open("packed") as packed:
         inside = io.BytesIO(content)
         for source in (name, folder / name, file, raw, packed, inside):
             found = list(ffosolve.read_games(source))
