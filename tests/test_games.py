@@ -53,12 +53,12 @@ GGF_BOARD = "BO[8 --------  --------  --------  ---O*---  ---*O---  --------  --
 
 
 def ggf(game, first=GGF_BOARD, with_passes=True):
-    """Returns a random game in GGF, as https://skatgame.net/mburo/ggsa/ggf shows it."""
+    """Returns a random game in GGF, as https://skatgame.net/mburo/ggsa/ggf shows it, with a blank after some moves."""
     moves, mover = "", "B"
     for at, square in enumerate(game):
         if square is not None or with_passes:
             name = "PA" if square is None else NAMES[square].lower() if at % 3 else NAMES[square]
-            moves += f"{mover}[{name}{('', '/-1.00', '/2.5/0.01', '//0.01')[at % 4]}]"
+            moves += f"{mover}[{name}{('', '/-1.00', ' /2.5/0.01', '//0.01')[at % 4]}]"
         mover = "BW"[mover == "B"]
     return GGF.format(first, moves)
 
