@@ -13,9 +13,9 @@ LONG = "9" * 400
 LISTED = f"""% an evaluation
 {BOARD} H1:+62; A1:+52;
 
-{BOARD} a1:60.5; H1:+61.75 ;% by version 2
-{BOARD} H1:+62.0; H1:.5; A1:70
-{AT_PASS} PS:-60;
+{BOARD} a1:60.5;\tH1:+61.75 ;% by version 2
+{BOARD} H1:+62.0; H1:.5; A1:70.
+{AT_PASS} Ps:-60;
 {BOARD} D4:+2; PS:+64; A1 :+52; H1:6e1; note
 {BOARD}
 {BOARD[:60]}
@@ -52,7 +52,7 @@ def test_scores_of_many_digits_are_not_read(scored):
 
 def test_paths_files_and_lines_are_read_alike(scored):
     wanted, printed = compare_scores("list.obf", "list.scores"), b"\n".join(scored)
-    with open("list.obf", encoding="utf-8") as listed, open("list.scores", "rb") as file:
+    with open("list.obf", encoding="utf-8") as listed, open("list.scores", encoding="utf-8") as file:
         assert compare_scores(listed, file) == wanted
     assert compare_scores(Path("list.obf"), scored) == wanted
     assert compare_scores(LISTED.replace("\n", "\r\n").splitlines(True), io.BytesIO(printed)) == wanted
@@ -81,7 +81,7 @@ def refuses(number, listed, scored):
 
 
 def test_output_for_another_list_is_refused(scored):
-    listed, other = LISTED.encode().splitlines(), scored[1].replace(b"O", b"X", 1)
+    listed, other = LISTED.encode().splitlines(), scored[1][:35] + b"X" + scored[1][36:]  # with the same moves
     refuses(2, listed, [scored[0], other, *scored[2:]])
     refuses(5, listed, scored[:4])
     refuses(10, listed, scored + scored[1:2])
