@@ -195,6 +195,7 @@ def test_players_tournament_and_year_are_told():
     ):
         write(f"in/{name}", content)
         games("compare", "book", "in/it.wtb", status=1, out=both(name="in/it.wtb", title=title) + counts())
+        games("compare", "../book", "it.wtb", status=1, out=both(title=title) + counts(), cwd="in")
 
 
 def test_the_scores_that_are_wrong_are_changed_and_no_other_byte():

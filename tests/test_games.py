@@ -78,7 +78,7 @@ REFUSED = (  # transcript, move, reason
         ("f5 d6 33-31 c3", 3, "33"), ("f5 d6 100-3", 3, "10"), ("f5 [d6] c3", 2, "[d"))),
     ("(;GM[Othello]B[f5]B[d6];)", 2, f"a pass is not a legal move for White in {player.line(*F5[59])}"),
     (f"2 {ggf(GAME)}{ggf(GAME)}", None, "a line has one game, but this has several in GGF"),
-    ("(;GM[Othello]PC[GGS/os]", None, "it begins like a game in GGF, but does not end with `;)`"),
+    ("(;GM[Othello]PC[GGS/os])", None, "it begins like a game in GGF, but does not end with `;)`"),
     ("(;GM[2]B[f5]W[d6];)", None, "it is a game in GGF or SGF without GM[Othello]"),
     *((ggf(GAME, GGF_BOARD.replace(*other)), None, "it is in GGF, and does not begin from the usual position")
       for other in (("O*", "OO"), (" *]", " O]"))),
@@ -257,7 +257,7 @@ def test_transcripts_are_read_in_each_form():
 def test_games_in_ggf_are_read():
     assert sum(None in game for game in PLAYED) > 10
     for at, game in enumerate(PLAYED):
-        for text in (ggf(game), f"1 {ggf(game, '')}\r\n", ggf(game, with_passes=False)):
+        for text in (ggf(game), f" 1 {ggf(game, '')}\r\n", ggf(game, with_passes=False)):
             has_positions(text, game)
 
 
