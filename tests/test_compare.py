@@ -428,7 +428,8 @@ OPTIONS = ("--max-empties=4", "--lines=x", "--jobs=7", "--scheduler=h1:8786", "-
 ))
 def test_ffosolve_many_gets_the_options(alone, words, given, folder_named):
     write("22.wtb", wthor([record(PLAYED[0])], empties=22))
-    write("tools/ffosolve-many", '#!/bin/sh\necho "$*" >words\necho output\nexit 3\n')
+    write("bin/ffosolve-many", '#!/bin/sh\necho "$*" >words\necho output\nexit 3\n')
+    write("tools/ffosolve-many", "#!/bin/sh\n")  # is not run, since one is next to ffosolve-games
     ran = alone("check", "it.wtb", *words)
     assert Path("words").read_text() == f"{given} --book-out={folder_named}/list.book -- {folder_named}/list.obf\n"
     assert ran.stdout == "output\n" * ("--cut" in words)
