@@ -33,12 +33,13 @@ def test_a_checkout_has_the_program_that_its_wrapper_runs(case):
     assert stored("out/ffosolve") in [path.read_bytes() for path in Path("work").glob("program-*")]
 
 
-def test_the_program_is_found_through_a_link_and_names_may_have_blanks(case):
+def test_the_program_is_found_through_a_link_and_names_may_have_blanks_or_not_be_utf_8(case):
     os.symlink(case.ACTS, "link")
-    os.rename("list.obf", "a  list;$x'.obf")
-    words = ("--lines=30", "a folder ;'$y", "a  list;$x'.obf", "--book-out", "a book;'")
-    case.many(*words, by="./link")
-    case.same_book("a book;'")
+    for name, *place in ("a  list;$x'.obf", "a folder ;'$y"), (os.fsdecode(b"\xff.obf"),):
+        os.rename("list.obf", name)
+        case.many("--lines=30", *place, name, "--book-in=one.book", "--book-out", "a book;'", by="./link")
+        case.same_book("a book;'")
+        os.rename(name, "list.obf")
 
 
 def test_options_stand_anywhere_and_reach_the_program_of_each_part(case):

@@ -1,5 +1,6 @@
 """Solves parts of a list: on a thread of ffosolve-many, on a worker of a cluster, or as `python3 solve.py PARTS`.
 This file needs only Python 3.8 and util-linux, so it works on machines without the rest of the package."""
+import functools
 import hashlib
 import itertools
 import json
@@ -137,10 +138,16 @@ def read_task(folder: Path) -> Task:
     return dict(json.loads(unsealed("task", content_of(folder / "task")) or b"{}"))
 
 
+@functools.lru_cache(maxsize=None)
+def opened(folder: Path) -> Path:
+    """Returns a path of a folder that leads through this process, since the program takes only names in UTF-8."""
+    return Path(f"/proc/{os.getpid()}/fd/{os.open(folder, os.O_RDONLY)}")
+
+
 def files_in(folder: Path) -> Files:
     """Returns the programs and any book-in in the folder of a run."""
-    found = (path for pattern in ("program-?", "book-in") for path in folder.glob(pattern))
-    return {path.name: str(path.absolute()) for path in found if path.is_file()}
+    found = (path for pattern in ("program-?", "book-in") for path in opened(folder).glob(pattern))
+    return {path.name: str(path) for path in found if path.is_file()}
 
 
 def parts_in(words: List[str], count: int) -> List[range]:
