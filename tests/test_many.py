@@ -383,8 +383,9 @@ def progress(texts, lines=1):
     """Returns an engine.Progress (what is left to do) for parts of a list, `texts`, each taken as `lines` lines."""
     one = folder.Run.__new__(folder.Run)
     one.statuses, one.count = {}, len(texts) * lines
-    one.parts = [folder.Part(number, 0, len(text), 1 + number * lines, lines, "", folder.weight_of(text, 20))
-                 for number, text in enumerate(texts)]
+    weights = [folder.weight_of(folder.FRONT.findall(text), 20) for text in texts]
+    one.parts = [folder.Part(number, 0, 0, 1 + number * lines, lines, 0, "", weight)
+                 for number, weight in enumerate(weights)]
     return engine.Progress(one)
 
 
@@ -448,7 +449,7 @@ def test_work_grows_with_the_empty_squares_of_both_spellings():
     growth = folder.GROWTH
     for empty in (b"-", b"."):
         text = (BOARD + b" X\n\n% -----\n" + b"-" * 30 + b"X" * 34 + b" X\n").replace(b"-", empty)
-        assert folder.weight_of(text, 20) == growth ** 2 + 1
+        assert folder.weight_of(folder.FRONT.findall(text), 20) == growth ** 2 + 1
     for empties, seconds in ((6, 0.83 / 0.0083), (8, 7.6 / 0.0083)):  # 20 and 22 empty squares against 14
         assert 0.5 < growth ** empties / seconds < 2
 

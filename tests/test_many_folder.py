@@ -1,5 +1,6 @@
 """ffosolve-many cuts a list into parts, goes on after any interruption, and uses only complete results of a part."""
 import functools
+import io
 import os
 import random
 import re
@@ -21,40 +22,28 @@ from tests.support import MOST_BYTES, NOBODY, ROOT, SECONDS, ends, limited, proc
 pytest_plugins = ["tests.many"]
 
 
-def test_a_report_is_taken_if_it_is_complete(case):
-    whole, numbers = b"[1]\n1 +02 A1 right\n2 refused: bad side at column 65\nsolved 1 refused 1\n", [1, 2]
-    assert folder.is_report(whole, numbers)
-    both = b"[1]\n1 +02 A1 right\n2 refused: bad side at column 65\n8 +02 A1 right\n9 refused: bad side at column 65\n"
-    assert b"".join(folder.joined([(0, whole), (7, whole)])) == both + b"solved 2 refused 2\n"
-    for end in range(len(whole)):
-        assert not folder.is_report(whole[:end], numbers), end
-    for old, new in ((b"[1]", b"[2]"), (b"1 +", b"2 +"), (b"1 +", b"01 +"), (b"A1", b"\0\0"), (b" right", b""),
-                     (b"solved 1", b"solved 2"), (b"refused 1", b"refused 0"), (b"2 refused: ", b"2 refused "),
-                     (b"solved 1 refused 1", b"solved 2 refused 0"), (b"solved", b"Solved"),
-                     (b"\nsolved", b"\n\nsolved"), (b"2 refused: bad side at column 65\n", b"")):
-        assert not folder.is_report(whole.replace(old, new), numbers), new
-    for others in ([1, 3], [1], [1, 2, 3]):
-        assert not folder.is_report(whole, others)
-
-
-@pytest.mark.parametrize("output, is_whole", [(b"a\nb\nc\n", True), (b"a\nb\n", False), (b"a\nb\nc", False),
-                                              (b"a\nb\nc\nd\n", False)])
-def test_scores_are_complete_with_a_line_for_each_of_the_part(output, is_whole):
-    one, part = folder.Run.__new__(folder.Run), folder.Part(0, 0, 6, 1, 3, "digest", 3.0)
-    one.task, one.statuses = {"options": {"--scores": ""}}, {}
-    record = solve.record_of(one.task, 0, "digest", solve.Solved(0, output, b"", 0.1))
-    assert bool(one.check(part, b"1\n2\n3\n", record)) == is_whole
+@pytest.mark.parametrize("scores, lines", [(None, [b"[1]", b"1 +02 A1 agree", b"solved 1 refused 0"]),
+                                           ("", [b"A1:+02;", b"%", b"% blank and comment", b"", b"% blank", b"\r"])])
+def test_results_are_complete_with_a_row_for_each_line_of_the_part(scores, lines):
+    options = {"--lines": 9, "--max-empties": "20", "--scores": scores}
+    ((part, _),) = folder.cut(io.BytesIO(BOARD + b" X;\n\n%\n \t% X\n\r\n \t\r"), "list", options)
+    one = folder.Run.__new__(folder.Run)
+    one.task, one.statuses = {"options": options}, {}
+    whole = b"\n".join(lines) + b"\n"
+    for output in (whole, whole[:-1], b"", whole + b"\n", b"".join(whole.splitlines(keepends=True)[1:])):
+        record = solve.record_of(one.task, 0, part.digest, solve.Solved(0, output, b"", 0.1))
+        assert bool(one.check(part, record)) == (output == whole)
 
 
 def test_results_that_took_a_second_are_on_the_disk_at_once(tmp_path):
-    one, part = folder.Run.__new__(folder.Run), folder.Part(0, 0, 2, 1, 1, "digest", 1.0)
-    one.folder, one.task, one.statuses = tmp_path, {"options": {"--scores": ""}}, {}
+    one, part = folder.Run.__new__(folder.Run), folder.Part(0, 0, 2, 1, 1, 1, "digest", 1.0)
+    one.folder, one.task, one.statuses = tmp_path, {"options": {}}, {}
     write(tmp_path / "list", "1\n")
     (tmp_path / "results").mkdir()
     with mock.patch.object(os, "fsync") as synced:
         for seconds, count in ((0.9, 0), (1.0, 1)):
             record = solve.record_of(one.task, 0, "digest", solve.Solved(0, b"a\n", b"", seconds))
-            assert one.keep(part, b"1\n", record, "")[0] and synced.call_count == count
+            assert one.keep(part, record, "")[0] and synced.call_count == count
 
 
 def test_the_lock_of_a_run_that_ends_is_waited_for(tmp_path):
@@ -71,16 +60,14 @@ def test_a_part_whose_results_are_not_complete_is_solved_again(case):
     whole, text = path.read_bytes(), case.SMALL[68 * 20:68 * 40]
     found = solve.read_record(task, 1, solve.sha256(text), whole)
 
-    def record(part=1, complete=None, **changes):
-        """Returns part 1's file in work/results as it would be with these values and their right checksum."""
-        asked = {"options": {**task["options"], "--complete": complete}}
-        return solve.record_of(asked, part, solve.sha256(text), found._replace(**changes))
+    def record(part=1, text=text, **options):
+        """Returns the record of these results for another part, other lines or options, with the right digest."""
+        return solve.record_of({"options": {**task["options"], **options}}, part, solve.sha256(text), found)
 
     assert record() == whole
     for spoiled in (None, b"", whole[:-1], whole[:whole[:-1].rindex(b"\n") + 1], bytes(len(whole)), whole + b"\n",
                     whole.replace(b"+", b"-", 1), Path("work/results/0000000").read_bytes(), record(part=2),
-                    record(complete=""), record(status=1), record(output=found.output.replace(b"\n1 ", b"\n2 ")),
-                    record(book=found.book.replace(b"winner", b"discs")), record(book=b"")):
+                    record(text=text[:-1]), record(**{"--complete": ""})):
         path.unlink() if spoiled is None else path.write_bytes(spoiled)
         case.many(*WORDS, message="in 3 parts, 2 of them solved before;")
         assert path.read_bytes().endswith(found.output + found.book)

@@ -168,7 +168,7 @@ class Cluster:
             return None, ""
         except Exception as fault:
             record, why = b"", text_of(fault)
-        return await asyncio.get_running_loop().run_in_executor(None, self.run.keep, part, text, record, why)
+        return await asyncio.get_running_loop().run_in_executor(None, self.run.keep, part, record, why)
 
     def send(self, worker: Worker, part: Part) -> Future[Answer]:
         return self.in_dask(self.solve(worker, part))

@@ -13,36 +13,19 @@ from typing import Any, BinaryIO, Callable, Dict, Iterable, Iterator, List, Name
 
 from . import solve
 from .._command_line import MISSING, MISUSED, Refusal, refusing
-from .._text import BOOK_HEADER, MOST_BYTES, shown, text_lines
+from .._text import MOST_BYTES, shown, text_lines
 from .solve import Solved, Task, content_of, files_in, fit_program, read_record, read_task, sealed, sha256
 
 LOCK = "ffosolve-many.lock"
 GROWTH = 2.35  # factor of the work for each further empty square, as measured from 14 to 22 of them
 SYNCED_SECONDS = 1  # results of parts that took less may be lost if the power fails
-SKIPPED = re.compile(rb"[ \t]*(?:%.*|\r?)", re.DOTALL)
 FRONT = re.compile(rb"^(?![ \t]*(?:%|\r?$))[ \t]*(.{1,64})", re.MULTILINE)  # of a line that a report does not leave out
-REPORT = re.compile(rb"\[1\]\n(?:\d+ (?:[+-]\d\d (?:[A-H][1-8](?:,[A-H][1-8])*|PS|--) [a-z]+|refused: [^\0\n]+)\n)*"
-                    rb"solved \d+ refused \d+\n")
 
 
-def asked_lines(part: bytes) -> List[int]:
-    """Returns the numbers, from 1, of a part's lines without blank lines and comments, which a report leaves out."""
-    return [number for number, line in enumerate(part.split(b"\n"), 1) if not SKIPPED.fullmatch(line)]
-
-
-def weight_of(text: bytes, most: int) -> float:
-    """Returns the expected work for the lines `text`: GROWTH ** n for a line with n empty squares, 1 if n > `most`."""
-    fronts = FRONT.findall(text.replace(b".", b"-"))
-    empties = collections.Counter([front.count(b"-") for front in fronts])
+def weight_of(fronts: List[bytes], most: int) -> float:
+    """Returns the expected work for lines with these FRONTs: GROWTH ** n for n empty squares, or 1 if n > `most`."""
+    empties = collections.Counter([front.count(b"-") + front.count(b".") for front in fronts])
     return sum((times * GROWTH ** count if count <= most else times for count, times in empties.items()), 0.0)
-
-
-def is_report(text: bytes, numbers: List[int]) -> bool:
-    """Returns whether a text is the complete report on lines with these numbers."""
-    rows = [row.partition(b" ") for row in text.split(b"\n")[1:-2]]
-    refused = [rest[:9] for _, _, rest in rows].count(b"refused: ")
-    return (REPORT.fullmatch(text) is not None and [number for number, _, _ in rows] == [b"%d" % one for one in numbers]
-            and text.endswith(b"\nsolved %d refused %d\n" % (len(rows) - refused, refused)))
 
 
 def joined(reports: Iterable[Tuple[int, bytes]]) -> Iterator[bytes]:
@@ -58,13 +41,14 @@ def joined(reports: Iterable[Tuple[int, bytes]]) -> Iterator[bytes]:
 
 class Part(NamedTuple):
     """A part of a list: its number, from 0; its offset and its size in bytes; the number of its first line, from 1, and
-    how many lines it has; their SHA-256; and the expected work."""
+    how many lines it has; how many the program prints for them; their SHA-256; and the expected work."""
 
     number: int
     start: int
     size: int
     first: int
     lines: int
+    printed: int
     digest: str
     weight: float
 
@@ -72,19 +56,22 @@ class Part(NamedTuple):
         return f"part {self.number:07d} (lines {self.first} to {self.first + self.lines - 1})"
 
 
-def cut(file: BinaryIO, name: str, count: int, most: int) -> Iterator[Tuple[Part, bytes]]:
-    """Yields the parts of a list, of at most `count` lines each, with their text. `most`: see `weight_of`. Refuses a
-    file that is no text, and a part that is too large."""
+def cut(file: BinaryIO, name: str, options: Dict[str, Any]) -> Iterator[Tuple[Part, bytes]]:
+    """Yields the parts of a list, with their text. `options`: see `Task`. Refuses a file that is no text, and a part
+    that is too large."""
     texts, start, first = text_lines(file, name, may_have_nul=True), 0, 1
     for number in itertools.count():
-        lines = [*itertools.islice(texts, count)]
+        lines = [*itertools.islice(texts, options["--lines"])]
         text = b"".join(lines)
         if len(text) > MOST_BYTES:
             raise Refusal(f"part {number:07d} (from line {first} of {name} on) has more than {MOST_BYTES} bytes: use "
                           f"fewer lines, such as --lines {len(lines) * MOST_BYTES // len(text)}", MISUSED)
         if not lines:
             return
-        yield Part(number, start, len(text), first, len(lines), sha256(text), weight_of(text, most)), text
+        fronts = FRONT.findall(text)
+        printed = len(fronts) + 2 if options["--scores"] is None else len(lines)
+        weight = weight_of(fronts, int(options["--max-empties"]))
+        yield Part(number, start, len(text), first, len(lines), printed, sha256(text), weight), text
         start, first = start + len(text), first + len(lines)
 
 
@@ -117,11 +104,10 @@ class Run:
         self.statuses: Dict[int, int] = {}
         whole = hashlib.sha256()
         with refusing("read", name), source.open("rb") as file:
-            for part, text in cut(file, name, task["options"]["--lines"], int(task["options"]["--max-empties"])):
+            for part, text in cut(file, name, task["options"]):
                 self.parts.append(part)
                 whole.update(text)
-                if record := content_of(self.path(part)):
-                    self.check(part, text, record)
+                self.check(part, content_of(self.path(part)))
         task.update(parts=len(self.parts), list=whole.hexdigest())
         self.count = self.parts[-1].first + self.parts[-1].lines - 1 if self.parts else 0
 
@@ -165,27 +151,17 @@ class Run:
     def unsolved(self) -> List[Part]:
         return [part for part in self.parts if part.number not in self.statuses]
 
-    def check(self, part: Part, text: bytes, record: bytes) -> Optional[Solved]:
-        """Notes and returns the results in a record of a part with lines `text`, or returns None if they are not
-        complete. With --scores, only counts lines."""
-        found, options = read_record(self.task, part.number, part.digest, record), self.task["options"]
-        if not found:
+    def check(self, part: Part, record: bytes) -> Optional[Solved]:
+        """Notes and returns the results in a record of a part, or returns None if they are damaged or not complete."""
+        found = read_record(self.task, part.number, part.digest, record)
+        if not found or found.output.count(b"\n") != part.printed:
             return None
-        if options["--scores"] is not None:
-            is_whole = found.output.count(b"\n") == part.lines and found.output.endswith(b"\n")
-        else:
-            header = f"{BOOK_HEADER}{options['--scoring']}\n".encode()
-            is_book = found.book.startswith(header) and found.book.endswith(b"\n")
-            is_whole = (found.status == 0 and is_book == (options["--book-out"] is not None)
-                        and is_report(found.output, asked_lines(text)))
-        if is_whole:
-            self.statuses[part.number] = found.status
-        return found if is_whole else None
+        self.statuses[part.number] = found.status
+        return found
 
-    def keep(self, part: Part, text: bytes, record: bytes, why: str) -> Tuple[Optional[Solved], str]:
-        """Stores a complete record of a part with lines `text`. Returns its results; or None and a reason, by default
-        `why`."""
-        found = self.check(part, text, record)
+    def keep(self, part: Part, record: bytes, why: str) -> Tuple[Optional[Solved], str]:
+        """Stores a complete record of a part. Returns its results; or None and a reason, by default `why`."""
+        found = self.check(part, record)
         if found:
             with refusing("write", self.folder):
                 store(self.path(part), [record], (self.folder / "list").stat().st_mode & 0o666,
@@ -194,13 +170,12 @@ class Run:
 
     def solve(self, part: Part) -> Tuple[Optional[Solved], str]:
         """Solves a part on this machine. Returns its results, or None and the reason."""
-        text = self.text(part)
-        return self.keep(part, text, *solve.solve(self.task, self.files, self.program, part.number, text))
+        return self.keep(part, *solve.solve(self.task, self.files, self.program, part.number, self.text(part)))
 
     def solved(self) -> Iterator[Solved]:
         """Yields the results of each part. Solves a part again if its record has been damaged or removed meanwhile."""
         for part in self.parts:
-            if not (found := read_record(self.task, part.number, part.digest, content_of(self.path(part)))):
+            if not (found := self.check(part, content_of(self.path(part)))):
                 self.test()
                 found, why = self.solve(part)
             if not found:
