@@ -255,7 +255,8 @@ def test_files_that_may_not_be_read_or_written_are_named(case):
 
 def test_what_the_program_refuses_is_refused_in_its_words(case):
     write("bad.book", b"?\n")
-    for status, message, *words in ((2, "'61'", "--max-empties", 61), (2, "'a;b'", "--scoring", "a;b"),
+    scorings = "'a;b' for '--scoring <NAME>': [possible values: winner, discs, sign]: For more information, "
+    for status, message, *words in ((2, "'61'", "--max-empties", 61), (2, scorings, "--scoring", "a;b"),
                                     (2, "'x'", "--workers=x"), (2, "'99999999'", "--table=99999999"),
                                     (3, "book line 1: bad square", "--book-in=bad.book")):
         case.many("work", "list.obf", *words, status=status, message=message)
@@ -283,7 +284,7 @@ def test_missing_or_wrong_programs_and_tools_are_named(case):
     for name, words in (("ffosolve", ()), ("ffoscores", ("--scores",))):
         by.with_name(name).unlink()
         case.refused(4, f"{name} is missing: it has to be next to ffosolve-many", *words, "list.obf", by=by)
-    places = {"PATH": f"{case.BASE}/python"}
+    places = {"PATH": os.environ["PATH"].partition(":")[0]}  # which has only Python
     case.refused(4, "setpriv is not on the path: apt-get install util-linux", "work", "list.obf", places=places)
 
 

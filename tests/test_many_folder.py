@@ -1,5 +1,4 @@
 """ffosolve-many cuts a list into parts, goes on after any interruption, and uses only complete results of a part."""
-import functools
 import io
 import os
 import random
@@ -17,7 +16,8 @@ import pytest
 
 from ffosolve._many import folder, solve
 from tests.many import ACTING, BOARD, WORDS, files
-from tests.support import MOST_BYTES, NOBODY, ROOT, SECONDS, ends, limited, processes_in, run, wait_until, write
+from tests.support import (MOST_BYTES, NOBODY, SECONDS, ends, limited, processes_in, run, unshared, wait_until,
+                           write)
 
 pytest_plugins = ["tests.many"]
 
@@ -73,29 +73,29 @@ def test_a_part_whose_results_are_not_complete_is_solved_again(case):
         assert path.read_bytes().endswith(found.output + found.book)
 
 
-def test_removed_results_are_solved_again_by_the_program_that_the_folder_was_begun_with(case):
-    case.many(*WORDS)
-    before = Path("work/program-0").read_bytes()
-    Path("work/results/0000001").unlink()
-    case.many(*WORDS, by=case.ACTS, message="in 3 parts, 2 of them solved before;")
-    assert Path("work/program-0").read_bytes() == before
-    shutil.rmtree("work/results")
-    case.many(*WORDS, message="in 3 parts, 0 of them solved before;")
-    Path("work/task").unlink()
-    case.many(*WORDS, message="in 3 parts, 3 of them solved before;")
-
-
-def test_damaged_files_of_the_run_are_written_again(case):
-    words = (*WORDS, "--book-in=one.book")
+def test_files_that_are_damaged_or_missing_or_links_or_pipes_are_written_again_and_others_stay(case):
+    words, record = (*WORDS, "--book-in=one.book"), Path("work/results/0000001")
     case.many(*words)
-    before, names = files(), ("list", "program-0", "book-in", "solve.py", "task")
-    for damaged in (names, *zip(names), None, ["task"]):  # all of them, then each; then a changed list, without a task
-        if damaged:
-            run("truncate", "--size=-5", *damaged, cwd="work", check=True)
-        if damaged in (None, ["task"]):
-            write("work/list", b"%" + case.SMALL[1:])
+    for name in ("other", "work/notes", "work/list.0123abcd.new", "work/results/mine.txt"):
+        write(name, "?")
+    before, paths = files(), [Path("work", name) for name in ("list", "program-0", "book-in", "solve.py", "task")]
+    for spoiled in (paths, *zip(paths), [record]):
+        for spoil in (lambda path: os.truncate(path, path.stat().st_size - 5), os.unlink,
+                      lambda path: (path.unlink(), os.mkfifo(path)),
+                      lambda path: (path.unlink(), path.symlink_to(case.folder / "other"))):
+            for path in spoiled:
+                spoil(path)
+            solved, by = (2, case.ACTS) if record in spoiled else (3, case.MANY)  # by the program of the folder
+            case.many(*words, by=by, message=f"in 3 parts, {solved} of them solved before;")
+            before[record] = files()[record] if record in spoiled else before[record]
+            assert files() == before
+    for task in (Path("work/task").read_bytes(), b""):
+        write("work/list", b"%" + case.SMALL[1:])
+        write("work/task", task)
         case.many(*words, message="in 3 parts, 3 of them solved before;")
         assert files() == before
+    shutil.rmtree("work/results")
+    case.many(*words, message="in 3 parts, 0 of them solved before;")
 
 
 def test_other_options_are_refused_by_name(case):
@@ -147,20 +147,6 @@ def test_only_the_parts_that_failed_are_solved_again(case):
     case.many(*WORDS, message=", 5 of them solved before")
     case.many("--scores", "--lines=20", "work2", "list.obf", by=case.ACTS, status=3,
               message="not solved: 2 of 7 parts: ")
-
-
-def test_links_and_pipes_in_place_of_files_are_replaced_and_other_files_stay(case):
-    case.many(*WORDS, "--book-in=one.book")
-    before = files()
-    kept = {write(name, "?") for name in ("other", "work/notes", "work/list.0123abcd.new", "work/results/mine.txt")}
-    for make in (os.mkfifo, functools.partial(os.symlink, case.folder / "other")):
-        for name in ("results/0000001", "list", "book-in", "program-0", "task"):
-            Path("work", name).unlink()
-            make(Path("work", name))
-            case.many(*WORDS, "--book-in=one.book")
-    now = files()
-    assert {path for path in now if now[path] != before.get(path)} - {Path("work/results/0000001")} == kept
-    assert {path.read_text() for path in kept} == {"?"}
 
 
 PRINTED = "    print_all(run.output())\n"
@@ -216,6 +202,13 @@ def test_a_part_is_not_solved_in_vain(case):
                   **how)
         assert ran.returncode == 1 and re.search(f"^solve.py 1-2: .*{why}.*$", ran.stderr, re.M)
         assert words.read_text().count("\n") == 1  # the program has run for the known line alone
+
+
+def test_a_folder_where_no_program_may_run_is_refused(case):
+    mount = 'mkdir work && mount -t tmpfs -o noexec none work && exec "$0" "$@"'
+    unshare, *words = unshared()
+    case.many(*words, "sh", "-c", mount, case.MANY, *WORDS, by=unshare, status=4,
+              message="the program can't solve a known line: setpriv: failed to execute program-0: Permission denied\n")
 
 
 def test_an_old_python_is_named(case):
@@ -291,7 +284,7 @@ def test_standard_input_is_read_from_where_it_stands_and_pipes_are_read(case):
         case.many("-c", command, case.MANY, by="bash", message=": 60 lines in 1 part")
         case.same_book()
     assert Path("work", "book-in").read_bytes() == Path("one.book").read_bytes()
-    assert os.listdir(case.BASE / "tmp") == []
+    assert os.listdir(os.environ["TMPDIR"]) == []
 
 
 def test_texts_that_are_not_lists_are_refused(case):
@@ -307,7 +300,7 @@ def test_texts_that_are_not_lists_are_refused(case):
 
 
 def test_a_pipe_is_refused_if_there_is_no_room_for_its_copy(case):
-    case.refused(3, f"cannot copy - to {case.BASE}/tmp: File too large", "work", "-", input=case.SMALL,
+    case.refused(3, f"cannot copy - to {os.environ['TMPDIR']}: File too large", "work", "-", input=case.SMALL,
                  preexec_fn=limited(RLIMIT_FSIZE=1000))
 
 
@@ -415,11 +408,11 @@ def test_a_signal_ends_the_run_while_python_ignores_exceptions(case):
 
 
 def test_a_program_does_not_start_once_its_caller_has_ended(case):
-    code = "import sys; from ffosolve._many.solve import guarded; print(*guarded(sys.argv[1], []), sep='\\n')"
-    program = case.MANY.with_name("ffosolve")
-    words = run(sys.executable, "-c", code, program, cwd=ROOT / "python/src", text=True).stdout.splitlines()
+    run(case.MANY, "--cut", *WORDS)
+    code = "import solve; print(*solve.guarded(solve.files_in(solve.Path())['program-0'], []), sep='\\n')"
+    words = run(sys.executable, "-c", code, cwd="work", text=True).stdout.splitlines()
     ran = run(*words, text=True)
-    assert ran.stdout == "" and f"root{program}: No such file or directory" in ran.stderr
+    assert ran.stdout == "" and "/program-0: No such file or directory" in ran.stderr
 
 
 def test_two_signals_together_end_the_run_without_a_traceback(case):

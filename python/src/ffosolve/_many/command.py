@@ -136,8 +136,8 @@ def try_run(program: Path, *words: str, text: bytes = NO_DISCS, to: int = subpro
         raise Refusal("setpriv is not on the path: apt-get install util-linux", MISSING)
     ran = subprocess.run(guarded(str(program), [*words]), close_fds=False, input=text, stdout=to,
                          stderr=subprocess.PIPE)
-    lines = ran.stderr.decode(errors="replace").splitlines() or [f"{program} ended with status {ran.returncode}"]
-    return ran.returncode, ran.stdout, ": ".join(re.sub("^ffo[a-z]+: ", "", line) for line in lines)
+    lines = re.findall(r"^(?:ffo[a-z]+: |\s+)?(\S.*)", ran.stderr.decode(errors="replace"), re.MULTILINE)
+    return ran.returncode, ran.stdout, ": ".join(lines) or f"{program} ended with status {ran.returncode}"
 
 
 def check_books(program: Path, books: Iterable[Tuple[str, bytes]]) -> None:

@@ -121,8 +121,7 @@ class Run:
                     whole.update(block)
         if whole.hexdigest() == digest != self.task["list"]:
             with path.open("rb") as kept, self.source.open("rb") as file:
-                lines = itertools.chain(file, itertools.repeat(b""))
-                for number, (line, now) in enumerate(zip(kept, lines), 1):
+                for number, (line, now) in enumerate(itertools.zip_longest(kept, file, fillvalue=b""), 1):
                     if not now.startswith(line):
                         raise Refusal(f"{self.name} is not the list that {shown(self.folder)} was begun with, from "
                                       f"line {number} on: use another folder, or the same list (it may have grown at "

@@ -21,7 +21,7 @@ PASSED_ON = ("--max-empties", "--scoring", "--workers", "--table", "--book-in", 
 # None for one that is not given; "speed", the like for other options; "parts", how many there are; "list", its SHA-256;
 # "programs", the SHA-256 of each; "known", what they print for KNOWN.
 Task = Dict[str, Any]
-Files = Dict[str, str]  # {name: path on this machine} of a run's programs, program-0 and so on, and of any book-in
+Files = Dict[str, str]  # {name: path in this process} of a run's programs, program-0 and so on, and of any book-in
 
 # The results of a part: the program's exit status, its output, its book, and how many seconds it took.
 Solved = NamedTuple("Solved", [("status", int), ("output", bytes), ("book", bytes), ("seconds", float)])
@@ -43,9 +43,8 @@ def unsealed(about: object, text: bytes) -> bytes:
 
 
 def guarded(program: str, words: List[str]) -> List[str]:
-    """Returns a command that runs a program, which is killed when this process ends. The program's path leads through
-    this process, so that nothing is run once that has ended."""
-    return ["setpriv", "--pdeathsig", "KILL", f"/proc/{os.getpid()}/root{program}", *words]
+    """Returns a command that runs a program, which is killed when this process ends."""
+    return ["setpriv", "--pdeathsig", "KILL", program, *words]
 
 
 def words_of(task: Task, book_in: Optional[str]) -> List[str]:
@@ -107,7 +106,7 @@ def fit_program(task: Task, files: Files) -> Tuple[str, str]:
     KNOWN_SECONDS, with the results that `task` knows, if any; and these results, output and book as one text. Raises
     ChildProcessError if no program is fit."""
     why = "is missing"
-    for _, program in sorted(file for file in files.items() if file[0] != "book-in"):
+    for name, program in sorted(file for file in files.items() if file[0] != "book-in"):
         end = time.monotonic() + KNOWN_SECONDS
         if sha256(Path(program).read_bytes()) not in task["programs"]:
             why = "is damaged"
@@ -119,7 +118,7 @@ def fit_program(task: Task, files: Files) -> Tuple[str, str]:
         if record:
             why = "solves a known line wrong"
         elif time.monotonic() < end:
-            why = f"can't solve a known line: {fault}"
+            why = f"can't solve a known line: {fault.replace(program, name)}"
         else:
             why = f"needs more than {KNOWN_SECONDS} seconds for a known line"
     raise ChildProcessError(f"the program {why}")
@@ -140,7 +139,8 @@ def read_task(folder: Path) -> Task:
 
 @functools.lru_cache(maxsize=None)
 def opened(folder: Path) -> Path:
-    """Returns a path of a folder that leads through this process, since the program takes only names in UTF-8."""
+    """Returns a path of a folder through this process: nothing runs there once that has ended, and it is UTF-8, as the
+    program wants."""
     return Path(f"/proc/{os.getpid()}/fd/{os.open(folder, os.O_RDONLY)}")
 
 
