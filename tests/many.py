@@ -1,9 +1,9 @@
 """Fixtures for the tests of ffosolve-many: they install it, run it, and check its output and the files it leaves."""
+import functools
 import os
 import re
 import shutil
 import sys
-import tempfile
 from pathlib import Path
 
 import pytest
@@ -42,19 +42,20 @@ sys.stdout.buffer.write(eval(spoil)(subprocess.run(command, stdout=subprocess.PI
 """
 
 
-class Installed:
-    """What the tests of a module share. BASE is a folder; MANY and ACTS are the paths of two copies of ffosolve-many
-    there, and ACTS runs the script ACTING instead of ffosolve and ffoscores. SMALL is 60 lines of 68 bytes."""
+@pytest.fixture(scope="module")
+def many_python():
+    """The Python that runs ffosolve-many in the tests of a module."""
+    return sys.executable
 
-    def __init__(self, base):
-        self.BASE, self.SMALL = base, positions(60, 1, 5)
-        self.MANY, self.ACTS = self.install("plain"), self.install("acting prefix", script=ACTING)
 
-    def install(self, name, *changes, script=None):
-        """Installs ffosolve-many in the new folder BASE/`name`; returns the path of bin/ffosolve-many there. Beside it
-        are ffosolve and ffoscores or, under both names, scripts with the text `script`, in which @real@ is replaced by
-        the path of the real program, @python@ by Python's. Each (module, old, new) of `changes` replaces `old`."""
-        many = copy_many(self.BASE / name)
+@pytest.fixture(scope="module")
+def install(many_python, shared_folder):
+    """A function that installs ffosolve-many in the new folder `name` of `shared_folder`, and returns the path of
+    bin/ffosolve-many there. Beside it are ffosolve and ffoscores or, under both names, scripts with the text `script`,
+    in which @real@ is replaced by the path of the real program, @python@ by Python's. Each (module, old, new) of
+    `changes` replaces `old`. Meanwhile, `python3` on the PATH runs `many_python`."""
+    def begin(name, *changes, script=None):
+        many = copy_many(shared_folder / name)
         for module, old, new in changes:
             path = many.parent.parent / f"python/src/ffosolve/_many/{module}.py"
             before, after = path.read_text().split(old)  # fails unless the text occurs once
@@ -65,32 +66,24 @@ class Installed:
                 write(many.with_name(program), script.replace("@real@", str(place)).replace("@python@", sys.executable))
         return many
 
-
-@pytest.fixture(scope="module")
-def many_python():
-    """The Python that runs ffosolve-many in the tests of a module."""
-    return sys.executable
-
-
-@pytest.fixture(scope="module")
-def installed(many_python):
-    """An `Installed`. `python3` on the PATH runs `many_python`."""
-    with pytest.MonkeyPatch.context() as patch, tempfile.TemporaryDirectory(prefix="ffosolve-test-") as name:
-        base = Path(name)
-        base.chmod(0o755)
-        (base / "tmp").mkdir()
-        write(base / "python/python3", f'#!/bin/sh\nexec "{many_python}" "$@"\n')  # the one on the path may be slow
-        patch.setenv("TMPDIR", f"{base}/tmp")
-        patch.setenv("PATH", f"{base}/python:{os.environ['PATH']}")
-        yield Installed(base)
+    with pytest.MonkeyPatch.context() as patch:
+        (shared_folder / "tmp").mkdir()
+        write(shared_folder / "python/python3", f'#!/bin/sh\nexec "{many_python}" "$@"\n')  # another may be slow
+        patch.setenv("TMPDIR", f"{shared_folder}/tmp")
+        patch.setenv("PATH", f"{shared_folder}/python:{os.environ['PATH']}")
+        yield functools.cache(begin)
 
 
 class Case:
-    """A test in a folder with a list of 60 positions, `list.obf`, and the book that one run of ffosolve wrote for it,
-    `one.book`. `one` is what that run printed, as bytes. It has the attributes of an `Installed`, too."""
+    """A test in a folder with a list, `list.obf`, and the book that one run of ffosolve wrote for it, `one.book`. `one`
+    is what that run printed, as bytes. MANY and ACTS are the paths of two copies of ffosolve-many; ACTS runs the script
+    ACTING instead of ffosolve and ffoscores. SMALL, the list at first, is 60 lines of 68 bytes."""
 
-    def __init__(self, installed, folder, start):
-        self.__dict__.update(vars(installed), folder=folder, start=start, install=installed.install)
+    SMALL = positions(60, 1, 5)
+
+    def __init__(self, install, folder, start):
+        self.install, self.folder, self.start = install, folder, start
+        self.MANY, self.ACTS = install("plain"), install("acting prefix", script=ACTING)
         self.write_list(self.SMALL)
 
     def write_list(self, text, *options):
@@ -137,5 +130,5 @@ def files():
 
 
 @pytest.fixture
-def case(installed, folder, start):
-    return Case(installed, folder, start)
+def case(install, folder, start):
+    return Case(install, folder, start)

@@ -51,10 +51,10 @@ def many_python():
 
 
 @pytest.fixture(scope="module")
-def hasty(installed):
-    return installed.install("hasty", ("cluster", "LOST_SECONDS = 30", "LOST_SECONDS = 12"),
-                             ("solve", "KNOWN_SECONDS = 30", "KNOWN_SECONDS = 5"),
-                             ("engine", "(1 if is_terminal else 60)", "1"), script=ACTING)
+def hasty(install):
+    return install("hasty", ("cluster", "LOST_SECONDS = 30", "LOST_SECONDS = 12"),
+                   ("solve", "KNOWN_SECONDS = 30", "KNOWN_SECONDS = 5"),
+                   ("engine", "(1 if is_terminal else 60)", "1"), script=ACTING)
 
 
 class Cluster:
@@ -352,8 +352,8 @@ def test_a_worker_that_was_started_again_meanwhile_is_tested_and_none_is_there_w
 
 
 @pytest.fixture(scope="module")
-def impatient(installed):
-    return installed.install("impatient", ("cluster", "LOST_SECONDS = 30", "LOST_SECONDS = 2"))
+def impatient(install):
+    return install("impatient", ("cluster", "LOST_SECONDS = 30", "LOST_SECONDS = 2"))
 
 
 NOT_AN_ADDRESS = "it is neither an address with a port, such as tcp://h1:8786, nor a file"
