@@ -11,12 +11,13 @@ from concurrent.futures import Future
 from pathlib import Path
 from unittest import mock
 
+import psutil
 import pytest
 
 from ffosolve._many import engine
 from tests import many
 from tests.many import ACTING
-from tests.support import SECONDS, limited, need, run, wait_until, write
+from tests.support import SECONDS, limited, need, processes_in, run, wait_until, write
 
 pytest_plugins = ["tests.many"]
 WORDS = ("--lines=4", "--book-in=one.book", *many.WORDS[1:])  # 15 parts
@@ -66,8 +67,7 @@ class Cluster:
     def daemon(self, name, *command, **places):
         """Starts Dask's scheduler or a worker with `places` added to the environment; it logs to NAME.log. The
         scheduler removes workers that are silent for 5 seconds."""
-        settings = {"DASK_DISTRIBUTED__SCHEDULER__WORKER_TTL": "5s", "DASK_DISTRIBUTED__COMM__TIMEOUTS__CONNECT": "3s",
-                    "TEST_DAEMON": f"{self.case.folder}/{name}"}
+        settings = {"DASK_DISTRIBUTED__SCHEDULER__WORKER_TTL": "5s", "DASK_DISTRIBUTED__COMM__TIMEOUTS__CONNECT": "3s"}
         with open(f"{name}.log", "wb") as log:
             self.daemons[name] = self.case.start(*command, "--no-dashboard", stdout=log, stderr=log,
                                                  start_new_session=True, env={**os.environ, **settings, **places})
@@ -110,24 +110,17 @@ class Cluster:
         wait_until(lambda: not self.programs() and not self.packs())
         assert {path.parts[0] for path in Path(".").rglob("program-?")} <= {"work", "scores"}
 
-    def processes(self, daemon):
-        """Returns {process ID: command line} of one daemon or, by default, of all, and of the programs they started."""
-        found, mark = {}, f"TEST_DAEMON={self.case.folder}/{daemon}"
-        for number in filter(str.isdigit, os.listdir("/proc")):
-            with contextlib.suppress(OSError):  # the process has ended
-                if mark in Path(f"/proc/{number}/environ").read_text(errors="replace"):
-                    found[int(number)] = Path(f"/proc/{number}/cmdline").read_text(errors="replace")
-        return found
+    def programs(self, worker=None):
+        """Returns the IDs of the processes that solve parts on a worker or, by default, anywhere."""
+        found = [number for number, words in processes_in(self.case.folder).items() if "--max-empties" in words]
+        below = psutil.Process(self.daemons[worker].pid).children(recursive=True) if worker else ()
+        return [number for number in found if not worker or number in [it.pid for it in below]]
 
-    def programs(self, worker=""):
-        """Returns the IDs of the processes that solve parts on a worker or, by default, on all."""
-        return [number for number, words in self.processes(worker).items() if "--max-empties" in words]
-
-    def packs(self, worker=""):
+    def packs(self):
         """Returns the files that the workers keep in memory."""
         files = []
-        for number in self.processes(worker):
-            with contextlib.suppress(OSError):
+        for number in processes_in(self.case.folder):
+            with contextlib.suppress(OSError):  # the process has ended
                 files += [path for path in Path(f"/proc/{number}/fd").iterdir() if "memfd:ffo" in os.readlink(path)]
         return files
 

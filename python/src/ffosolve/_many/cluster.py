@@ -75,10 +75,8 @@ def address_of(name: str) -> str:
             return name
         raise Refusal(f"cannot reach the scheduler {shown(name)}: it is neither an address with a port, such as "
                       "tcp://h1:8786, nor a file")
-    for _ in range(20):  # in this time, a scheduler has written the whole of its file
-        with contextlib.suppress(ValueError, LookupError, TypeError):
-            return str(json.loads(content_of(Path(name)))["address"])
-        time.sleep(0.1)
+    with contextlib.suppress(ValueError, LookupError, TypeError):
+        return str(json.loads(content_of(Path(name)))["address"])
     raise Refusal(f"cannot reach a scheduler: the file {shown(name)} has no address of one, or not yet")
 
 
