@@ -51,18 +51,14 @@ def many_python():
     pytest.skip("distributed is missing (Debian: python3-distributed)")
 
 
-@pytest.fixture(scope="module")
-def hasty(install):
-    return install("hasty", ("cluster", "LOST_SECONDS = 30", "LOST_SECONDS = 12"),
-                   ("solve", "KNOWN_SECONDS = 30", "KNOWN_SECONDS = 5"),
-                   ("engine", "(1 if is_terminal else 60)", "1"), script=ACTING)
-
-
 class Cluster:
     """A scheduler and workers. `begin` and `ended` run ffosolve-many on them."""
 
-    def __init__(self, case, hasty, python):
-        self.case, self.hasty, self.python, self.daemons, self.port = case, hasty, python, {}, "0"
+    def __init__(self, case, python):
+        self.case, self.python, self.daemons, self.port = case, python, {}, "0"
+        self.hasty = case.install("hasty", ("cluster", "LOST_SECONDS = 30", "LOST_SECONDS = 12"),
+                                  ("solve", "KNOWN_SECONDS = 30", "KNOWN_SECONDS = 5"),
+                                  ("engine", "(1 if is_terminal else 60)", "1"), script=ACTING)
 
     def daemon(self, name, *command, **places):
         """Starts Dask's scheduler or a worker with `places` added to the environment; it logs to NAME.log. The
@@ -130,9 +126,9 @@ def messages():
 
 
 @pytest.fixture
-def cluster(case, hasty, many_python):
+def cluster(case, many_python):
     """A `Cluster` with a scheduler."""
-    it = Cluster(case, hasty, many_python)
+    it = Cluster(case, many_python)
     it.start_scheduler()
     yield it
     for name in it.daemons:
@@ -344,11 +340,7 @@ def test_a_worker_that_was_started_again_meanwhile_is_tested_and_none_is_there_w
     assert one.machines == []
 
 
-@pytest.fixture(scope="module")
-def impatient(install):
-    return install("impatient", ("cluster", "LOST_SECONDS = 30", "LOST_SECONDS = 2"))
-
-
+IMPATIENT = ("impatient", ("cluster", "LOST_SECONDS = 30", "LOST_SECONDS = 2"))
 NOT_AN_ADDRESS = "it is neither an address with a port, such as tcp://h1:8786, nor a file"
 NO_ADDRESS = "cannot reach a scheduler: the file {} has no address of one, or not yet\n"
 NO_ANSWER = "it does not answer as a scheduler does (the address of one with TLS begins with tls://)\n"
@@ -360,15 +352,15 @@ NO_ANSWER = "it does not answer as a scheduler does (the address of one with TLS
     ("tcp://127.0.0.1:1", "Timed out"), ("empty", NO_ADDRESS), ("half", NO_ADDRESS), ("other", NO_ADDRESS),
     (".", NO_ADDRESS),
 ])
-def test_what_is_no_scheduler_is_named(case, impatient, many_python, address, why):
+def test_what_is_no_scheduler_is_named(case, address, why):
     write("empty", "")
     write("half", '{"type": "Scheduler", "address": "tcp')
     write("other", "[1]")
-    case.many("--scheduler", address, "--quiet", "work", "list.obf", by=impatient, status=3,
+    case.many("--scheduler", address, "--quiet", "work", "list.obf", by=case.install(*IMPATIENT), status=3,
               message=why.format(address) if why == NO_ADDRESS else f"cannot reach the scheduler {address}: {why}")
 
 
-def test_a_server_that_is_no_scheduler_is_named(cluster, case, impatient):
+def test_a_server_that_is_no_scheduler_is_named(cluster, case):
     cluster.start_workers("worker1")
     cluster.daemon("silent", cluster.python, "-c", SILENT)
     wait_until(lambda: "\n" in Path("silent.log").read_text())
@@ -377,10 +369,11 @@ def test_a_server_that_is_no_scheduler_is_named(cluster, case, impatient):
         for address, why in ((re.search(r"Start worker at: +(\S+)", log)[1], " is not a scheduler, but a worker\n"),
                              (re.search(r"Start Nanny at: +'(\S+)'", log)[1], " is not a scheduler, but a nanny\n"),
                              (f"tcp://127.0.0.1:{held.getsockname()[1]}", NO_ANSWER), (silent, NO_ANSWER)):
-            case.many("--scheduler", address, "--quiet", "work", "list.obf", by=impatient, status=3, message=why)
+            case.many("--scheduler", address, "--quiet", "work", "list.obf", by=case.install(*IMPATIENT), status=3,
+                      message=why)
 
 
-def test_a_scheduler_of_another_python_or_with_tls_is_named(cluster, case, impatient):
+def test_a_scheduler_of_another_python_or_with_tls_is_named(cluster, case):
     need("openssl")
     run("openssl", "req", "-x509", "-newkey", "rsa:2048", "-nodes", "-keyout", "key", "-out", "cert", "-subj", "/CN=x",
         check=True)
@@ -390,7 +383,8 @@ def test_a_scheduler_of_another_python_or_with_tls_is_named(cluster, case, impat
         cluster.signal(signal.SIGKILL, "scheduler")
         cluster.port = "0"
         cluster.start_scheduler(*options, before=before)
-        errors = case.many(f"--scheduler=tcp://127.0.0.1:{cluster.port}", "work", "list.obf", by=impatient, status=3)
+        errors = case.many(f"--scheduler=tcp://127.0.0.1:{cluster.port}", "work", "list.obf",
+                           by=case.install(*IMPATIENT), status=3)
         assert re.search(why if before else re.escape(why), errors)
         assert cluster.daemons["scheduler"].poll() is None
 
