@@ -12,6 +12,7 @@ from tests.support import built, copy_many, positions, run, write
 
 BOARD = b"-OXXXXX-XXXXXXXOXXXXXXXXXXXXXXXXXXXOXXXXXXXXXXXXXXXXXXXXXXXXXXXX"  # two empty squares
 WORDS = ("--lines=20", "work", "list.obf", "--book-out", "joined.book")  # a command for the folder of a `Case`
+INTERRUPTED = "ffosolve-many: interrupted; the same command goes on with what is solved\n"
 # A script that replaces the program @real@ and runs it. It appends its arguments to the file $WORDS. If its input has
 # DIE, FAIL or KILL, it kills itself, fails, or kills its parent. For a part of a list, it first sleeps $PAUSE seconds,
 # or 45 once $LAST parts are solved, and the Python function $SPOIL changes the output. $SPOIL_KNOWN changes that for

@@ -16,7 +16,7 @@ import pytest
 
 from ffosolve._many import engine
 from tests import many
-from tests.many import ACTING
+from tests.many import ACTING, INTERRUPTED
 from tests.support import SECONDS, limited, need, processes_in, run, wait_until, write
 
 pytest_plugins = ["tests.many"]
@@ -39,7 +39,6 @@ SILENT = """if True:
         await asyncio.sleep(1000)
     asyncio.run(main())
 """
-INTERRUPTED = "interrupted; the same command goes on with what is solved\n"
 
 
 @pytest.fixture(scope="module")

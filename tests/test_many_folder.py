@@ -15,7 +15,7 @@ from unittest import mock
 import pytest
 
 from ffosolve._many import folder, solve
-from tests.many import ACTING, BOARD, WORDS, files
+from tests.many import ACTING, BOARD, INTERRUPTED, WORDS, files
 from tests.support import (MOST_BYTES, NOBODY, SECONDS, ends, limited, processes_in, run, unshared, wait_until,
                            write)
 
@@ -351,7 +351,6 @@ def test_a_folder_whose_program_did_not_work_at_first_is_used(case):
     case.many(*WORDS[:3])
 
 
-INTERRUPTED = "interrupted; the same command goes on with what is solved"
 SIGNALLED = ("--jobs=2", "--lines=5", *WORDS[1:])
 
 
@@ -384,8 +383,7 @@ def test_a_signal_ends_all_processes_within_a_second_and_the_command_goes_on(cas
         ran = at_work(case, 2 * at)
         output, errors = end(case, ran, number)
         assert (ran.returncode, output) == (-number, b"")
-        interrupted = "interrupted; the same command goes on with what is solved\n" in errors
-        assert (interrupted, "Traceback" in errors) == (number != signal.SIGKILL, False)
+        assert (INTERRUPTED in errors, "Traceback" in errors) == (number != signal.SIGKILL, False)
     case.many(*SIGNALLED, by=case.ACTS, message=f"lines in 12 parts, {case.parts_solved()} of them solved before")
 
 
@@ -403,7 +401,7 @@ def test_a_signal_ends_the_run_while_python_ignores_exceptions(case):
         Path("begun").unlink(missing_ok=True)
         ran = begin(case, by)
         wait_until(Path("begun").exists)
-        assert end(case, ran, number) == (b"", f"ffosolve-many: {INTERRUPTED}\n")
+        assert end(case, ran, number) == (b"", INTERRUPTED)
         assert ran.returncode == -number
 
 
@@ -421,7 +419,7 @@ def test_two_signals_together_end_the_run_without_a_traceback(case):
         ran = at_work(case, 0)
         _, errors = end(case, ran, signal.SIGSTOP, *pair, signal.SIGCONT)  # so that both come at once
         assert -ran.returncode in pair
-        assert re.search("^.*\n.*: interrupted; the same command goes on with what is solved\n$", errors)
+        assert re.search(f"^.*\n{INTERRUPTED}$", errors)
 
 
 def test_an_interrupt_at_the_start_prints_no_traceback(case):
