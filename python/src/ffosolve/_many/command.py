@@ -12,7 +12,7 @@ from pathlib import Path
 from typing import Any, Dict, Iterable, List, Optional, Tuple
 
 from .._command_line import (DONE, MISSING, MISUSED, REMARKED, UNREADABLE, Name, Parser, Refusal, counted, is_same,
-                             path_of, print_all, regular, replace, say)
+                             path_of, print_all, refusing, regular, replace, say)
 from .._command_line import run as run_program
 from .._text import BOOK_HEADER, shown
 from .books import book_of, merged
@@ -122,11 +122,12 @@ def program_in(folder: str, name: str) -> Path:
     return path
 
 
-def builds_of(program: Path) -> List[Path]:
-    """Returns the paths of a program's builds for levels of x86-64, highest first; without any, only `program`."""
+def builds_of(program: Path) -> List[bytes]:
+    """Returns a program's builds for levels of x86-64, highest first; without any, the content of `program` alone."""
     root, name = program.parent.parent, program.name
     found = [*root.glob(f"out/x86-64-v?/{name}"), *root.glob(f"lib/ffosolve/{name}-x86-64-v?")]
-    return sorted(found, reverse=True) or [program]
+    with refusing("read", program):
+        return [path.read_bytes() for path in sorted(found, reverse=True) or [program]]
 
 
 def try_run(program: Path, *words: str, text: bytes = NO_DISCS, to: int = subprocess.PIPE) -> Tuple[int, bytes, str]:

@@ -230,9 +230,9 @@ def earlier_task(folder: Path, options: Dict[str, Any]) -> Task:
     return task
 
 
-def begin(command: argparse.Namespace, source: Path, programs: Callable[[], List[Path]], book: Optional[Path]) -> Run:
-    """Begins or continues a command's run. `source` is the list's path, `programs` returns those of the programs, and
-    `book` is that of a --book-in."""
+def begin(command: argparse.Namespace, source: Path, programs: Callable[[], List[bytes]], book: Optional[Path]) -> Run:
+    """Begins or continues a command's run. `source` is the list's path, `programs` returns what the programs' files
+    have, and `book` is the path of a --book-in."""
     folder, claims = command.folder, book.read_bytes() if book else None
     run = Run(folder, options_of(command, claims), source, shown(command.list))
     with refusing("write", folder):
@@ -250,13 +250,13 @@ def begin(command: argparse.Namespace, source: Path, programs: Callable[[], List
     return run
 
 
-def prepare(run: Run, programs: Callable[[], List[Path]]) -> None:
+def prepare(run: Run, programs: Callable[[], List[bytes]]) -> None:
     """Writes what solves the parts into a run's folder. It keeps its programs, unless they are damaged."""
     (run.folder / "results").mkdir(exist_ok=True)
     renew(run.folder / "solve.py", Path(solve.__file__).read_bytes())
     found = [content_of(path) for path in sorted(run.folder.glob("program-?"))]
     if [*map(sha256, found)] != run.task["programs"]:
-        found = [path.read_bytes() for path in programs()]
+        found = programs()
         run.task["programs"] = [*map(sha256, found)]
     for number, content in enumerate(found):
         renew(run.folder / f"program-{number}", content, 0o777)
