@@ -55,16 +55,19 @@ def install(many_python, shared_folder):
     bin/ffosolve-many there. Beside it are ffosolve and ffoscores or, under both names, scripts with the text `script`,
     in which @real@ is replaced by the path of the real program, @python@ by Python's. Each (module, old, new) of
     `changes` replaces `old`. Meanwhile, `python3` on the PATH runs `many_python`."""
+    programs = [built("ffosolve"), built("ffoscores")]
+
     def begin(name, *changes, script=None):
         many = copy_many(shared_folder / name)
         for module, old, new in changes:
             path = many.parent.parent / f"python/src/ffosolve/_many/{module}.py"
             before, after = path.read_text().split(old)  # fails unless the text occurs once
             path.write_text(before + new + after)
-        for program in ("ffosolve", "ffoscores"):
-            place = shutil.copy(built(program), many.with_name(f"real-{program}" if script else program))
+        for program in programs:
+            place = shutil.copy(program, many.with_name(f"real-{program.name}" if script else program.name))
             if script:
-                write(many.with_name(program), script.replace("@real@", str(place)).replace("@python@", sys.executable))
+                text = script.replace("@real@", str(place)).replace("@python@", sys.executable)
+                write(many.with_name(program.name), text)
         return many
 
     with pytest.MonkeyPatch.context() as patch:
