@@ -408,6 +408,20 @@ def test_the_processes_end_with_the_program(code):
     wait_until(lambda: state(process) == psutil.STATUS_ZOMBIE)
 
 
+def test_an_object_that_is_deleted_while_python_ends_may_call_without_a_timeout():
+    code = """
+    class Last:
+        def __del__(self):
+            print(sys.is_finalizing(), *solver.solve_all([hard] * 2, threads=2))
+            solver.solve(hard, timeout=9)
+
+    last = Last()
+"""
+    found, answer = ran(code), Solver().solve(HARD)
+    assert (found.returncode, found.stdout) == (0, f"True {answer} {answer}\n")
+    assert found.stderr.splitlines()[-1] == "OSError: Python is ending, so it can't start a process"
+
+
 def test_a_program_that_does_not_catch_ctrl_c_ends():
     found = ran("    threading.Timer(0.5, os.kill, (os.getpid(), signal.SIGINT)).start(); solver.solve(START)")
     assert (found.returncode, found.stderr.splitlines()[-1]) == (-signal.SIGINT, "KeyboardInterrupt")

@@ -1,5 +1,6 @@
 """Solves many positions: cuts them into parts, solves the parts on threads, and yields the results in order."""
 import queue
+import sys
 import threading
 import time
 from collections import deque
@@ -53,9 +54,10 @@ def parts_of(positions: Iterable[Sequence[int]], max_empties: int, whole: bool =
 
 
 def in_order(run: Run, call: Callable[[Run, A], Iterable[B]], parts: Iterable[A], threads: int) -> Iterator[B]:
-    """Calls `call` with `run` and each of `parts`, on up to `threads` new threads at once or, if `threads` is 1, on the
-    caller's. Yields the items that the calls return, in the order of `parts`. Stops `run` when it is left."""
-    if threads == 1:
+    """Calls `call` with `run` and each of `parts`, on up to `threads` new threads at once or, if `threads` is 1 or no
+    thread can be started since Python is ending, on the caller's. Yields the items that the calls return, in the order
+    of `parts`. Stops `run` when it is left."""
+    if threads == 1 or sys.is_finalizing():
         for part in parts:
             run.wait_seconds()
             yield from call(run, part)

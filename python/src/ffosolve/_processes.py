@@ -35,6 +35,8 @@ class SearchProcess:
     def __init__(self) -> None:
         if not sys.executable or hasattr(sys, "frozen"):
             raise FileNotFoundError("this program does not know the path of Python, so it can't start a process")
+        if sys.is_finalizing():
+            raise OSError("Python is ending, so it can't start a process")
         words = [sys.executable, "-S", _library.__file__]
         self.connection, theirs = multiprocessing.Pipe()
         masked = signal.pthread_sigmask(signal.SIG_BLOCK, {signal.SIGINT})  # Ctrl-C is for this process alone
