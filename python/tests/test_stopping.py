@@ -32,9 +32,14 @@ each_call, on_threads = pytest.mark.parametrize("name, threads", CALLS), pytest.
 
 @pytest.fixture(autouse=True)
 def solver():
+    """A Solver for any position. After the test, waits for the threads and ends the processes of its calls."""
     pytest.importorskip("numpy")
     gc.collect()  # of earlier tests' threads: it calls Python code, in which the exception of a handler gets lost
-    return Solver(max_empties=60)
+    yield Solver(max_empties=60)
+    for thread in threading.enumerate():
+        if thread.name == "ffosolve":
+            thread.join(10)
+    _processes.end_idle()
 
 
 def state(task):
