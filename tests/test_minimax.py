@@ -60,7 +60,7 @@ def test_python_finds_what_minimax_finds(solved_rows, scoring):
     assert len(compared) == POSITIONS + DEEP
     positions, answers, scores = zip(*rows)
     solver = Solver(scoring=scoring, entries=1024)
-    assert solver.solve_all(positions) == list(answers)
+    assert repr(solver.solve_all(positions)) == repr(list(answers))  # equal kinds may be a Kind and a plain number
     assert [list(it.items()) for it in solver.move_scores_all(positions)] == list(scores)
 
 

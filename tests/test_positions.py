@@ -1,4 +1,4 @@
-"""The class Position: its rules, compared with bench/player.py, its text and pictures. The max_empties of a Solver."""
+"""The class Position: its rules, compared with bench/player.py, its text and pictures."""
 import io
 import itertools
 import os
@@ -11,7 +11,7 @@ import pytest
 
 from bench import player
 
-from .support import ROOT, built, need, run
+from .support import ROOT, need, run
 from .games import NAMES, positions_of, random_games, squares_of, transcript
 import ffosolve
 from ffosolve import Position, Scoring, Solver
@@ -35,6 +35,8 @@ def test_moves_passes_and_ends_are_those_of_the_plain_player():
         names = [NAMES[number] for number in numbers]
         assert (position.legal_moves, position.must_pass) == (names, not names and other)
         assert position.is_over == (not names and not other)
+        taken = [move for move in (*range(-1, 66), *NAMES, "PS") if position.is_legal(move)]
+        assert taken == numbers + names + ["PS"] * position.must_pass
         for number, name in zip(numbers, names):
             after = position_of(*player.after(own, opp, 1 << number), not is_black)
             for move in (name, name.lower(), number):
@@ -137,9 +139,3 @@ def test_a_picture_has_discs_scores_and_marks_in_their_squares():
         colours = {at(x + right, y + down) for right in range(8, 36) for down in range(14, 30)}
         if BOARD[place] == "-":
             assert (len(colours) > 3) == (name in ("A1", "A2", "B1", "H1", "H8")), name
-
-
-def test_the_default_is_that_of_the_programs():
-    text = run(built(), "--help", check=True).stdout.decode()
-    default = re.search(r"--max-empties.*?\[default: (\d+)\]", text, re.DOTALL)[1]
-    assert Solver().max_empties == int(default)

@@ -9,6 +9,7 @@ PASS = "-OOOOOOXXXXXXXXXXXXXXXXXXXXXXXXXXXXXXXXXXXXXXXXXXXXXXXXXXXXXXXXX O;"  # 
 END = "XXXXXXXXXXXXXXXXXXXXXXXXXXXXXXXX----------------OOOOOOOOOOOOOOOO X;"  # neither side has a move
 POSITION, AT_PASS, OVER = map(Position.from_obf, (CORNERS, PASS, END))
 ANSWER = Answer(62, Kind.MOVES, 0x80)  # for POSITION
+PASSES = ["PS", "ps", "pass", "PASS", "pa", "--"]
 
 SEARCHES = ["solve", "confirm", "move_scores", "best_line", "scored_line"]
 ONE = [*SEARCHES, "moves", "play"]  # the calls for one position

@@ -23,11 +23,12 @@ import pytest
 from calls import ANSWER, AT_PASS, CORNERS, ITERATORS, LISTS, MANY, ONE, OVER, POSITION, SEARCHES, find
 import ffosolve
 from ffosolve import START, Answer, Game, Kind, Position, Scoring, Solver, masks_of, parse_lines, read_lines
-from ffosolve._library import places
+from ffosolve._library import load, path_of, places
 
 EIGHT = Position.from_obf("XOOOO-O-XOOO-OO-XOOOO-OXXXXXXXO-XXOXXXO-OOOOXOOOOXXXOOOOOX-XXXXO X;")  # 8 empty squares
 SHARED, WIDE, WIDER = Position(3, 2), Position(1, 2**31 - 2), Position(1, 2**30 - 2)  # 33 and 34 empty squares
 MORE = "34 empty squares are more than max_empties=33 of the Solver"
+LIBRARY = path_of(load())
 
 
 def library_that_returns(status):
@@ -42,22 +43,6 @@ def refused(error, call, *given):
         call(*given)
     assert type(caught.value) is error
     return caught.value
-
-
-def test_each_call_returns_what_the_rules_say():
-    solver = Solver()
-    answers = [solver.solve(POSITION), solver.confirm(POSITION, ANSWER)]
-    answers += solver.solve_all([POSITION, AT_PASS, OVER])
-    assert answers == [ANSWER] * 3 + [Answer(-64, Kind.PASS, 0), Answer(32, Kind.OVER, 0)]
-    assert ({type(answer.kind) for answer in answers}, ANSWER.squares) == ({Kind}, ["H1"])
-    assert solver.confirm(POSITION, Answer(1000, 7, 3)) == ANSWER
-    scores = [Solver(scoring=number, entries=64).solve(POSITION.passed()).score for number in range(3)]
-    assert scores == [-40, -39, -1]
-    assert list(solver.move_scores(POSITION).items()) == [("A1", 52), ("H1", 62)]
-    assert solver.move_scores(AT_PASS) == {}
-    assert ffosolve.square_names(solver.moves(START)) == ["D3", "C4", "F5", "E6"]
-    after = Position(0x0000001000000000, 0x0000000818080000)
-    assert [solver.play(START, square) for square in ("d3", 19)] == [after] * 2
 
 
 def test_the_examples_of_the_help_print_what_it_shows():
@@ -151,8 +136,6 @@ def test_positions_become_arrays_and_arrays_positions():
     for empty in ([], iter(())):
         assert ffosolve.positions_from(*masks_of(empty)) == []
     assert Solver().solve(Position(own[0], opp[0])) == Solver().solve(POSITION)
-    answers = Solver().solve_arrays(*masks_of(iter([POSITION, EIGHT, white])))
-    assert answers.score.tolist() == [answer.score for answer in Solver().solve_all([POSITION, EIGHT, white])]
 
 
 def test_arrays_that_numpy_rounds_are_refused_by_the_name_of_the_call_that_makes_exact_ones():
@@ -163,27 +146,14 @@ def test_arrays_that_numpy_rounds_are_refused_by_the_name_of_the_call_that_makes
         for call in (Solver().solve_arrays, Solver().move_scores_arrays, ffosolve.positions_from):
             with pytest.raises(TypeError, match=why):
                 call(wrong, opp)
-    for wrong in ([(1, 2, 3)], [5], [(0.5, 1)], ["ab"], [(own[0], opp[0])]):
-        with pytest.raises(TypeError, match="^a position is two masks, "):
-            masks_of(wrong)
-    with pytest.raises(TypeError, match=r"^positions are a list or .*, as \[position\], not a single one$"):
-        masks_of(POSITION)
-    for wrong in ([(-1, 0)], [(0, 2**64)]):
-        with pytest.raises(ValueError, match=r"^a mask is a number from 0 to 2\*\*64 - 1$"):
-            masks_of(wrong)
-
-
-def library_path():
-    """Returns the path of the library that a Solver loads."""
-    Solver()
-    with open("/proc/self/maps") as maps:
-        return next(line.split(maxsplit=5)[5].rstrip("\n") for line in maps if "libffosolve" in line)
+    with pytest.raises(TypeError, match="^a position is two masks, "):
+        masks_of([(own[0], opp[0])])
 
 
 @pytest.mark.parametrize("settings, shown", [
     ({}, "scoring='winner', max_empties=20"),
     ({"scoring": "sign", "entries": 7, "max_empties": 9}, "scoring='sign', entries=7, max_empties=9"),
-    ({"library": library_path()}, f"{library_path()!r}, scoring='winner', max_empties=20"),
+    ({"library": LIBRARY}, f"{LIBRARY!r}, scoring='winner', max_empties=20"),
 ])
 def test_a_solver_is_shown_copied_and_pickled(settings, shown):
     solver = Solver(**settings)
@@ -195,14 +165,11 @@ def test_a_solver_is_shown_copied_and_pickled(settings, shown):
         assert list(pool.map(solver.solve, [POSITION, AT_PASS])) == solver.solve_all([POSITION, AT_PASS])
 
 
-def test_equal_positions_and_answers_have_one_hash():
-    line, white, (own, opp) = Position.from_obf(CORNERS), Position(1, 2, "O"), POSITION
-    equal = POSITION, Position(own, opp), line, Position(own, opp, "O")
-    assert len({*equal, Position(own ^ 1, opp), Position(own, opp ^ 2)}) == 3
-    others = (ANSWER._replace(**it) for it in ({"score": 61}, {"kind": Kind.PASS}, {"best": 0x81}))
-    assert len({ANSWER, Answer(*ANSWER), Solver().solve(POSITION), *others}) == 4
-    assert repr(POSITION) == repr(line) == f"Position(own={own}, opp={opp})"
-    assert repr(white) == "Position(own=1, opp=2, side='O')"
+def test_positions_with_equal_masks_are_equal_and_the_side_is_shown_if_it_is_white():
+    own, opp = POSITION
+    assert len({POSITION, Position(own, opp), Position(own, opp, "O")}) == 1
+    assert repr(POSITION) == f"Position(own={own}, opp={opp})"
+    assert repr(Position(1, 2, "O")) == "Position(own=1, opp=2, side='O')"
     assert repr(POSITION.show()) == str(POSITION)
 
 
@@ -246,24 +213,15 @@ def test_the_library_gets_the_scoring_the_size_of_the_table_and_the_claim(settin
     monkeypatch.setattr("ffosolve._processes.is_brief", lambda *_: True)  # no call is made by another process
     solver = Solver(max_empties=60, **settings)
     library = solver._library = library_that_returns(0)
-    solver.solve_all([POSITION, Position(0xFFF, 0), POSITION])
+    for name in LISTS:
+        find(name, 1, solver, [POSITION, Position(0xFFF, 0), POSITION])
+    given = [call.args[1:4] for call in library.method_calls]
+    assert given == [(3, scoring, entries)] * len(LISTS)
     solver.confirm(Position(0xFF0, 0xF), Answer(-3, Kind.OVER, 4))
-    _, _, *of_all = library.ffosolve_solve_all.call_args.args
     position, *of_one, claim, _ = library.ffosolve_confirm.call_args.args
-    assert (of_all[:2], of_one) == ([scoring, entries], [scoring, entries])
+    assert of_one == [scoring, entries]
     given = position.own, position.opp, claim.score, claim.kind, claim.best
     assert given == (0xFF0, 0xF, -3, Kind.OVER, 4)
-
-
-@pytest.mark.parametrize("call", [Solver.solve_all, Solver.move_scores_all])
-def test_one_thread_makes_one_table_for_all_positions(call, monkeypatch):
-    monkeypatch.setattr("ffosolve._processes.is_brief", lambda *_: True)
-    solver = Solver(max_empties=60)
-    for threads, counts in (1, [8]), (2, [1] * 8):
-        solver._library = library_that_returns(0)
-        call(solver, [START] * 8, threads=threads)
-        made = getattr(solver._library, f"ffosolve_{call.__name__}").call_args_list
-        assert [it.args[1] for it in made] == counts
 
 
 def test_calls_keep_no_memory():
@@ -381,16 +339,6 @@ def test_places_are_searched_in_the_order_of_the_help(monkeypatch):
     of_package = [f"{folder}/{level}/{name}" for level in ("x86-64-v3", "x86-64-v2")]
     others = [f"{prefix}/lib/{name}" for prefix in ("/of/venv", "/of/python", "/usr/local")]
     assert places() == [*of_package, name, *others]
-
-
-def test_a_line_may_have_other_letters_blanks_and_pieces():
-    text = "  " + CORNERS.translate(str.maketrans("XO-", "w*.")).replace(" w;", "\tW")
-    text += " note; ps:-4; --:0 % A1:1;\r\n"
-    listed = ("H1", 62), ("PS", -4), ("--", 0)
-    for line in (Position.from_obf(text), pickle.loads(pickle.dumps(Position.from_obf(text.encode())))):
-        assert (line, line.side, line.number, line.listed) == (POSITION, "O", None, listed)
-    assert Position.from_obf(POSITION.passed().to_obf()) == POSITION.passed()
-    assert (line.passed(), line.passed().listed, line.passed().number) == (POSITION.passed(), (), None)
 
 
 @pytest.mark.parametrize("end", ["\n", "\r\n"])

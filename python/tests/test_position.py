@@ -7,7 +7,7 @@ import xml.etree.ElementTree
 
 import pytest
 
-from calls import AT_PASS, CORNERS, OVER, PASS, POSITION
+from calls import AT_PASS, CORNERS, OVER, PASS, PASSES, POSITION
 import ffosolve
 from ffosolve import START, Position, Solver, Symmetry
 
@@ -81,6 +81,7 @@ def test_new_positions_are_of_the_same_class():
     assert {type(position) for position in made} == {Mine}
     assert {type(position) for position in (Position.start(), POSITION, START.play("F5"))} == {Position}
     assert Mine.from_obf(CORNERS).listed == (("H1", 62), ("PS", -4))
+    assert {it.listed for it in (POSITION.passed(), POSITION.play("A1"), *POSITION.symmetries())} == {()}
 
 
 def test_the_last_move_is_known_of_a_position_that_a_move_made():
@@ -99,20 +100,9 @@ def test_a_position_tells_its_discs():
         assert [position.piece_at(it) for it in ("D5", "e4", 36, "F5", "D4", "A1", 63)] == [*"XXXXO", None, None]
 
 
-def test_a_legal_move_is_one_that_play_takes():
-    for position, legal in ((START, ["D3", "C4", "F5", "E6"]), (AT_PASS, []), (OVER, [])):
-        assert [name for name in map(ffosolve.square_name, range(64)) if position.is_legal(name)] == legal
-        for move in (*range(-1, 66), *("PS", "pass", "PA", "--"), "f5", "A1"):
-            try:
-                position.play(move)
-                is_legal = True
-            except ffosolve.NoMove:
-                is_legal = False
-            assert position.is_legal(move) == is_legal
-
-
 def test_a_pass_is_played_where_it_is_legal():
-    for word in ("PS", "ps", "pass", "PASS", "pa", "--"):
+    for word in PASSES:
+        assert [position.is_legal(word) for position in (START, AT_PASS, OVER)] == [False, True, False]
         assert AT_PASS.play(word).to_obf() == AT_PASS.passed().to_obf() == Solver().play(AT_PASS, word).to_obf()
         assert AT_PASS.play_all([word, "A1", word]) == AT_PASS.play_all(["A1"]) == AT_PASS.passed().play("A1")
 
@@ -136,23 +126,16 @@ def test_the_score_of_a_finished_game_needs_no_table(monkeypatch):
     assert [given[2:4] for name, *given in asked if "solve" in name[9:]] == [[0, 0]]
 
 
-ROWS = [  # a position, its canonical image and the symmetry: worked rows of the specification
-    (0xFFFFFFFFFFFFFF80, 0x7E, 0x01FFFFFFFFFFFFFF, 0x7E00000000000000, 3),
-    (0xFFFFFFFFFFFFFF18, 0x66, 0x18FFFFFFFFFFFFFF, 0x6600000000000000, 2),
-    (0xFFFFFFF7FFFF7F7C, 0x0000000800008002, 0x3EFEFFFFEFFFFFFF, 0x4001000010000000, 3),
-]
-
-
-@pytest.mark.parametrize("own, opp, canonical_own, canonical_opp, symmetry", ROWS)
-def test_all_images_have_the_same_canonical_image(own, opp, canonical_own, canonical_opp, symmetry):
+@pytest.mark.parametrize("own, opp", [
+    (0xFFFFFFFFFFFFFF80, 0x7E), (0xFFFFFFFFFFFFFF18, 0x66), (0xFFFFFFF7FFFF7F7C, 0x0000000800008002)])
+def test_the_canonical_image_is_the_least_of_the_images_and_the_same_for_all(own, opp):
     position = Position(own, opp, "O")
-    assert tuple(position.canonical()) == (canonical_own, canonical_opp)
-    assert (position.canonical().side, position.canonical_symmetry) == ("O", symmetry)
     images = position.symmetries()
-    assert images[0] == position and images[symmetry] == position.canonical() == min(images, key=tuple)
-    assert {image.canonical() for image in images} == {position.canonical()}
+    assert images[0] == position
+    assert {image.canonical() for image in images} == {min(images)}
+    assert position.canonical_symmetry == images.index(min(images))
     assert [position.image(number) for number in range(8)] == images
-    assert {image.side for image in images} == {"O"}
+    assert {image.side for image in (*images, position.canonical())} == {"O"}
 
 
 def test_a_symmetry_moves_squares_as_its_help_says_and_its_inverse_moves_them_back():

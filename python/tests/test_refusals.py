@@ -3,7 +3,7 @@ import re
 
 import pytest
 
-from calls import AT_PASS, CORNERS, END, OVER, PASS, POSITION
+from calls import AT_PASS, CORNERS, END, OVER, PASS, PASSES, POSITION
 import ffosolve
 from ffosolve import (
     START, Answer, Board, Kind, NoMove, Position, SharedSquare, Solver, TooManyEntries, UnknownScoring,
@@ -31,13 +31,12 @@ REFUSED = [
     (NoMove, f"move 2: a pass is not a legal move for White in {SECOND}", lambda: START.play_all("f5 --")),
     (NoMove, "move 2: no square has the name 'z9'", lambda: START.play_all("f5z9")),
     (ValueError, "it is a game in GGF or SGF without GM[Othello]", lambda: START.play_all("(;GM[2]B[f5];)")),
-    *((NoMove, None, lambda square=square: Solver().play(START, square)) for square in ("A1", 0, 255, 256, 256 + 19)),
     *((NoMove, f"square {square} is not a legal move for Black in {FIRST}", lambda square=square: START.play(square))
-      for square in (64, -1)),
+      for square in (64, -1, 255, 256, 256 + 19)),
     *((NoMove, f"a pass is not a legal move for Black in {FIRST}", lambda word=word: START.play(word))
-      for word in ("PS", "ps", "pass", "PASS", "pa", "--")),
+      for word in PASSES),
     *((NoMove, f"a pass is not a legal move: the game is over in {FULL.to_obf()}", lambda word=word: FULL.play(word))
-      for word in ("PS", "ps", "pass", "PASS", "pa", "--")),
+      for word in PASSES),
     *((ValueError, f"no square has the name {it!r}", lambda call=call, it=it: call(it))
       for call in (START.play, START.is_legal, START.piece_at, square_number) for it in ("I9", "", "I1", "A9", "A11")),
     (ValueError, "no square has the name 9", lambda: POSITION.show({9: 3})),
