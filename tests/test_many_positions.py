@@ -14,10 +14,10 @@ from ffosolve import Answer, Position, Solver
 
 SHARED, WIDE = Position(3, 2), Position(1, 6)
 NAMES = "solve_all", "solve_iter", "move_scores_all", "move_scores_iter"
+ARRAYS = "solve_arrays", "move_scores_arrays"
 each_call = pytest.mark.parametrize("name", NAMES)
 each_list = pytest.mark.parametrize("name", ["solve_all", "move_scores_all"])
 each_iterator = pytest.mark.parametrize("name", ["solve_iter", "move_scores_iter"])
-each_of_arrays = pytest.mark.parametrize("name", ["solve_arrays", "move_scores_arrays"])
 each_refusal = pytest.mark.parametrize("bad, error", [(SHARED, ffosolve.SharedSquare), (WIDE, ffosolve.TooManyEmpties)])
 on_threads = pytest.mark.parametrize("threads", [1, 2])
 POSITIONS = random_positions(400, range(11))
@@ -74,12 +74,12 @@ def test_results_come_before_an_endless_or_slow_iterable_ends(threads, wanted):
 
 
 @pytest.mark.parametrize("threads", [3, 6])
-@pytest.mark.parametrize("name", [*NAMES, "solve_arrays", "move_scores_arrays"])
+@pytest.mark.parametrize("name", [*NAMES, *ARRAYS])
 def test_as_many_threads_as_asked_make_calls_at_once_with_the_scoring_and_table_of_the_solver(name, threads, mocked):
     """Each position is a part of its own. The calls wait until there are as many as threads."""
     (solver, library), positions, at_once = mocked, random_positions(threads, [16]), threading.Barrier(threads)
     call = getattr(solver, name)
-    given = masks_of(positions) if name.endswith("arrays") else [positions]
+    given = masks_of(positions) if name in ARRAYS else [positions]
     alone = str(list(call(*given)))
     for made in (library.ffosolve_solve_all, library.ffosolve_move_scores_all):
         made.side_effect = lambda *_: (at_once.wait(SECONDS), mock.DEFAULT)[1]
@@ -139,11 +139,12 @@ def test_a_list_is_refused_before_anything_is_solved(name, bad, error, threads, 
     assert refused.value.index == len(before)
 
 
-@each_call
+@pytest.mark.parametrize("name", [*NAMES, *ARRAYS])
 @pytest.mark.parametrize("threads, error", [(0, ValueError), (-1, ValueError), ("4", TypeError), (1.5, TypeError)])
 def test_a_number_of_threads_is_refused_by_its_name(name, threads, error):
+    given = masks_of([]) if name in ARRAYS else [[]]
     with pytest.raises(error, match="^threads is .*, not "):
-        getattr(Solver(), name)([], threads=threads)
+        getattr(Solver(), name)(*given, threads=threads)
 
 
 @pytest.mark.parametrize("scoring, threads, count", [(0, 1, 90), (1, 1, 90), (2, 1, 90), (0, 3, 400), (0, 2, 0)])
@@ -160,16 +161,7 @@ def test_arrays_hold_what_lists_hold(scoring, threads, count):
     assert listed == solver.move_scores_all(positions, threads=threads)
 
 
-@each_of_arrays
-@pytest.mark.parametrize("empties", [(3, 16, 9), (16, 3), (3, 16)])
-def test_the_table_is_for_the_most_empty_squares_of_a_call(name, empties, mocked):
-    solver, library = mocked
-    solver._entries = None
-    getattr(solver, name)(*masks_of(random_positions(len(empties), empties)))
-    assert [call.args[3] for call in library.method_calls] == [ffosolve.table_entries(16)]
-
-
-@each_of_arrays
+@pytest.mark.parametrize("name", ARRAYS)
 def test_wrong_positions_and_arrays_are_refused(name):
     call = getattr(Solver(), name)
     for bad, error in ((SHARED, ffosolve.SharedSquare), (WIDE, ffosolve.TooManyEmpties)):
@@ -178,11 +170,9 @@ def test_wrong_positions_and_arrays_are_refused(name):
             call(own, opp, threads=2)
         assert refused.value.index == 57
     own, opp = masks_of(POSITIONS)
-    for given, error in ((own.astype("int64"), TypeError), (own[:-1], ValueError), (own.reshape(20, 20), ValueError)):
-        with pytest.raises(error):
+    for given in (own[:-1], own.reshape(20, 20)):
+        with pytest.raises(ValueError, match="^the masks are two arrays of one dimension and of equal length$"):
             call(given, opp)
-    with pytest.raises(ValueError, match="^threads is at least 1, not 0$"):
-        call(own, opp, threads=0)
 
 
 def test_no_program_needs_numpy():
