@@ -45,7 +45,8 @@ REFUSED = [
     *((TypeError, NO_SQUARE + repr(it), lambda call=call, it=it: call(it))
       for call in (START.play, START.piece_at) for it in (None, 1.5, ["F5"])),
     (TypeError, None, lambda: square_name("A1")),
-    (TypeError, "moves are a transcript or a list of squares, not 5", lambda: START.play_all(5)),
+    *((TypeError, f"moves are a transcript or a list of squares, not {it!r}", lambda it=it: START.play_all(it))
+      for it in (5, None, b"f5d6")),
     *((ValueError, f"{MASK}, not {mask}", lambda mask=mask: square_names(mask)) for mask in (-1, 1 << 64)),
     (ValueError, f"the game is not over, so only a Solver finds the score: {FIRST}", START.score),
     (ValueError, f"the game is not over, so only a Solver finds the score: {PASS}", AT_PASS.score),

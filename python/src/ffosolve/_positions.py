@@ -170,7 +170,7 @@ class Position(NamedTuple("Masks", [("own", int), ("opp", int)])):
         reads, or a list of what `play` takes. Passes may be left out. Raises TypeError for another object, and NoMove
         for an illegal move or a word that is not a square. Its message has the move's number, from 1 and without
         passes."""
-        if not hasattr(squares, "__iter__"):
+        if isinstance(squares, bytes) or not hasattr(squares, "__iter__"):
             raise TypeError(f"moves are a transcript or a list of squares, not {reprlib.repr(squares)}")
         squares, position = words_of(squares) if isinstance(squares, str) else squares, self
         moves(self)  # raises SharedSquare, and ValueError for a wrong mask

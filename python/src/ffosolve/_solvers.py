@@ -75,6 +75,7 @@ class Solver:
 
     @property
     def scoring(self) -> Scoring:
+        """How this Solver scores the end of a game."""
         return self._scoring
 
     @property
