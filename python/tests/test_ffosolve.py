@@ -174,20 +174,12 @@ def test_positions_with_equal_masks_are_equal_and_the_side_is_shown_if_it_is_whi
 
 
 def test_a_position_keeps_its_colours():
-    """`board` has the squares after f5 d6 c3: Black turns E5, then White turns D5, and then Black turns D4."""
-    board, at = "-" * 18 + "X" + "-" * 8 + "XX" + "-" * 6 + "OXX" + "-" * 5 + "O" + "-" * 20, START
-    for square, side in (("f5", "O"), ("d6", "X"), ("c3", "O")):
-        at = Solver().play(at, square)
-        assert at.side == side
-    read = Position.from_obf(board + " O;")
-    assert (at.to_obf(), str(at)) == (board + " O;", str(read))
-    assert Position(*at, at.side)._repr_svg_() == read._repr_svg_()
-    assert at.passed().to_obf() == board + " X;"
-    assert Solver().play(tuple(START), "f5").side == "O"
-    white = Position(1, 2, "O")
+    white, squares = Position(1, 2, "O"), "OX" + "-" * 62
     for text in (white.to_obf(), "oB" + "." * 62 + "w;A1:+2;"):
-        assert Position.from_obf(text).to_obf() == "OX" + "-" * 62 + " O;"
+        assert Position.from_obf(text).to_obf() == squares + " O;"
     assert white.to_obf("X") == "XO" + "-" * 62 + " X;"
+    assert white.passed().to_obf() == squares + " X;"
+    assert Solver().play(tuple(START), "f5").side == "O"
 
 
 def test_scorings_limits_and_versions_are_those_of_the_library_and_scorings_and_kinds_print_as_their_names():
@@ -360,12 +352,6 @@ def test_lines_are_numbered_skipped_and_refused(end, tmp_path):
     assert next(read) == POSITION
     with pytest.raises(ffosolve.ShortBoard):
         next(read)
-
-
-def test_no_lines_have_no_positions():
-    for nothing in ("", b"", "\n", b"% X", "% \udcff"):
-        assert list(parse_lines(nothing)) == []
-    assert list(read_lines([])) == []
 
 
 def test_squares_have_names_and_numbers():
