@@ -154,6 +154,7 @@ def test_arrays_hold_what_lists_hold(scoring, threads, count):
     answers, scores = (call(own, opp, threads=threads) for call in (solver.solve_arrays, solver.move_scores_arrays))
     assert [str(array.dtype) for array in (*answers, scores)] == ["int32", "int32", "uint64", "int8"]
     assert scores.shape == (count, 64)
+    assert all(array.flags.carray for array in (*answers, scores))  # they can be changed, and are contiguous
     listed = [Answer(*its) for its in zip(*(array.tolist() for array in answers))]
     assert listed == solver.solve_all(positions, threads=threads)
     listed = [{ffosolve.square_name(at): score for at, score in enumerate(row) if score != ffosolve.NO_SCORE}
