@@ -310,6 +310,14 @@ def test_processes_are_kept_and_used_again(solver):
     assert children() == kept()
 
 
+def test_a_process_that_another_thread_takes_meanwhile_is_replaced(solver, monkeypatch):
+    """The list of kept processes is empty, but has one when it is asked whether it is."""
+    wanted = solver.solve(HARD)
+    monkeypatch.setattr(_processes, "IDLE", type("Taken", (list,), {"__bool__": lambda _: True})())
+    assert solver.solve(HARD) == wanted
+    _processes.IDLE.pop().end()
+
+
 def test_calls_of_several_threads_do_not_stop_each_other(solver):
     found = []
     threads = [threading.Thread(target=lambda: found.append(solver.solve_all([HARD] * 4))) for _ in range(3)]

@@ -67,11 +67,12 @@ IDLE: List[SearchProcess] = []  # those that make no call, and are kept for late
 
 
 def idle_process() -> SearchProcess:
-    while IDLE:
-        process = IDLE.pop()
-        if process.process.poll() is None:
-            return process
-        process.end()
+    with contextlib.suppress(IndexError):  # until none is kept; other threads take processes meanwhile
+        while True:
+            process = IDLE.pop()
+            if process.process.poll() is None:
+                return process
+            process.end()
     return SearchProcess()
 
 
