@@ -220,13 +220,9 @@ class Solver:
         if isinstance(part, Refused):
             raise part
         found = (record * len(part.positions))(*claim)
-        self._search(run, name, c_positions(part.positions), found, part.empties)
+        entries = table_entries(part.empties) if self._entries is None else self._entries
+        accept(run.search(part.empties, name, self._scoring, entries, c_positions(part.positions), found))
         return found
-
-    def _search(self, run: Run, name: str, positions: Any, found: Any, empties: int) -> None:
-        """Makes a call as `search` does, for positions with at most `empties` empty squares."""
-        entries = table_entries(empties) if self._entries is None else self._entries
-        accept(run.search(empties, name, self._scoring, entries, positions, found))
 
 
 def as_position(position: P) -> P:
