@@ -36,7 +36,8 @@ class Solver:
     can be pickled.
 
     A call ends with TimeoutError if it takes more than `timeout` seconds; a brief one, as `help(ffosolve)` says, ends
-    as usual. If somebody else ends the process that makes a call, this raises ChildProcessError.
+    as usual. If somebody else ends the process that makes a call, this raises ChildProcessError. If no process can be
+    started, as while Python is ending, a call with a `timeout` raises OSError; one without is made in this process.
 
     `library` is the path of the shared library. By default, it is the path in the environment variable FFOSOLVE_LIBRARY
     or, if that is empty or not set, the first library that fits: in this package, in the system's library folders, in
