@@ -23,14 +23,10 @@ BOARD = "--XXXXX--OOOXX-O-OOOXXOX-OXOXOXXOXXXOXXX--XOXOXX-XXXOOO--OOOOO-- X;"
 SCORES = {"A2": 38, "b1": 36, "H8": -12, "A1": 38, "H1": 0}  # of moves in BOARD
 
 
-def position_of(own, opp, is_black):
-    return Position(own, opp, "X" if is_black else "O")
-
-
 def test_moves_passes_and_ends_are_those_of_the_plain_player():
     ends = 0
     for own, opp, is_black, _ in itertools.chain(*(player.random_game(random.Random(seed)) for seed in range(60))):
-        position, other = position_of(own, opp, is_black), player.moves(opp, own) != 0
+        position, other = Position(own, opp, "OX"[is_black]), player.moves(opp, own) != 0
         numbers = [square.bit_length() - 1 for square in player.squares_in(player.moves(own, opp))]
         names = [NAMES[number] for number in numbers]
         assert (position.legal_moves, position.must_pass) == (names, not names and other)
@@ -38,9 +34,8 @@ def test_moves_passes_and_ends_are_those_of_the_plain_player():
         taken = [move for move in (*range(-1, 66), *NAMES, "PS") if position.is_legal(move)]
         assert taken == numbers + names + ["PS"] * position.must_pass
         for number, name in zip(numbers, names):
-            after = position_of(*player.after(own, opp, 1 << number), not is_black)
-            for move in (name, name.lower(), number):
-                assert position.play(move).to_obf() == after.to_obf()
+            after = player.line(*player.after(own, opp, 1 << number), not is_black)
+            assert [position.play(move).to_obf() for move in (name, name.lower(), number)] == [after] * 3
         if position.is_over:
             ends += 1
             scores = player.values(own, opp)
@@ -54,13 +49,13 @@ def test_a_transcript_plays_on_from_any_position():
     for number, game in enumerate(random_games(100, seed=77)):
         squares, text = squares_of(game), transcript(game).upper()
         cut, known = number % len(squares), positions_of(squares)
-        middle, end = start.play_all(text[:2 * cut]), position_of(*known[min(known)])
-        assert middle.to_obf() == position_of(*known[60 - cut]).to_obf()
+        middle, end = start.play_all(text[:2 * cut]), player.line(*known[min(known)])
+        assert middle.to_obf() == player.line(*known[60 - cut])
         with_passes = [NAMES[move] if move is not None else "--" for move in game]
         noted = " ".join(with_passes) + " pass pass 33-31 % f5"
         for at, moves in ((middle, text[2 * cut:]), (middle, squares[cut:]), (start, with_passes), (start, noted)):
             found = at.play_all(moves)
-            assert end in (found, found.passed())
+            assert end in (found.to_obf(), found.passed().to_obf())
             assert found.is_over
 
 
