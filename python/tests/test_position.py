@@ -4,12 +4,14 @@ import itertools
 import os
 import pickle
 import xml.etree.ElementTree
+from unittest import mock
 
 import pytest
 
 from calls import AT_PASS, CORNERS, OVER, PASS, PASSES, POSITION
 import ffosolve
 from ffosolve import START, Position, Solver, Symmetry
+from ffosolve._library import loaded
 
 
 class Mine(Position):
@@ -115,15 +117,10 @@ def test_moves_of_a_list_are_counted_from_its_own_first_position():
 
 
 def test_the_score_of_a_finished_game_needs_no_table(monkeypatch):
-    asked, library = [], ffosolve._positions.loaded()
-
-    class Watched:
-        def __getattr__(self, name):
-            return lambda *given: asked.append((name, *given)) or getattr(library, name)(*given)
-
-    monkeypatch.setattr("ffosolve._positions.loaded", Watched)
+    library = mock.Mock(wraps=loaded())
+    monkeypatch.setattr("ffosolve._positions.loaded", lambda: library)
     assert Position(2**64 - 1, 0).score() == 64
-    assert [given[2:4] for name, *given in asked if "solve" in name[9:]] == [[0, 0]]
+    assert [call.args[2:4] for call in library.method_calls] == [(0, 0)]
 
 
 @pytest.mark.parametrize("own, opp", [
