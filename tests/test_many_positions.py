@@ -88,30 +88,24 @@ def test_as_many_threads_as_asked_make_calls_at_once_with_the_scoring_and_table_
     assert [call.args[2:4] for call in library.method_calls] == [(2, 7)] * threads
 
 
-@pytest.mark.parametrize("position_count", [20, None], ids=["few", "endless"])
-def test_a_closed_iterator_waits_for_nothing_and_begins_nothing_and_few_positions_are_read_ahead(
-        position_count, mocked):
-    """Each position is a part of its own. While the first is being solved, the others are read or, if they are endless,
-    solved by another thread."""
+def test_a_closed_iterator_waits_for_nothing_and_begins_nothing_and_few_positions_are_read_ahead(mocked):
+    """Each position is a part of its own. While the first is being solved, others are read, but not finished."""
     (solver, library), (begun, taken) = mocked, (itertools.count(), itertools.count())
     waited, closed, (position,) = [], threading.Event(), random_positions(1, [20])
 
-    def solve_all(*words):
-        if next(begun) == 0:
-            time.sleep(0.5 if position_count else 1)
-        elif position_count:
-            waited.append(closed.wait(SECONDS))
+    def solve_all(*_):
+        is_first = next(begun) == 0
+        waited.append(closed.wait(0.5 if is_first else SECONDS) or is_first)
         return 0
 
     library.ffosolve_solve_all.side_effect = solve_all
-    positions = (position for _ in itertools.islice(taken, position_count))
-    answers = solver.solve_iter(positions, threads=2)
+    answers = solver.solve_iter((position for _ in taken), threads=2)
     next(answers)
     answers.close()
     closed.set()
     wait_until(lambda: "ffosolve" not in [thread.name for thread in threading.enumerate()])
     assert all(waited)
-    assert next(begun) <= (4 if position_count else 100)
+    assert next(begun) <= 4
     assert next(taken) < 100
 
 
