@@ -1,10 +1,10 @@
 """Solves many positions: cuts them into parts, solves the parts on threads, and yields the results in order."""
+import contextlib
 import queue
 import sys
 import threading
 import time
 from collections import deque
-from concurrent.futures import Future, wait
 from typing import Any, Callable, Deque, Iterable, Iterator, List, NamedTuple, Sequence, TypeVar, Union
 
 from ._processes import LIGHTEST, Run
@@ -62,26 +62,27 @@ def in_order(run: Run, call: Callable[[Run, A], Iterable[B]], parts: Iterable[A]
             run.wait_seconds()
             yield from call(run, part)
         return
+    # An exception of a signal's handler may leave a Future locked, but not a SimpleQueue.
     tasks: "queue.SimpleQueue[Any]" = queue.SimpleQueue()
-    waiting: Deque["Future[Iterable[B]]"] = deque()
+    waiting: Deque["queue.SimpleQueue[Any]"] = deque()  # for each part, a queue that gets the result of its call
 
     def work() -> None:
         taken: Iterator[Any] = iter(tasks.get, None)
-        for future, part in taken:
+        for results, part in taken:
             try:
                 run.wait_seconds()
-                future.set_result(call(run, part))
+                results.put(call(run, part))
             except BaseException as error:
-                future.set_exception(error)
+                results.put(error)
         tasks.put(None)  # ends the next thread
 
     try:
         for number, part in enumerate(parts):
             if number < threads:
                 threading.Thread(target=work, name="ffosolve", daemon=True).start()
-            waiting.append(Future())
+            waiting.append(queue.SimpleQueue())
             tasks.put((waiting[-1], part))
-            while waiting and (waiting[0].done() or len(waiting) >= AHEAD * threads):
+            while waiting and (not waiting[0].empty() or len(waiting) >= AHEAD * threads):
                 yield from result_of(waiting.popleft(), run)
         while waiting:
             yield from result_of(waiting.popleft(), run)
@@ -90,7 +91,12 @@ def in_order(run: Run, call: Callable[[Run, A], Iterable[B]], parts: Iterable[A]
         tasks.put(None)
 
 
-def result_of(future: "Future[A]", run: Run) -> A:
-    while not future.done():
-        wait([future], run.wait_seconds())
-    return future.result()
+def result_of(results: "queue.SimpleQueue[Any]", run: Run) -> Any:
+    """Waits for the result in a queue, and returns it or, if it is an exception, raises it."""
+    result = None
+    while result is None:
+        with contextlib.suppress(queue.Empty):
+            result = results.get(timeout=run.wait_seconds())
+    if isinstance(result, BaseException):
+        raise result
+    return result
