@@ -371,11 +371,6 @@ def test_each_level_is_proved_once_and_a_new_version_only_links_the_library_agai
     assert not shared.exists()
 
 
-def test_help_lists_the_targets_of_both_makefiles(checkout):
-    listed = re.findall(r"^make (\w+) +\w", checkout.make("help").stdout, re.M)
-    assert {"all", "look", "install", "dist"} <= set(listed)
-
-
 def test_look_prints_the_report_and_that_nothing_is_proved_or_why_there_is_no_report(folder, checkout):
     write(checkout.root / "crates/ffosolve/stdin", "")
     ended = "echo 'checked: ended status=3' >&2\necho 'run=ended status=3' >&2\nexit 3\n"

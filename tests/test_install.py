@@ -178,11 +178,10 @@ def test_without_python_two_manual_pages_have_no_options_and_that_is_reported(pl
         assert (".SH SEE ALSO" in page, "OPTIONS" in page) == (True, has_options)
 
 
-def test_a_relative_prefix_a_wrong_target_and_a_file_for_a_folder_are_refused(place):
+def test_a_relative_prefix_and_a_file_for_a_folder_are_refused(place):
     for prefix in ("relative", "", "~/a"):
         for target in ("install", "uninstall"):
             refused(place.make(target, f"PREFIX={prefix}"), f"PREFIX is {prefix}, but has to begin with a slash")
-    refused(place.make("instal"), "No rule to make target 'instal'")
     place.root.mkdir(parents=True)
     (place.root / "bin").touch()
     refused(place.make("install"), f"{place.root}/bin")

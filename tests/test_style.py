@@ -30,9 +30,9 @@ def test_shell():
 
 
 def test_recipes(folder):
-    """make prints each recipe, with the variables of make filled in, after a line that names the target. The shell that
-    does nothing is for recipes that call make: they are run."""
-    targets = re.findall(r"^make (\S+)", run("make", "-s", "help", cwd=ROOT, text=True).stdout, re.M)
+    """make prints each recipe, with the variables of make filled in, after a line that names the target. `make help`
+    lists those of both makefiles. The shell that does nothing is for recipes that call make: they are run."""
+    targets = re.findall(r"^make (\S+) +\w", run("make", "-s", "help", cwd=ROOT, text=True).stdout, re.M)
     words = ("make", "-nBk", "--trace", "SHELL=/bin/true", "CPU=x86-64-v2", *targets)
     printed = run(*words, cwd=ROOT, text=True).stdout
     recipes = re.findall(r"^\S+:(\d+): (?:update )?target '(?:.*/)?(.*?)' .*\n((?:(?!\S+:\d+: ).*\n)+)", printed, re.M)
