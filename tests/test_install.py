@@ -60,8 +60,8 @@ def refused(ran, words):
     assert ran.stderr.count("\n") <= 2, ran.stderr
 
 
-def test_everything_is_installed(place):
-    assert place.install().stdout == f"installed under {place.root}\n"
+def test_everything_is_installed_for_everybody(place):
+    assert place.install(umask=0o077).stdout == f"installed under {place.root}\n"
     names = names_of_files()
     wanted = {"lib/libffosolve.a", "lib/libffosolve-x86-64-v3.a", "lib/pkgconfig/ffosolve.pc", "include/ffosolve.h",
               *(f"lib/cmake/ffosolve/ffosolve-config{end}.cmake" for end in ("", "-version")),
@@ -75,6 +75,9 @@ def test_everything_is_installed(place):
     assert files_below(place.root) == wanted
     for name in ("include/ffosolve.h", "lib/pkgconfig/ffosolve.pc", "lib/cmake/ffosolve/ffosolve-config.cmake"):
         assert re.findall("@[A-Z]+@", (place.root / name).read_text()) == []
+    for path in place.root.rglob("*"):
+        mode = 0o777 if path.is_symlink() else 0o755 if path.is_dir() or path.parent.name == "bin" else 0o644
+        assert oct(stat.S_IMODE(path.lstat().st_mode)) == oct(mode), path
 
 
 @pytest.mark.parametrize("bins, libs, include", (
@@ -96,14 +99,6 @@ def test_in_other_folders_everything_is_found(place, bins, libs, include):
     assert os.path.samefile(ran.stdout.strip()[2:].replace("\\ ", " "), include), ran
     named = re.search('_libraries}(/.*)"', (libs / "cmake/ffosolve/ffosolve-config.cmake").read_text())[1]
     assert os.path.samefile(f"{libs}{named}", include)
-
-
-def test_files_may_be_read_by_everybody(place):
-    place.install(umask=0o077)
-    for path in place.root.rglob("*"):
-        mode, name = stat.S_IMODE(path.lstat().st_mode), str(path.relative_to(place.root))
-        wanted = 0o777 if path.is_symlink() else 0o755 if path.is_dir() or name.startswith("bin/") else 0o644
-        assert oct(mode) == oct(wanted), name
 
 
 def test_a_second_install_removes_old_files_and_uninstall_leaves_those_of_others(place):
