@@ -105,8 +105,8 @@ pytest_make_collect_report = pytest_runtest_makereport
 
 
 def pytest_collection_modifyitems(items):
-    """Puts the module that waits longest first, so that no processor is left with it at the end."""
-    items.sort(key=lambda item: item.path.stem != "test_many_cluster")
+    """Puts the modules that take longest first, so that no processor is left with one of them at the end."""
+    items.sort(key=lambda item: item.path.stem not in ("test_many_cluster", "test_time"))
 
 
 def pytest_sessionstart(session):
