@@ -37,7 +37,8 @@ class Solver:
 
     A call ends with TimeoutError if it takes more than `timeout` seconds; a brief one, as `help(ffosolve)` says, ends
     as usual. If somebody else ends the process that makes a call, this raises ChildProcessError. If no process can be
-    started, as while Python is ending, a call with a `timeout` raises OSError; one without is made in this process.
+    started, as while Python is ending, a call with a `timeout` raises OSError unless it is brief; one without is made
+    in this process.
 
     `library` is the path of the shared library. By default, it is the path in the environment variable FFOSOLVE_LIBRARY
     or, if that is empty or not set, the first library that fits: in this package, in the system's library folders, in
@@ -221,9 +222,13 @@ class Solver:
         if isinstance(part, Refused):
             raise part
         found = (record * len(part.positions))(*claim)
-        entries = table_entries(part.empties) if self._entries is None else self._entries
-        accept(run.search(part.empties, name, self._scoring, entries, c_positions(part.positions), found))
+        self._search(run, name, c_positions(part.positions), found, part.empties)
         return found
+
+    def _search(self, run: Run, name: str, positions: Any, found: Any, empties: int) -> None:
+        """Makes a call as `search` does, for positions with at most `empties` empty squares."""
+        entries = table_entries(empties) if self._entries is None else self._entries
+        accept(run.search(empties, name, self._scoring, entries, positions, found))
 
 
 def as_position(position: P) -> P:
