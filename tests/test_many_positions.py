@@ -73,11 +73,30 @@ def test_results_come_before_an_endless_or_slow_iterable_ends(threads, wanted):
     assert len(taken) < 100_000
 
 
+def test_without_new_threads_the_caller_makes_the_calls(monkeypatch, wanted):
+    monkeypatch.setattr(threading.Thread, "start", mock.Mock(side_effect=RuntimeError("can't start new thread")))
+    assert Solver().solve_all(POSITIONS, threads=3) == wanted["solve_all"]
+
+
+@on_threads
+def test_answers_that_are_found_come_before_a_timeout(threads):
+    positions, found = random_positions(300, range(3)), []  # more than a part
+
+    def late():
+        yield from positions
+        time.sleep(1.2)
+        yield positions[0]
+
+    with pytest.raises(TimeoutError):
+        found.extend(Solver().solve_iter(late(), threads=threads, timeout=1))
+    assert found and found == Solver().solve_all(positions)[:len(found)]
+
+
 @pytest.mark.parametrize("threads", [3, 6])
 @pytest.mark.parametrize("name", [*NAMES, *ARRAYS])
 def test_as_many_threads_as_asked_make_calls_at_once_with_the_scoring_and_table_of_the_solver(name, threads, mocked):
     """Each position is a part of its own. The calls wait until there are as many as threads."""
-    (solver, library), positions, at_once = mocked, random_positions(threads, [16]), threading.Barrier(threads)
+    (solver, library), positions, at_once = mocked, random_positions(2 * threads, [16]), threading.Barrier(threads)
     call = getattr(solver, name)
     given = masks_of(positions) if name in ARRAYS else [positions]
     alone = str(list(call(*given)))
@@ -85,17 +104,19 @@ def test_as_many_threads_as_asked_make_calls_at_once_with_the_scoring_and_table_
         made.side_effect = lambda *_: (at_once.wait(SECONDS), mock.DEFAULT)[1]
     library.reset_mock()
     assert str(list(call(*given, threads=threads))) == alone
-    assert [call.args[2:4] for call in library.method_calls] == [(2, 7)] * threads
+    assert [call.args[2:4] for call in library.method_calls] == [(2, 7)] * 2 * threads
 
 
-def test_a_closed_iterator_waits_for_nothing_and_begins_nothing_and_few_positions_are_read_ahead(mocked):
-    """Each position is a part of its own. While the first is being solved, others are read, but not finished."""
+@pytest.mark.parametrize("others_finish", [False, True])
+def test_a_closed_iterator_waits_for_nothing_begins_nothing_and_has_read_few_positions_ahead(mocked, others_finish):
+    """Each position is a part of its own. While the first is being solved, others are read, and maybe finished."""
     (solver, library), (begun, taken) = mocked, (itertools.count(), itertools.count())
     waited, closed, (position,) = [], threading.Event(), random_positions(1, [20])
 
     def solve_all(*_):
         is_first = next(begun) == 0
-        waited.append(closed.wait(0.5 if is_first else SECONDS) or is_first)
+        if is_first or not others_finish:
+            waited.append(closed.wait(0.5 if is_first else SECONDS) or is_first)
         return 0
 
     library.ffosolve_solve_all.side_effect = solve_all
@@ -105,7 +126,7 @@ def test_a_closed_iterator_waits_for_nothing_and_begins_nothing_and_few_position
     closed.set()
     wait_until(lambda: "ffosolve" not in [thread.name for thread in threading.enumerate()])
     assert all(waited)
-    assert next(begun) <= 4
+    assert next(begun) <= (100 if others_finish else 4)
     assert next(taken) < 100
 
 

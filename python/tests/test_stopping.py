@@ -315,7 +315,7 @@ def test_a_process_that_another_thread_takes_meanwhile_is_replaced(solver, monke
     wanted = solver.solve(HARD)
     monkeypatch.setattr(_processes, "IDLE", type("Taken", (list,), {"__bool__": lambda _: True})())
     assert solver.solve(HARD) == wanted
-    _processes.IDLE.pop().end()
+    _processes.end_idle()
 
 
 def test_calls_of_several_threads_do_not_stop_each_other(solver):

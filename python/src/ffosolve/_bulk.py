@@ -55,13 +55,8 @@ def parts_of(positions: Iterable[Sequence[int]], max_empties: int, whole: bool =
 
 def in_order(run: Run, call: Callable[[Run, A], Iterable[B]], parts: Iterable[A], threads: int) -> Iterator[B]:
     """Calls `call` with `run` and each of `parts`, on up to `threads` new threads at once or, if `threads` is 1 or no
-    thread can be started since Python is ending, on the caller's. Yields the items that the calls return, in the order
-    of `parts`. Stops `run` when it is left."""
-    if threads == 1 or sys.is_finalizing():
-        for part in parts:
-            run.wait_seconds()
-            yield from call(run, part)
-        return
+    thread can be started, on the caller's. Yields the items that the calls return, in the order of `parts`. Stops `run`
+    when it is left."""
     # An exception of a signal's handler may leave a Future locked, but not a SimpleQueue.
     tasks: "queue.SimpleQueue[Any]" = queue.SimpleQueue()
     waiting: Deque["queue.SimpleQueue[Any]"] = deque()  # for each part, a queue that gets the result of its call
@@ -77,9 +72,14 @@ def in_order(run: Run, call: Callable[[Run, A], Iterable[B]], parts: Iterable[A]
         tasks.put(None)  # ends the next thread
 
     try:
+        if threads == 1 or not is_started(work):
+            for part in parts:
+                run.wait_seconds()
+                yield from call(run, part)
+            return
         for number, part in enumerate(parts):
-            if number < threads:
-                threading.Thread(target=work, name="ffosolve", daemon=True).start()
+            if 0 < number < threads:
+                is_started(work)
             waiting.append(queue.SimpleQueue())
             tasks.put((waiting[-1], part))
             while waiting and (not waiting[0].empty() or len(waiting) >= AHEAD * threads):
@@ -91,12 +91,22 @@ def in_order(run: Run, call: Callable[[Run, A], Iterable[B]], parts: Iterable[A]
         tasks.put(None)
 
 
+def is_started(work: Callable[[], None]) -> bool:
+    """Starts a thread. Returns whether that was possible; while Python is ending, it may not be."""
+    if sys.is_finalizing():
+        return False  # Python 3.11 would wait for ever
+    with contextlib.suppress(RuntimeError):
+        threading.Thread(target=work, name="ffosolve", daemon=True).start()
+        return True
+    return False
+
+
 def result_of(results: "queue.SimpleQueue[Any]", run: Run) -> Any:
-    """Waits for the result in a queue, and returns it or, if it is an exception, raises it."""
+    """Returns the result in a queue or, if it is an exception, raises it. Waits for it while `run` goes on."""
     result = None
     while result is None:
         with contextlib.suppress(queue.Empty):
-            result = results.get(timeout=run.wait_seconds())
+            result = results.get(timeout=run.wait_seconds() if results.empty() else 0)
     if isinstance(result, BaseException):
         raise result
     return result

@@ -78,8 +78,9 @@ def idle_process() -> SearchProcess:
 
 @atexit.register
 def end_idle() -> None:
-    while IDLE:
-        IDLE.pop().end()
+    with contextlib.suppress(IndexError):
+        while True:
+            IDLE.pop().end()
 
 
 def forget() -> None:
