@@ -25,7 +25,7 @@ pytest_plugins = ["tests.many"]
 @pytest.mark.parametrize("scores, lines", [(None, [b"[1]", b"1 +02 A1 agree", b"solved 1 refused 0"]),
                                            ("", [b"A1:+02;", b"%", b"% blank and comment", b"", b"% blank", b"\r"])])
 def test_results_are_complete_with_a_row_for_each_line_of_the_part(scores, lines):
-    options = {"--lines": 9, "--max-empties": "20", "--scores": scores}
+    options = {"--lines": 9, "--max-empties": "20", "--scores": scores, "--book-out": None}
     ((part, _),) = folder.cut(io.BytesIO(BOARD + b" X;\n\n%\n \t% X\n\r\n \t\r"), "list", options)
     one = folder.Run.__new__(folder.Run)
     one.task, one.statuses = {"options": options}, {}
@@ -37,7 +37,7 @@ def test_results_are_complete_with_a_row_for_each_line_of_the_part(scores, lines
 
 def test_results_that_took_a_second_are_on_the_disk_at_once(tmp_path):
     one, part = folder.Run.__new__(folder.Run), folder.Part(0, 0, 2, 1, 1, 1, "digest", 1.0)
-    one.folder, one.task, one.statuses = tmp_path, {"options": {}}, {}
+    one.folder, one.task, one.statuses = tmp_path, {"options": {"--book-out": None}}, {}
     write(tmp_path / "list", "1\n")
     (tmp_path / "results").mkdir()
     with mock.patch.object(os, "fsync") as synced:
@@ -60,14 +60,15 @@ def test_a_part_whose_results_are_not_complete_is_solved_again(case):
     whole, text = path.read_bytes(), case.SMALL[68 * 20:68 * 40]
     found = solve.read_record(task, 1, solve.sha256(text), whole)
 
-    def record(part=1, text=text, **options):
-        """Returns the record of these results for another part, other lines or options, with the right digest."""
+    def record(part=1, text=text, found=found, **options):
+        """Returns a record, with the right digest, of other results or for another part, other lines or options."""
         return solve.record_of({"options": {**task["options"], **options}}, part, solve.sha256(text), found)
 
     assert record() == whole
     for spoiled in (None, b"", whole[:-1], whole[:whole[:-1].rindex(b"\n") + 1], bytes(len(whole)), whole + b"\n",
                     whole.replace(b"+", b"-", 1), Path("work/results/0000000").read_bytes(), record(part=2),
-                    record(text=text[:-1]), record(**{"--complete": ""})):
+                    record(text=text[:-1]), record(**{"--complete": ""}), record(found=found._replace(book=b"")),
+                    record(found=found._replace(output=found.output + b"\n"))):
         path.unlink() if spoiled is None else path.write_bytes(spoiled)
         case.many(*WORDS, message="in 3 parts, 2 of them solved before;")
         assert path.read_bytes().endswith(found.output + found.book)
@@ -202,6 +203,14 @@ def test_a_part_is_not_solved_in_vain(case):
                   **how)
         assert ran.returncode == 1 and re.search(f"^solve.py 1-2: .*{why}.*$", ran.stderr, re.M)
         assert words.read_text().count("\n") == 1  # the program has run for the known line alone
+
+
+def test_files_that_solve_py_may_not_read_are_named(case):
+    run(case.MANY, "--cut", *WORDS, "--book-in=one.book")
+    for name, why in (("book-in", "the program can't solve a known line: ffosolve: cannot read book-in"),
+                      ("program-0", "[Errno 13] Permission denied: 'program-0'")):
+        Path("work", name).chmod(0o111)
+        ends((1, "", f"solve.py 0: {why}\n"), sys.executable, "work/solve.py", "0", **NOBODY)
 
 
 def test_a_folder_where_no_program_may_run_is_refused(case):

@@ -18,7 +18,7 @@ from .._text import BOOK_HEADER, shown
 from .books import book_of, merged
 from .engine import Threads, solve_parts
 from .folder import Run, begin, options_of
-from .solve import guarded, words_of
+from .solve import guarded, opened, without_folder, words_of
 
 NAME = "ffosolve-many"
 NO_DISCS = b"-" * 64 + b" X;"  # refused with any options; the message has the limit of empty squares
@@ -123,11 +123,13 @@ def program_in(folder: str, name: str) -> Path:
 
 
 def builds_of(program: Path) -> List[bytes]:
-    """Returns a program's builds for levels of x86-64, highest first; without any, the content of `program` alone."""
-    root, name = program.parent.parent, program.name
+    """Returns the contents of a program's builds for levels of x86-64, highest first; without any, of `program`."""
+    root, name, contents = program.parent.parent, program.name, []
     found = [*root.glob(f"out/x86-64-v?/{name}"), *root.glob(f"lib/ffosolve/{name}-x86-64-v?")]
-    with refusing("read", program):
-        return [path.read_bytes() for path in sorted(found, reverse=True) or [program]]
+    for path in sorted(found, reverse=True) or [program]:
+        with refusing("read", path):
+            contents.append(path.read_bytes())
+    return contents
 
 
 def try_run(program: Path, *words: str, text: bytes = NO_DISCS, to: int = subprocess.PIPE) -> Tuple[int, bytes, str]:
@@ -135,9 +137,10 @@ def try_run(program: Path, *words: str, text: bytes = NO_DISCS, to: int = subpro
     output unless that goes to the file `to`, and, in one line, its messages."""
     if not shutil.which("setpriv"):
         raise Refusal("setpriv is not on the path: apt-get install util-linux", MISSING)
-    ran = subprocess.run(guarded(str(program), [*words]), close_fds=False, input=text, stdout=to,
-                         stderr=subprocess.PIPE)
-    lines = re.findall(r"^(?:ffo[a-z]+: |\s+)?(\S.*)", ran.stderr.decode(errors="replace"), re.MULTILINE)
+    path = str(opened(program.parent) / program.name)
+    ran = subprocess.run(guarded(path, [*words]), close_fds=False, input=text, stdout=to, stderr=subprocess.PIPE)
+    said = without_folder(ran.stderr.decode(errors="replace"))
+    lines = re.findall(r"^(?:ffo[a-z]+: |\s+)?(\S.*)", said, re.MULTILINE)
     return ran.returncode, ran.stdout, ": ".join(lines) or f"{program} ended with status {ran.returncode}"
 
 

@@ -153,7 +153,8 @@ class Run:
     def check(self, part: Part, record: bytes) -> Optional[Solved]:
         """Notes and returns the results in a record of a part, or returns None if they are damaged or not complete."""
         found = read_record(self.task, part.number, part.digest, record)
-        if not found or found.output.count(b"\n") != part.printed:
+        has_book = self.task["options"]["--book-out"] is not None
+        if not found or found.output.count(b"\n") != part.printed or bool(found.book) != has_book:
             return None
         self.statuses[part.number] = found.status
         return found
@@ -231,8 +232,8 @@ def earlier_task(folder: Path, options: Dict[str, Any]) -> Task:
 
 
 def begin(command: argparse.Namespace, source: Path, programs: Callable[[], List[bytes]], book: Optional[Path]) -> Run:
-    """Begins or continues a command's run. `source` is the list's path, `programs` returns what the programs' files
-    have, and `book` is the path of a --book-in."""
+    """Begins or continues a command's run. `source` is the path of the list, `programs` returns the contents of the
+    programs' files, and `book` is the path of a --book-in."""
     folder, claims = command.folder, book.read_bytes() if book else None
     run = Run(folder, options_of(command, claims), source, shown(command.list))
     with refusing("write", folder):

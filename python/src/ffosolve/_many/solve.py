@@ -84,7 +84,7 @@ def solve(task: Task, files: Files, program: str, part: int, text: bytes,
             process = subprocess.Popen(guarded(program, words), start_new_session=True, stdin=file,
                                        stdout=subprocess.PIPE, stderr=subprocess.PIPE)
     except OSError as why:
-        return b"", f"{why.filename or 'part'}: {why.strerror}"
+        return b"", without_folder(f"{why.filename or 'part'}: {why.strerror}")
     with process:
         while True:
             try:
@@ -96,7 +96,7 @@ def solve(task: Task, files: Files, program: str, part: int, text: bytes,
     status = process.returncode
     if not 0 <= status <= most:
         name = f"status {status}" if status >= 0 else f"killed by {signal.Signals(-status).name}"
-        return b"", (errors.decode(errors="replace").strip() or name).splitlines()[0]
+        return b"", without_folder((errors.decode(errors="replace").strip() or name).splitlines()[0])
     book = errors[max(0, errors.find(b"% ffobook ")):] if has_book else b""
     return record_of(task, part, sha256(text), Solved(status, output, book, time.monotonic() - start)), ""
 
@@ -106,7 +106,7 @@ def fit_program(task: Task, files: Files) -> Tuple[str, str]:
     KNOWN_SECONDS, with the results that `task` knows, if any; and these results, output and book as one text. Raises
     ChildProcessError if no program is fit."""
     why = "is missing"
-    for name, program in sorted(file for file in files.items() if file[0] != "book-in"):
+    for _, program in sorted(file for file in files.items() if file[0] != "book-in"):
         end = time.monotonic() + KNOWN_SECONDS
         if sha256(Path(program).read_bytes()) not in task["programs"]:
             why = "is damaged"
@@ -118,7 +118,7 @@ def fit_program(task: Task, files: Files) -> Tuple[str, str]:
         if record:
             why = "solves a known line wrong"
         elif time.monotonic() < end:
-            why = f"can't solve a known line: {fault.replace(program, name)}"
+            why = f"can't solve a known line: {fault}"
         else:
             why = f"needs more than {KNOWN_SECONDS} seconds for a known line"
     raise ChildProcessError(f"the program {why}")
@@ -139,9 +139,14 @@ def read_task(folder: Path) -> Task:
 
 @functools.lru_cache(maxsize=None)
 def opened(folder: Path) -> Path:
-    """Returns a path of a folder through this process: nothing runs there once that has ended, and it is UTF-8, as the
-    program wants."""
+    """Returns a path to a folder that leads through this process: it is UTF-8, as the program wants, and once this
+    process has ended, no program starts there."""
     return Path(f"/proc/{os.getpid()}/fd/{os.open(folder, os.O_RDONLY)}")
+
+
+def without_folder(message: str) -> str:
+    """Returns a message that names files in `opened` folders by their names alone."""
+    return re.sub("/proc/[0-9]+/fd/[0-9]+/", "", message)
 
 
 def files_in(folder: Path) -> Files:
@@ -191,4 +196,4 @@ if __name__ == "__main__":
     try:
         sys.exit("\n".join(main(Path(__file__).resolve().parent, sys.argv[1:])) or 0)
     except (OSError, ValueError) as why:
-        sys.exit(f"solve.py {' '.join(sys.argv[1:])}: {why}")
+        sys.exit(without_folder(f"solve.py {' '.join(sys.argv[1:])}: {why}"))
