@@ -89,7 +89,9 @@ def answers_of(*command, count=LARGE):
     assert ran.stdout == answers[2] + "+08 H8\nA1 of A1,H1\nPS\nH1 of H1\n", ran.stderr
     ran = PREFIX.run(*command)
     assert (ran.returncode, ran.stdout, ran.stderr) == (0, "", "")
-    for wrong, why in (("3 2", "position 2: the masks share a square"), ("1 x", ""), ("3", ""), (f"1{0:016} 0", "")):
+    longer = f"1{0:016}"  # than a mask
+    for wrong, why in (("3 2", "position 2: the masks share a square"), ("1 x", ""), ("3", ""), (f"{longer} 0", ""),
+                       (f"{longer} {longer}", ""), ("1 2 4", "")):
         ran = PREFIX.run(*command, text=f"{masks[0]}{wrong}\n")
         assert (ran.returncode, ran.stdout, why in ran.stderr) == (1, "", True), ran
 

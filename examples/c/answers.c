@@ -17,8 +17,10 @@ static ffosolve_answer answers[MOST_POSITIONS];
 /* Reads positions, and sets how many; returns whether they end the input and are at most MOST_POSITIONS. */
 static int read_positions(size_t *count) {
     for (*count = 0;; ++*count) {
-        int masks = scanf("%16" SCNx64 " %16" SCNx64, &positions[*count].own, &positions[*count].opp);
-        if (masks != 2 || *count == MOST_POSITIONS) return masks == EOF;
+        ffosolve_position *next = &positions[*count];
+        char end = '\n';
+        int read = scanf(" %16" SCNx64 "%*[ ]%16" SCNx64 "%c", &next->own, &next->opp, &end);
+        if (read < 2 || end != '\n' || *count == MOST_POSITIONS) return read == EOF;
     }
 }
 
