@@ -31,8 +31,9 @@ def test_moves_passes_and_ends_are_those_of_the_plain_player():
         names = [NAMES[number] for number in numbers]
         assert (position.legal_moves, position.must_pass) == (names, not names and other)
         assert position.is_over == (not names and not other)
-        taken = [move for move in (*range(-1, 66), *NAMES, "PS") if position.is_legal(move)]
-        assert taken == numbers + names + ["PS"] * position.must_pass
+        moves = *range(-1, 66), *NAMES, *map(str.lower, NAMES), "PS"
+        taken = [move for move in moves if position.is_legal(move)]
+        assert taken == numbers + names + [*map(str.lower, names)] + ["PS"] * position.must_pass
         for number, name in zip(numbers, names):
             after = player.line(*player.after(own, opp, 1 << number), not is_black)
             assert [position.play(move).to_obf() for move in (name, name.lower(), number)] == [after] * 3

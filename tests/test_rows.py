@@ -244,6 +244,9 @@ def test_odd_texts_are_printed_again_and_options_set_the_limit_the_table_and_the
 
 def test_position_40_of_the_ffo_test_has_the_published_best_move_alone():
     line = next(line for line in stored("examples", "ffo-40-51.obf").splitlines() if b"% 40" in line)
+    for entries in (65_536, 4_000_000):
+        ends((0, b"[1]\n1 +38 A2 agree\nsolved 1 refused 0\n", b""), built(), "--table", entries, input=line,
+             timeout=5 * SECONDS)
     board, comment = re.escape(line[:66]), re.escape(line[line.index(b" % 40"):])
     ran = run(built("ffoscores"), input=line, timeout=5 * SECONDS)  # for a busy machine
     assert (ran.returncode, ran.stderr) == (0, b"")

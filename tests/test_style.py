@@ -33,6 +33,7 @@ def test_recipes(folder):
     """make prints each recipe, with the variables of make filled in, after a line that names the target. `make help`
     lists those of both makefiles. The shell that does nothing is for recipes that call make: they are run."""
     targets = re.findall(r"^make (\S+) +\w", run("make", "-s", "help", cwd=ROOT, text=True).stdout, re.M)
+    assert {"all", "look", "install", "check", "dist", "deb", "wheel"} <= {*targets}
     words = ("make", "-nBk", "--trace", "SHELL=/bin/true", "CPU=x86-64-v2", *targets)
     printed = run(*words, cwd=ROOT, text=True).stdout
     recipes = re.findall(r"^\S+:(\d+): (?:update )?target '(?:.*/)?(.*?)' .*\n((?:(?!\S+:\d+: ).*\n)+)", printed, re.M)

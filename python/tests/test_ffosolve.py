@@ -127,7 +127,7 @@ def test_positions_become_arrays_and_arrays_positions():
     numpy = pytest.importorskip("numpy")
     white = EIGHT.passed()
     positions = [POSITION, white, START, Position(2**64 - 1, 0), Position(0, 2**64 - 1), Position(2**63 + 1, 2**53 + 2)]
-    own, opp = masks_of(positions)
+    own, opp = masks_of(iter(positions))
     assert (own.dtype, opp.dtype, own.shape, opp.shape) == (numpy.uint64, numpy.uint64, (6,), (6,))
     assert list(zip(own.tolist(), opp.tolist())) == positions
     back = ffosolve.positions_from(own, opp)
@@ -348,6 +348,7 @@ def test_lines_are_numbered_skipped_and_refused(end, tmp_path):
         assert [(type(error), str(error), error.line) for error in wrong] == [
             (ffosolve.ShortBoard, "line 4: board has 63 of 64 squares", 4),
             (ffosolve.BadSquare, "line 6: bad square at column 1", 6)]
+    assert [*parse_lines(""), *parse_lines(b""), *parse_lines("% \udcff"), *read_lines([])] == []
     read = read_lines(lines)
     assert next(read) == POSITION
     with pytest.raises(ffosolve.ShortBoard):

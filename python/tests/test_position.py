@@ -82,7 +82,7 @@ def test_new_positions_are_of_the_same_class():
             start.image(3), *start.symmetries(), Solver().play(start, "F5"), Mine.from_obf(PASS).play("PS")]
     assert {type(position) for position in made} == {Mine}
     assert {type(position) for position in (Position.start(), POSITION, START.play("F5"))} == {Position}
-    assert Mine.from_obf(CORNERS).listed == (("H1", 62), ("PS", -4))
+    assert (Mine.from_obf(CORNERS).listed, Mine.from_obf(CORNERS).number) == ((("H1", 62), ("PS", -4)), None)
     assert {it.listed for it in (POSITION.passed(), POSITION.play("A1"), *POSITION.symmetries())} == {()}
 
 
