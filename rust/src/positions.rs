@@ -3,7 +3,7 @@ use crate::{raw, Error, Line, ObfError, Square, Squares, Symmetry};
 use std::fmt;
 
 /// The discs of the mover, which is the side to move, and those of the other side. No square has both. `{:?}` prints
-/// its OBF line.
+/// `Position(LINE)`, with its OBF line.
 #[repr(C)] // laid out as `raw::Position`
 #[derive(Clone, Copy, PartialEq, Eq, Hash)]
 pub struct Position {
