@@ -90,10 +90,11 @@ def answers_of(*command, count=LARGE):
     ran = PREFIX.run(*command)
     assert (ran.returncode, ran.stdout, ran.stderr) == (0, "", "")
     longer = f"1{0:016}"  # than a mask
-    for wrong, why in (("3 2", "position 2: the masks share a square"), ("1 x", ""), ("3", ""), (f"{longer} 0", ""),
-                       (f"{longer} {longer}", ""), ("1 2 4", "")):
+    for wrong in ("3 2", "1 x", "3", "1 2 4 8", longer, f"{longer} {longer}"):
         ran = PREFIX.run(*command, text=f"{masks[0]}{wrong}\n")
-        assert (ran.returncode, ran.stdout, why in ran.stderr) == (1, "", True), ran
+        is_refused = "position 2: the masks share a square" in ran.stderr
+        assert (ran.returncode, ran.stdout, is_refused) == (1, "", wrong == "3 2"), ran
+        assert "empty squares" not in ran.stderr, wrong  # as if it was read as other masks
 
 
 def test_examples_in_c_and_cxx_are_built_by_pkg_config():

@@ -119,8 +119,13 @@ def test_a_closed_iterator_waits_for_nothing_begins_nothing_and_has_read_few_pos
             waited.append(closed.wait(0.5 if is_first else SECONDS) or is_first)
         return 0
 
+    def endless():
+        for _ in taken:
+            time.sleep(others_finish / 1000)
+            yield position
+
     library.ffosolve_solve_all.side_effect = solve_all
-    answers = solver.solve_iter((position for _ in taken), threads=2)
+    answers = solver.solve_iter(endless(), threads=2)
     next(answers)
     answers.close()
     closed.set()
