@@ -27,7 +27,7 @@ major := $(firstword $(subst ., ,$(version)))
 $(if $(filter $(levels),$(CPU)),,$(error CPU is $(CPU), but has to be one of: $(levels)))
 $(if $(filter /%,$(PREFIX)),,$(error PREFIX is $(PREFIX), but has to begin with a slash))
 
-all: $(programs:%=out/%) library ## proves and builds the programs and the library for C
+all: tools $(programs:%=out/%) library ## proves and builds the programs and the library for C
 	echo "built: $(programs:%=out/%), which bin/ runs; out/library"
 
 # What rt makes. Unlike make, find notices a removed file, and a change that keeps an old time, by its status time.
@@ -126,17 +126,20 @@ look: ## solves three positions in about a minute, with nothing proved; LIST=FIL
 
 PYTHON ?= python3
 TESTS =
+check: commands = git:git
+check: modules = psutil:psutil pytest:pytest xdist:pytest-xdist pytest_timeout:pytest-timeout
 check: tools levels $(crate_tests) ## tests everything; the last line counts what passed. TESTS='-k books': arguments for pytest
 	exec env -u MAKEFLAGS -u MFLAGS -u MAKELEVEL $(PYTHON) -m pytest -n auto --durations 20 $(TESTS)
 
+# Names the tools that are missing before anything is proved.
 tools:
 	$(has_rt)
 	packages=
 	lacks() { echo "$$1; Debian's package $$2 has it$${3-}" >&2; packages="$$packages $$2"; }
-	for need in cc:build-essential ld:binutils flock:util-linux git:git; do
+	for need in cc:build-essential ld:binutils flock:util-linux $(commands); do
 	    command -v "$${need%:*}" >/dev/null || lacks "$${need%:*} is missing" "$${need#*:}"
 	done
-	for need in psutil:psutil pytest:pytest xdist:pytest-xdist pytest_timeout:pytest-timeout; do
+	for need in $(modules); do
 	    $(PYTHON) -c "import $${need%:*}" 2>/dev/null ||
 	        lacks "$(PYTHON) has no module $${need%:*}" "python3-$${need#*:}" ' for PYTHON=/usr/bin/python3'
 	done

@@ -231,8 +231,10 @@ def test_a_missing_tool_is_reported_and_so_is_another_kit_which_is_tried(folder,
     install = "apt-get install binutils python3-psutil python3-pytest python3-pytest-xdist python3-pytest-timeout\n"
     modules = zip(("psutil", "pytest", "xdist", "pytest_timeout"), install.split()[3:])
     no_tools = "".join((no_ld, *(no_module.format(*names) for names in modules), install))
-    for error, *words in ((no_rt, "look", "PATH=/usr/bin:/bin"), (no_rt, "check", "PATH=/usr/bin:/bin"),
-                          (no_tools, "check", "PYTHON=false", f"PATH={checkout.tools}:{path_without('ld', folder)}")):
+    without_ld = f"PATH={checkout.tools}:{path_without('ld', folder)}"
+    for error, *words in (*((no_rt, target, "PATH=/usr/bin:/bin") for target in ("look", "check", "all")),
+                          (no_tools, "check", "PYTHON=false", without_ld),
+                          (f"{no_ld}apt-get install binutils\n", "all", "PYTHON=false", without_ld)):
         ran = checkout.make(*words)
         assert (ran.returncode, ran.stdout) == (2, ""), ran
         assert ran.stderr.startswith(error), ran
