@@ -7,8 +7,8 @@ from pathlib import Path
 
 import pytest
 
-from tests.support import (ROOT, SECONDS, built, ends, limited, positions, preload, refuse_threads, run, stored,
-                           wait_until, write)
+from tests.support import (ROOT, SECONDS, built, ends, limited, positions, preload, processes_in, refuse_threads, run,
+                           stored, wait_until, write)
 
 pytestmark = pytest.mark.usefixtures("folder")
 WORKERS = (0, 1, 3, 64)
@@ -105,6 +105,17 @@ def test_a_reader_that_leaves_ends_the_program_within_positions_that_take_hours(
     program.stdout.close()
     error = program.stderr.read()
     assert (program.wait(SECONDS), error) == (3, b"ffoscores: cannot write standard output\n")
+
+
+def test_an_interrupt_from_the_terminal_leaves_no_process(folder, start):
+    write("list.obf", EASY[0] + HOURS * 9)
+    words = f"{ROOT}/bin/ffoscores --max-empties 60 --workers 3 list.obf | cat"
+    shell = start("sh", "-c", words, start_new_session=True)
+    assert shell.stdout.readline() == EASY[0]
+    os.killpg(shell.pid, signal.SIGINT)
+    assert shell.stdout.read() == b""
+    shell.wait(SECONDS)
+    wait_until(lambda: not processes_in(folder))
 
 
 def lines(empties, count=8):

@@ -8,6 +8,7 @@ import doctest
 import gc
 import inspect
 import io
+import itertools
 import os
 import pathlib
 import pickle
@@ -205,10 +206,10 @@ def test_the_library_gets_the_scoring_the_size_of_the_table_and_the_claim(settin
     monkeypatch.setattr("ffosolve._processes.is_brief", lambda *_: True)  # no call is made by another process
     solver = Solver(max_empties=60, **settings)
     library = solver._library = library_that_returns(0)
-    for name in LISTS:
-        find(name, 1, solver, [POSITION, Position(0xFFF, 0), POSITION])
+    for name, place in itertools.product(LISTS, range(3)):
+        find(name, 1, solver, [*[POSITION] * place, Position(0xFFF, 0), *[POSITION] * (2 - place)])
     given = [call.args[1:4] for call in library.method_calls]
-    assert given == [(3, scoring, entries)] * len(LISTS)
+    assert given == [(3, scoring, entries)] * 3 * len(LISTS)
     solver.confirm(Position(0xFF0, 0xF), Answer(-3, Kind.OVER, 4))
     position, *of_one, claim, _ = library.ffosolve_confirm.call_args.args
     assert of_one == [scoring, entries]
