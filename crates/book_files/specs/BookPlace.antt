@@ -4,6 +4,7 @@ use Rattle.std.specs.Borrow.{Bor}
 use Rattle.std.specs.declared.io.ErrorKind.TheVariants as kind
 use Rattle.othello_rules.specs.declared.scoring.Scoring.{Scoring}
 use Rattle.solved_book.specs.Books.{BookView, book_text, header}
+use Rattle.solved_book.specs.Order.{AreBookPositions}
 use Rattle.suite_runs.specs.Outcome.{IsBookOf, tasks_of_views}
 use Rattle.suite_runs.specs.Part.{part_view_of}
 use Rattle.suite_runs.specs.declared.solved_files.SolvedFiles.{SolvedFiles}
@@ -36,4 +37,5 @@ IsRefusalOf _ name error = ⊥
 pub record IsBookTextOf (files : SolvedFiles) (text : List ℕ) : Type 0 where
   pub book : BookView
   pub holds : IsBookOf files.scoring (tasks_of_views (map part_view_of files.parts.items)) book
+  pub positions : AreBookPositions book.positions
   pub written : text ≡ book_text book.scoring book.positions

@@ -1,5 +1,6 @@
 -- The errors that end `ffosolve` early: their reasons, their lines and their statuses.
-use Rattle.std.specs.Prelude.{ℕ, List, [], ◌++◌, codes}
+use Rattle.std.specs.Prelude.{◌≡◌, ℕ, List, [], ◌++◌, codes}
+use Rattle.std.specs.Borrow.{Bor}
 use Rattle.solved_book.specs.Faults.{book_fault_text}
 use Rattle.solved_book.specs.declared.book_fault.BookFault.{BookFault}
 use Rattle.solved_book.specs.declared.book_fault.BookFault.TheVariants as book
@@ -36,7 +37,15 @@ solve_error_reason (OverwritesBookIn name) =
     name.now ++ (codes " is read and would be overwritten: write --book-out NEW, then "
     ++ (codes "ffosolve-many --merge-books " ++ (name.now ++ codes " NEW")))
 
--- why a file can't be read or written
+-- the error is one of reading the book of this name
+abbrev pub IsBookError : Bor (List ℕ) → SolveError → Type 0
+IsBookError name (Program Memory) = Unit {0}
+IsBookError name (Program (CannotRead other kind)) = other ≡ name
+IsBookError name (BookOnDevice other) = other ≡ name
+IsBookError name (BadBook fault) = Unit {0}
+IsBookError name _ = ⊥
+
+-- why a file can't be read or written, or what takes more and larger files
 abbrev pub solve_error_cause : SolveError → List ℕ
 solve_error_cause (Program error) = error_cause error
 solve_error_cause (BookOnDevice name) = codes "it is neither a file nor a pipe"

@@ -1,17 +1,19 @@
 //! The book that the program reads, and the book that it writes.
 
-ghost use Rattle.std.specs.Prelude.{◌≡◌, ◌≢◌, ◌⊎◌, ◌↔◌, ◌-◌, ◌<◌, ◌≤◌, ℕ, List, None, All, IfOk, IfErr, IfSome};
-ghost use Rattle.std.specs.Prelude.{length, take};
+ghost use Rattle.std.specs.Prelude.{◌≡◌, ◌⊎◌, ◌↔◌, ℕ, List, None, IfOk, IfErr, IfSome};
 ghost use Rattle.solved_book.specs.Books.{book_text};
+ghost use Rattle.solved_book.specs.Order.{AreBookPositions};
 ghost use Rattle.solved_book.specs.Claims.{GivesAdvice, claims_of};
 ghost use Rattle.book_files.specs.BookLines.{IsFrontOf, IsLineOrFault, ReadsPart};
 ghost use Rattle.book_files.specs.BookPlace.{IsBookTextOf, IsFree};
-ghost use Rattle.book_files.specs.SolveError.{IsSilent, solve_status_of};
+ghost use Rattle.book_files.specs.SolveError.{IsBookError, IsSilent, solve_status_of};
+ghost use Rattle.book_files.specs.declared.solve_error.SolveError.TheVariants.{Program};
+ghost use Rattle.program_parts.specs.declared.program_error.ProgramError.TheVariants.{CannotWrite};
 
 use crate::book_place::BookPlace;
 use crate::new_file::NewFile;
 use crate::solve_error::SolveError;
-use obf_text::{LineFault, fault_of_front};
+use obf_text::{LineFault, fault_of_front, line_len};
 use program_parts::{ProgramError, read_error};
 use solved_book::{Book, BookFault, Claims};
 use std::alloc::{AllocError, Global};
@@ -23,20 +25,6 @@ use suite_runs::SolvedFiles;
 
 // How many bytes of a longer line are read before it is judged by them. A header has fewer.
 const FRONT: usize = 65_536;
-
-// The number of bytes of the first line, with its end.
-fn line_len(bytes: &[u8]) -> usize
-    ensures within { result ≤ length bytes.now }
-    ensures some { 0 < length bytes.now → 0 < result }
-    ensures before { All (λ b. b ≢ 10) (take (result - 1) bytes.now) }
-{
-    for (at, byte) in bytes.iter().enumerate() {
-        if *byte == b'\n' {
-            return at + 1;
-        }
-    }
-    bytes.len()
-}
 
 // Appends the bytes of a line that the reader shows, up to the line's end. Returns whether the line
 // is whole: its end was read, or no byte is left.
@@ -159,6 +147,7 @@ fn claims_under<'a, T: Files>(
     alloc: Global,
     name: &'a str,
 ) -> Result<Claims, SolveError<'a>>
+    ensures named { IfErr result (IsBookError name.entry) }
     ensures silent { IfErr result IsSilent }
     ensures status { IfErr result
         (λ error. (solve_status_of error ≡ 1) ⊎ (solve_status_of error ≡ 3)) }
@@ -194,7 +183,8 @@ pub fn read_claims<'a, T: Files>(
 
 // Makes the text of the book.
 fn text_of(alloc: Global, book: &Book) -> Result<Vec<u8>, AllocError>
-    ensures { IfOk result (λ text. text.items ≡ book_text book.now.scoring book.now.positions) }
+    ensures text { IfOk result (λ text. text.items ≡ book_text book.now.scoring book.now.positions) }
+    ensures positions { IfOk result (λ text. AreBookPositions book.now.positions) }
 {
     let mut text = Vec::new(alloc);
     match book.write(&mut text) {
@@ -229,6 +219,8 @@ pub fn ready_book<'a, T: Files>(
 
 /// Writes the book, if one is to be written. The error is `CannotWrite` with the book's name.
 pub fn write_book<'a, T: Files>(rt: &T, book: &Option<NewFile<'a>>) -> Result<(), SolveError<'a>>
+    ensures named { IfErr result (λ error. IfSome book.now
+        (λ file. (kind : ErrorKind) × (error ≡ Program (CannotWrite file.name kind)))) }
     ensures late { IfErr result (λ error. IsSilent error → ⊥) }
     ensures status { IfErr result (λ error. solve_status_of error ≡ 3) }
 {

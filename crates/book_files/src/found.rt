@@ -1,6 +1,6 @@
 //! What is found under the name of a book that is to be written.
 
-ghost use Rattle.std.specs.Prelude.{◌≡◌, ◌⊎◌, ◌↔◌};
+ghost use Rattle.std.specs.Prelude.{◌≡◌, ◌⊎◌, ◌↔◌, ℕ, List, take};
 ghost use Rattle.obf_text.specs.LineText.{lines_of};
 ghost use Rattle.book_files.specs.BookPlace.{GivesWay, IsFree};
 
@@ -33,12 +33,12 @@ pub enum Found {
     BookIn,
 }
 
-// What a regular file that begins like this is.
-fn found_in(front: &[u8]) -> Found
-    ensures free { IsFree result ↔ GivesWay (lines_of front.now) }
+// What a regular file with this text is.
+fn found_text(text: &[u8]) -> Found
+    ensures free { IsFree result ↔ GivesWay (lines_of text.now) }
     ensures other { IsFree result ⊎ (result ≡ Found.Other) }
 {
-    match split_lines(front).next() {
+    match split_lines(text).next() {
         Some(line) => {
             if header_scoring(line).is_some() {
                 Found::Book
@@ -48,6 +48,16 @@ fn found_in(front: &[u8]) -> Found
         }
         None => Found::Empty,
     }
+}
+
+// What a regular file is that begins with these bytes: as many as are read to find a header, or all
+// if there are fewer.
+fn found_in(front: &[u8]) -> Found
+    ensures free { (text : List ℕ) → front.now ≡ take HEADER_ROOM text
+        → IsFree result ↔ GivesWay (lines_of text) }
+    ensures other { IsFree result ⊎ (result ≡ Found.Other) }
+{
+    found_text(front)
 }
 
 // Whether the name leads to this regular file.

@@ -1,6 +1,6 @@
 //! The errors that end `ffosolve` early.
 
-ghost use Rattle.std.specs.Prelude.{◌≡◌, ◌⊎◌, OnOk, Some};
+ghost use Rattle.std.specs.Prelude.{◌≡◌, ◌⊎◌, Some};
 ghost use Rattle.std.specs.IoError.{error_kind};
 ghost use Rattle.std.specs.Io.KnownBytes.{Appends};
 ghost use Rattle.book_files.specs.SolveError.{IsSilent, book_error, run_error};
@@ -8,11 +8,11 @@ ghost use Rattle.book_files.specs.SolveError.{solve_error_cause, solve_error_rea
 ghost use Rattle.program_parts.specs.declared.program_error.ProgramError.TheVariants.{BadInput, Memory};
 ghost use Rattle.book_files.specs.declared.solve_error.SolveError.TheVariants.{BadPlace, Program};
 
-use program_parts::{ProgramError, cause_text, print_cause};
+use program_parts::{ErrorStream, ProgramError, cause_text, print_cause};
 use program_settings::InputFault;
 use solved_book::BookFault;
 use std::alloc::AllocError;
-use std::io::{ErrorKind, Write};
+use std::io::ErrorKind;
 use std::{fmt, io};
 use suite_runs::RunFault;
 
@@ -128,7 +128,8 @@ pub(crate) fn place_error<'a>(fault: &io::Error, name: &'a str) -> SolveError<'a
 }
 
 impl SolveError<'_> {
-    // Why a file can't be read or written; empty if nothing is known of it.
+    // Why a file can't be read or written, or what takes more and larger files; empty if nothing is
+    // known of it.
     fn cause(&self) -> &'static str
         ensures { result.now ≡ solve_error_cause self.now }
     {
@@ -141,13 +142,13 @@ impl SolveError<'_> {
     }
 
     /// Writes the error as one line: `ffosolve: `, the reason, and LF. A second line has the cause,
-    /// if it is known. The error of the call is that of the writer.
-    pub fn print<E: Write>(&self, errors: &mut E) -> io::Result<()>
-        ensures { OnOk result (Appends
-            (E.contents errors.old) (E.contents errors.new) (solve_error_text self.now)) }
+    /// if it is known.
+    pub fn print<E: ErrorStream>(&self, errors: &mut E)
+        ensures { Appends
+            (E.contents errors.old) (E.contents errors.new) (solve_error_text self.now) }
     {
         let (program, error) = ("ffosolve", self);
-        write!(errors, "{program}: {error}\n")?;
+        errors.show(format_args!("{program}: {error}\n"));
         print_cause(program, self.cause(), errors)
     }
 }

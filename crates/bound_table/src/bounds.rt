@@ -27,6 +27,10 @@ pub trait Bounds {
     /// not.
     fn store(&self, position: &Pos, range: Range)
         requires { IsTrueOf (scoring self.now) position.now range };
+
+    /// Is told of each evaluation that orders moves or begins a search. Tests count them.
+    #[inline]
+    fn note_evaluation(&self) {}
 }
 
 /// A table that keeps nothing.

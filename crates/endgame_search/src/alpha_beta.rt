@@ -185,7 +185,7 @@ fn search_by_worth<T: Bounds>(table: &T, position: Pos, moves: u64, bound: i8) -
     if let Some(score) = enhanced_cutoff(table, position, &children, bound) {
         return score;
     }
-    judge_children(position, bound, &mut children);
+    judge_children(table, position, bound, &mut children);
     sort_children(&mut children);
     search_children(table, position, &children, BELOW_ALL_SCORES, bound)
 }

@@ -4,7 +4,8 @@
 ghost use Rattle.std.specs.Prelude.{◌<◌};
 
 use crate::weights::WEIGHTS;
-use othello_bits::Pos;
+use bound_table::Bounds;
+use othello_bits::{Pos, Sym};
 
 // A disc in the units of an evaluation.
 pub(crate) const DISC: i32 = 8;
@@ -81,30 +82,13 @@ fn rows_worth(own: u64, opp: u64) -> i32 {
     first.wrapping_add(edge_worth(Row::at(own, opp, 56), Row::at(own, opp, 48)))
 }
 
-// The squares of `half` exchanged with those `step` above them.
-#[inline(always)]
-fn exchanged(mask: u64, half: u64, step: u32) -> u64
-    requires { step < 64 }
-{
-    let differ = (mask ^ (mask >> step)) & half;
-    mask ^ differ ^ (differ << step)
-}
-
-// The mask with rows and columns exchanged.
-#[inline(always)]
-fn transposed(mask: u64) -> u64 {
-    let squares = exchanged(mask, 0x00aa_00aa_00aa_00aa, 7);
-    let blocks = exchanged(squares, 0x0000_cccc_0000_cccc, 14);
-    exchanged(blocks, 0x0000_0000_f0f0_f0f0, 28)
-}
-
 // The number of squares in a mask.
 #[inline(always)]
 fn number(mask: u64) -> u8 {
     mask.count_ones() as u8
 }
 
-// What so many corners are worth: more while more squares are empty.
+// What this number of corners is worth: more while more squares are empty.
 #[inline(always)]
 fn corners_worth(corners: u8, empties: u8) -> i32 {
     ((17 * u32::from(empties) / 4 + 4) * u32::from(corners)) as i32
@@ -118,7 +102,8 @@ fn mobility_worth(moves: u64, replies: u64) -> i16 {
 
 // What a position is worth for the mover, whose moves are given. No sum wraps, but nothing depends
 // on that.
-pub(crate) fn evaluate(position: Pos, moves: u64) -> i32 {
+pub(crate) fn evaluate<T: Bounds>(table: &T, position: Pos, moves: u64) -> i32 {
+    table.note_evaluation();
     let own = position.own();
     let opp = position.opp();
     let empties = position.empties();
@@ -128,5 +113,5 @@ pub(crate) fn evaluate(position: Pos, moves: u64) -> i32 {
         .wrapping_add(corners_worth(number(own & CORNERS), empties))
         .wrapping_sub(corners_worth(number(opp & CORNERS), empties))
         .wrapping_add(rows_worth(own, opp))
-        .wrapping_add(rows_worth(transposed(own), transposed(opp)))
+        .wrapping_add(rows_worth(Sym::Transpose.mask(own), Sym::Transpose.mask(opp)))
 }

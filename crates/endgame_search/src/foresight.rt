@@ -9,6 +9,7 @@ ghost use Rattle.endgame_search.specs.Children.{IsChildOf};
 use crate::evaluation::{DISC, evaluate};
 use crate::move_order::{Child, add_children, next_child, sort_children};
 use arrayvec::ArrayVec;
+use bound_table::Bounds;
 use othello_bits::Pos;
 use othello_rules::{GREATEST_SCORE, Scoring};
 
@@ -21,11 +22,18 @@ pub(crate) const GREATEST_WORTH: i32 = DISC * GREATEST_SCORE as i32;
 // What a position is worth after some plies, if that is between `low` and `high`; otherwise a bound
 // of it. A pass is no ply.
 #[cycle(foresee)]
-pub(crate) fn foresee(position: Pos, moves: u64, plies: u8, low: i32, high: i32) -> i32
+pub(crate) fn foresee<T: Bounds>(
+    table: &T,
+    position: Pos,
+    moves: u64,
+    plies: u8,
+    low: i32,
+    high: i32,
+) -> i32
     requires { moves ≡ moves_of position }
 {
     if moves != 0 {
-        return foresee_moves(position, moves, plies, low, high);
+        return foresee_moves(table, position, moves, plies, low, high);
     }
     let passed = position.pass();
     let replies = passed.moves();
@@ -33,6 +41,7 @@ pub(crate) fn foresee(position: Pos, moves: u64, plies: u8, low: i32, high: i32)
         return final_worth(position);
     }
     foresee_moves(
+        table,
         passed,
         replies,
         plies,
@@ -50,33 +59,54 @@ fn final_worth(position: Pos) -> i32 {
 // What a position is worth after some plies where the mover has a move.
 #[cycle(foresee)]
 #[inline(always)]
-fn foresee_moves(position: Pos, moves: u64, plies: u8, low: i32, high: i32) -> i32
+fn foresee_moves<T: Bounds>(
+    table: &T,
+    position: Pos,
+    moves: u64,
+    plies: u8,
+    low: i32,
+    high: i32,
+) -> i32
     requires { moves ≡ moves_of position }
 {
     match plies {
-        0 => evaluate(position, moves),
-        1 => foresee_one_ply(position, moves, high),
-        _ => foresee_by_list(position, moves, plies, low, high),
+        0 => evaluate(table, position, moves),
+        1 => foresee_one_ply(table, position, moves, high),
+        _ => foresee_by_list(table, position, moves, plies, low, high),
     }
 }
 
 // The same for two plies or more.
 #[cycle(foresee)]
 #[inline(never)]
-fn foresee_by_list(position: Pos, moves: u64, plies: u8, low: i32, high: i32) -> i32
+fn foresee_by_list<T: Bounds>(
+    table: &T,
+    position: Pos,
+    moves: u64,
+    plies: u8,
+    low: i32,
+    high: i32,
+) -> i32
     requires moves { moves ≡ moves_of position }
     requires some { 0 < plies }
 {
     let mut children = ArrayVec::<Child, 64>::new();
     add_children(position, moves, &mut children);
     sort_children(&mut children);
-    foresee_children(position, &children, plies, low, high)
+    foresee_children(table, position, &children, plies, low, high)
 }
 
 // The same by the listed children.
 #[cycle(foresee)]
 #[inline(always)]
-fn foresee_children(position: Pos, children: &[Child], plies: u8, low: i32, high: i32) -> i32
+fn foresee_children<T: Bounds>(
+    table: &T,
+    position: Pos,
+    children: &[Child],
+    plies: u8,
+    low: i32,
+    high: i32,
+) -> i32
     requires children { All (IsChildOf position) children.now }
     requires some { 0 < plies }
 {
@@ -84,6 +114,7 @@ fn foresee_children(position: Pos, children: &[Child], plies: u8, low: i32, high
     for child in children {
         let least = low.max(best);
         let worth = foresee(
+            table,
             child.position,
             child.replies,
             plies - 1,
@@ -101,7 +132,7 @@ fn foresee_children(position: Pos, children: &[Child], plies: u8, low: i32, high
 
 // The same for one ply, which needs no list: the moves are tried in the order of their squares.
 #[inline(never)]
-fn foresee_one_ply(position: Pos, moves: u64, high: i32) -> i32
+fn foresee_one_ply<T: Bounds>(table: &T, position: Pos, moves: u64, high: i32) -> i32
     requires { moves ≡ moves_of position }
 {
     let mut best = BELOW_ALL_WORTHS;
@@ -109,7 +140,7 @@ fn foresee_one_ply(position: Pos, moves: u64, high: i32) -> i32
     while rest != 0 {
         let next = next_child(position, rest);
         let child = next.child;
-        let worth = foresee_no_ply(child.position, child.replies).wrapping_neg();
+        let worth = foresee_no_ply(table, child.position, child.replies).wrapping_neg();
         best = best.max(worth);
         if best >= high {
             return best;
@@ -121,16 +152,16 @@ fn foresee_one_ply(position: Pos, moves: u64, high: i32) -> i32
 
 // The same for no ply.
 #[inline(always)]
-fn foresee_no_ply(position: Pos, moves: u64) -> i32 {
+fn foresee_no_ply<T: Bounds>(table: &T, position: Pos, moves: u64) -> i32 {
     if moves != 0 {
-        return evaluate(position, moves);
+        return evaluate(table, position, moves);
     }
     let passed = position.pass();
     let replies = passed.moves();
     if replies == 0 {
         return final_worth(position);
     }
-    evaluate(passed, replies).wrapping_neg()
+    evaluate(table, passed, replies).wrapping_neg()
 }
 
 // The fewest empty squares of a position whose value is guessed before it is searched.
@@ -155,7 +186,7 @@ fn guess_by(worth: u32) -> i8
 }
 
 // A guess of a position's value.
-pub(crate) fn first_guess(position: Pos) -> i8
+pub(crate) fn first_guess<T: Bounds>(table: &T, position: Pos) -> i8
     ensures { IsScore result }
 {
     let empties = position.empties();
@@ -164,6 +195,7 @@ pub(crate) fn first_guess(position: Pos) -> i8
     }
     let plies = (empties - LEFT_BY_GUESS).min(MOST_PLIES_OF_GUESS);
     let worth = foresee(
+        table,
         position,
         position.moves(),
         plies,

@@ -8,6 +8,7 @@ ghost use Rattle.endgame_search.specs.Children.{AreChildrenOf, IsSameChild};
 use crate::evaluation::DISC;
 use crate::foresight::{GREATEST_WORTH, foresee};
 use crate::move_order::Child;
+use bound_table::Bounds;
 use othello_bits::Pos;
 
 // The fewest empty squares of a position whose children are sorted by what they are worth. With
@@ -24,7 +25,7 @@ fn plies_ahead(empties: u8) -> u8 {
     }
 }
 
-// From so many discs above the bound on, only the opponent's mobility counts.
+// From this many discs above the bound on, only the opponent's mobility counts.
 const ENOUGH: i32 = 32;
 
 // What more a child is worth makes no difference.
@@ -33,20 +34,27 @@ const MOST_WORTH: i32 = 2000;
 // The child in the order by what it is worth for the opponent after some plies, and by the opponent's
 // mobility. All that is worth no more than `enough` counts alike.
 #[inline(always)]
-fn judged(child: Child, plies: u8, enough: i32) -> Child
+fn judged<T: Bounds>(table: &T, child: Child, plies: u8, enough: i32) -> Child
     requires replies { child.replies ≡ moves_of child.position }
     requires least { negsuc 1999 ≤ℤ enough }
     requires most { enough ≤ℤ pos 2000 }
     ensures { IsSameChild child result }
 {
-    let worth = foresee(child.position, child.replies, plies, enough, GREATEST_WORTH);
+    let worth = foresee(
+        table,
+        child.position,
+        child.replies,
+        plies,
+        enough,
+        GREATEST_WORTH,
+    );
     let above = worth.clamp(enough, MOST_WORTH) - enough;
     child.judged(above as u16)
 }
 
 // Gives each child of a position its place in the order of a search for moves that are worth more
 // than the bound, if many squares are empty; with fewer it stays that by mobility. Nothing is sorted.
-pub(crate) fn judge_children(position: Pos, bound: i8, children: &mut [Child])
+pub(crate) fn judge_children<T: Bounds>(table: &T, position: Pos, bound: i8, children: &mut [Child])
     requires { AreChildrenOf position children.old }
     ensures { AreChildrenOf position children.new }
 {
@@ -56,6 +64,6 @@ pub(crate) fn judge_children(position: Pos, bound: i8, children: &mut [Child])
     let plies = plies_ahead(position.empties());
     let enough = DISC * (-i32::from(bound) - ENOUGH);
     for child in children.iter_mut() {
-        *child = judged(*child, plies, enough);
+        *child = judged(table, *child, plies, enough);
     }
 }

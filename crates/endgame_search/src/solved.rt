@@ -97,25 +97,26 @@ pub fn exact_value<T: Bounds>(table: &T, position: Pos) -> i8
     ensures value { result ≡ value_of (T.scoring table.now) position }
     ensures in_range { IsScore result }
 {
-    let start = first_guess(position);
+    let start = first_guess(table, position);
     let score = search_window(table, position, start, BELOW_ALL_SCORES, ABOVE_ALL_SCORES);
     store_if_deep(table, position, BELOW_ALL_SCORES, ABOVE_ALL_SCORES, score);
     score
 }
 
-/// Solves a task: returns its position with the exact value and all moves that attain it. The table
-/// must have the scoring of the task.
+/// Solves a task: returns its position with the exact value and all moves that attain it. That they
+/// are exact is the invariant of `Solved`, and the clause of `Solved::answer`. The table must have
+/// the scoring of the task.
 pub fn solve<T: Bounds>(table: &T, task: Task) -> Solved
     requires { task.scoring ≡ T.scoring table.now }
     ensures { result ≡ task }
 {
     let position = task.pos();
     if position.moves() == 0 {
-        return solved_without_moves(table, task, first_guess(position));
+        return solved_without_moves(table, task, first_guess(table, position));
     }
     let possible = possible_scores(table, position);
     // Null windows up to the guess find a value up to it, or a lower bound of a greater one.
-    let guess = guess_within(position, possible);
+    let guess = guess_within(table, position, possible);
     let low = search_window(table, position, guess, BELOW_ALL_SCORES, guess + 1);
     let high = if low > guess { possible.high() } else { low };
     let best = best_moves(table, position, low, high);
@@ -146,10 +147,10 @@ pub fn confirm<T: Bounds>(table: &T, task: Task, claim: Claim) -> Solved
 }
 
 // A guess of a position's value that lies in the range.
-fn guess_within(position: Pos, possible: Range) -> i8
+fn guess_within<T: Bounds>(table: &T, position: Pos, possible: Range) -> i8
     ensures { IsScore result }
 {
-    first_guess(position).clamp(possible.low(), possible.high())
+    first_guess(table, position).clamp(possible.low(), possible.high())
 }
 
 // Solves a task whose position is a pass, or the end of the game. The search is shortest if the
@@ -205,7 +206,7 @@ fn best_moves<T: Bounds>(table: &T, position: Pos, low: i8, high: i8) -> BestMov
 {
     let mut children = ArrayVec::<Child, 64>::new();
     add_children(position, position.moves(), &mut children);
-    judge_children(position, low, &mut children);
+    judge_children(table, position, low, &mut children);
     sort_children(&mut children);
     best_children(table, position, &children, low, high)
 }

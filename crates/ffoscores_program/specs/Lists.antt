@@ -12,6 +12,7 @@ use Rattle.program_settings.specs.Settings.{criteria_of}
 use Rattle.program_parts.specs.CommandLine.{AsksForText}
 use Rattle.program_parts.specs.Endings.{EndsProgram}
 use Rattle.program_parts.specs.Inputs.{AreTextsOf}
+use Rattle.program_parts.specs.ProgramError.{error_text}
 use Rattle.program_parts.specs.declared.program_error.ProgramError.{ProgramError}
 use Rattle.program_parts.specs.declared.program_error.ProgramError.TheVariants.{BadWords, CannotWrite, Memory}
 use Rattle.ffoscores_program.specs.Options.{AsksLists, ListRequest, ffoscores}
@@ -69,10 +70,24 @@ pub record EndsFfoscores (words : List (List ℕ)) (given old new : Option (List
 -- the error of the program for a fault of printing
 abbrev pub IsListError : ListFault → ProgramError → Type 0
 IsListError list.Memory error = error ≡ Memory
-IsListError list.CannotWrite (CannotWrite name kind) = name.now ≡ codes "standard output"
-IsListError list.CannotWrite error = ⊥
+IsListError (list.CannotWrite kind) (CannotWrite name other) =
+    (name.now ≡ codes "standard output") × (other ≡ kind)
+IsListError (list.CannotWrite kind) error = ⊥
 
 -- the exit status of `ffoscores` after an error
 abbrev pub list_status_of : ProgramError → ℕ
 list_status_of BadWords = 2
 list_status_of _ = 3
+
+-- An error with this status ended the call: standard error, which held `old` before and holds `new`
+-- now, has the lines of the error, and nothing else is new.
+pub record ShowsError (old new : Option (List ℕ)) (status : ℕ) : Type 0 where
+  pub error : ProgramError
+  pub ended : list_status_of error ≡ status
+  pub shown : Appends old new (error_text (codes "ffoscores") error)
+
+-- What standard error got from a call, by its status: nothing with 0 or 1, and the lines of an error
+-- with 3.
+pub record ShowsEnding (old new : Option (List ℕ)) (status : ℕ) : Type 0 where
+  pub quiet : (status ≡ 0) ⊎ (status ≡ 1) → new ≡ old
+  pub failed : status ≡ 3 → ShowsError old new status

@@ -1,11 +1,13 @@
 //! The exit status of `ffoscores`.
 
-ghost use Rattle.std.specs.Prelude.{◌≡◌, IfErr, IfOk, IsErr};
+ghost use Rattle.std.specs.Prelude.{◌≡◌, IfErr, IfOk, IsErr, codes};
 ghost use Rattle.std.specs.IoError.{error_kind};
 ghost use Rattle.std.specs.Process.{exit_status};
 ghost use Rattle.program_parts.specs.Inputs.{names_of};
 ghost use Rattle.program_parts.specs.Endings.{EndsUnread};
-ghost use Rattle.ffoscores_program.specs.Lists.{EndsFfoscores, list_status_of};
+ghost use Rattle.program_parts.specs.ProgramError.{error_text};
+ghost use Rattle.std.specs.Io.KnownBytes.{Appends};
+ghost use Rattle.ffoscores_program.specs.Lists.{EndsFfoscores, ShowsEnding, ShowsError, list_status_of};
 
 use crate::ffoscores::list_program;
 use program_parts::{ErrorStream, ProgramError, borrow_words, words_error};
@@ -43,12 +45,13 @@ fn list_status(error: &ProgramError<'_>) -> u8
     }
 }
 
-/// Prints the error that ends the program, and returns the exit status. A failure of standard error
-/// changes nothing.
-pub(crate) fn print_error<E: Write>(error: &ProgramError<'_>, errors: &mut E) -> u8
-    ensures { result ≡ list_status_of error.now }
+/// Prints the error that ends the program, and returns the exit status.
+pub(crate) fn print_error<E: ErrorStream>(error: &ProgramError<'_>, errors: &mut E) -> u8
+    ensures status { result ≡ list_status_of error.now }
+    ensures shown { Appends
+        (E.contents errors.old) (E.contents errors.new) (error_text (codes "ffoscores") error.now) }
 {
-    let _ = error.print("ffoscores", errors);
+    error.print("ffoscores", errors);
     list_status(error)
 }
 
@@ -65,8 +68,12 @@ pub fn list_program_of<T: Files + Threads + Wait, R: Read, W: Write, E: ErrorStr
 ) -> ExitStatus
     ensures read { IfOk words (λ all. EndsFfoscores (names_of all.items)
         (R.remaining input.old) (W.contents output.old) (W.contents output.new) result.status) }
+    ensures shown { IfOk words
+        (λ all. ShowsEnding (E.contents errors.old) (E.contents errors.new) result.status) }
     ensures unread { IsErr words
         → EndsUnread 3 (W.contents output.old) (W.contents output.new) result.status }
+    ensures unread_shown { IsErr words
+        → ShowsError (E.contents errors.old) (E.contents errors.new) result.status }
     ensures memory { IfErr words (λ fault. error_kind fault ≡ ErrorKind.OutOfMemory
         → result.status ≡ 3) }
     ensures words { IfErr words (λ fault. (error_kind fault ≡ ErrorKind.OutOfMemory → ⊥)

@@ -7,16 +7,16 @@ ghost use Rattle.scored_lines.specs.Lines.{lists_right, lists_text};
 ghost use Rattle.list_printer.specs.Output.{AppendsFront};
 ghost use Rattle.program_settings.specs.Settings.{criteria_of};
 ghost use Rattle.ffoscores_program.specs.Options.{list_request_of};
-ghost use Rattle.ffoscores_program.specs.Lists.{EndsFfoscores, IsListError, PrintsLists, StopsLists, list_status_of};
+ghost use Rattle.ffoscores_program.specs.Lists.{EndsFfoscores, IsListError, PrintsLists, ShowsEnding, StopsLists, list_status_of};
 
 use crate::exit_status::print_error;
 use crate::ffoscores_options::{ListOptions, read_list_options};
 use bound_table::BoundTable;
 use list_printer::{ListFault, write_lists};
-use program_parts::{OptionFault, ProgramError, end_without_options, read_files};
+use program_parts::{ErrorStream, OptionFault, ProgramError, end_without_options, read_files};
 use program_settings::{Settings, check_files};
 use std::alloc::Global;
-use std::io::{ErrorKind, Read, Write};
+use std::io::{Read, Write};
 use std::rt::Files;
 use std::sync::Wait;
 use std::thread::Threads;
@@ -29,7 +29,7 @@ fn list_error(fault: ListFault) -> ProgramError<'static>
 {
     match fault {
         ListFault::Memory => ProgramError::Memory,
-        ListFault::CannotWrite => { ProgramError::CannotWrite("standard output", ErrorKind::Other) }
+        ListFault::CannotWrite(kind) => ProgramError::CannotWrite("standard output", kind),
     }
 }
 
@@ -93,10 +93,10 @@ fn carry_out<'a, T: Files + Threads + Wait, R: Read, W: Write>(
 /// and printed; 1 if a line is refused or there is a remark; 2 if the command line is
 /// refused; 3 if a list can't be read, is too large or one of too many, if standard output
 /// can't be written, or if memory ran out. An error that ends the program early is printed on
-/// standard error, as one line or as clap's text, and the lines that were printed before stay; a
-/// failure of standard error changes nothing.
+/// standard error, as one or two lines or as clap's text, and the lines that were printed before
+/// stay; a failure of standard error changes nothing.
 #[tactic(auto, using(crate::proofs::ListEndings::asked_faultless))]
-pub fn list_program<T: Files + Threads + Wait, R: Read, W: Write, E: Write>(
+pub fn list_program<T: Files + Threads + Wait, R: Read, W: Write, E: ErrorStream>(
     rt: &T,
     alloc: Global,
     words: &[&str],
@@ -104,8 +104,9 @@ pub fn list_program<T: Files + Threads + Wait, R: Read, W: Write, E: Write>(
     output: &mut W,
     errors: &mut E,
 ) -> u8
-    ensures { EndsFfoscores (map (λ word. word.now) words.now)
+    ensures ends { EndsFfoscores (map (λ word. word.now) words.now)
         (R.remaining input.old) (W.contents output.old) (W.contents output.new) result }
+    ensures shown { ShowsEnding (E.contents errors.old) (E.contents errors.new) result }
 {
     match read_list_options(alloc, words) {
         Ok(asked) => match carry_out(rt, alloc, &asked, input, output) {

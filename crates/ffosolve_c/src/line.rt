@@ -45,8 +45,8 @@ pub fn c_line(line: &Line) -> FfosolveLine
     }
 }
 
-/// The number in a fault: how many squares the line has, or a column from 1. Out of memory has
-/// none: it is `otherwise` then.
+/// The number in a fault: how many squares the line has, or a column from 1. For out of memory,
+/// which has no number, it is `otherwise`.
 pub fn place_or(fault: LineFault, otherwise: usize) -> usize
     ensures place { IsOfLine (call_status (fault_refusal fault)) → result ≡ place_of fault }
     ensures none { (IsOfLine (call_status (fault_refusal fault)) → ⊥) → result ≡ otherwise }

@@ -4,6 +4,8 @@ ghost use Rattle.std.specs.Prelude.{◌≡◌, ◌<◌, ◌++◌, IfSome, IfNone
 ghost use Rattle.obf_text.specs.LineText.{lines_of};
 ghost use Rattle.list_printer.specs.Chunks.{EndsLine, left_lines, left_size};
 
+use obf_text::{line_len, without_first_blanks};
+
 // Scoring a line with at most this many empty squares takes less time than starting a thread.
 const FEW_EMPTIES: usize = 7;
 
@@ -22,28 +24,6 @@ pub(crate) struct Chunk<'a> {
     /// Whether the calling thread is to score the lines: there are no workers, or scoring takes
     /// less time than starting a thread.
     pub is_for_caller: bool,
-}
-
-// The number of bytes of a text's first line, with its end.
-fn line_len(text: &[u8]) -> usize
-    requires { 0 < length text.now }
-    ensures ended { EndsLine text.now result }
-    ensures some { 0 < result }
-{
-    for (at, byte) in text.iter().enumerate() {
-        if *byte == b'\n' {
-            return at + 1;
-        }
-    }
-    text.len()
-}
-
-// A text without the spaces and tabs at its start.
-fn without_first_blanks(text: &[u8]) -> &[u8] {
-    match text.iter().position(|b| *b != b' ' && *b != b'\t') {
-        Some(start) => &text[start..],
-        None => &text[text.len()..],
-    }
 }
 
 // The number of empty squares on the board of a text's first line: among the 64 bytes after its

@@ -3,6 +3,7 @@
 ghost use Rattle.std.specs.Prelude.{◌≡◌, ◌≤◌, ◌<◌, IfOk, OnErr, OnOk, [], drop, false, length, true};
 ghost use Rattle.std.specs.Arc.{arc_value};
 ghost use Rattle.std.specs.Io.KnownBytes.{Appends};
+ghost use Rattle.std.specs.IoError.{error_kind};
 ghost use Rattle.endgame_search.specs.Limits.{most_empties};
 ghost use Rattle.obf_text.specs.LineText.{texts_of};
 ghost use Rattle.scored_lines.specs.Lines.{lists_right, lists_text};
@@ -31,7 +32,7 @@ pub enum ListFault {
     Memory,
     /// The writer failed, or took no byte of what was left.
     #[error("cannot write")]
-    CannotWrite,
+    CannotWrite(ErrorKind),
 }
 
 impl From<AllocError> for ListFault {
@@ -51,10 +52,10 @@ impl<T: Drop> From<AllocFailed<T>> for ListFault {
 }
 
 impl From<io::Error> for ListFault {
-    ghost from_gives = { λ _ fault. fault ≡ CannotWrite };
+    ghost from_gives = { λ given fault. fault ≡ CannotWrite (error_kind given) };
 
-    fn from(_error: io::Error) -> ListFault {
-        ListFault::CannotWrite
+    fn from(error: io::Error) -> ListFault {
+        ListFault::CannotWrite(error.kind())
     }
 }
 

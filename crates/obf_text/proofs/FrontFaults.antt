@@ -1,5 +1,5 @@
 -- A fault at a byte of a line is that of each longer line.
-use Rattle.std.proofs.Common.{◌≡◌, ℕ, ◌+◌, ◌<◌, ◌≤◌, List, [], ◌∷◌, ◌++◌, length, ap, sym, subst, refl, ◌∙◌, arith, append_assoc, length-append}
+use Rattle.std.proofs.Common.{◌≡◌, ℕ, ◌<◌, ◌≤◌, List, [], ◌∷◌, ◌++◌, length, ap, sym, subst, ◌∙◌, arith, append_assoc}
 use Rattle.std.proofs.lemmas.Grind.{common_steps}
 use Rattle.obf_text.specs.Obf.{Faulty, HasBadCell, HasBadSide, IsAtByte, IsNoSide, Meaning, Says, item_of}
 use Rattle.obf_text.specs.declared.line_fault.LineFault.{LineFault}

@@ -102,12 +102,12 @@ fn field_of_text(text: &[u8]) -> Option<(ListedMove, i8)>
     }
 }
 
-// A piece without its leading blanks.
-fn without_first_blanks(piece: &[u8]) -> &[u8]
-    ensures { result.now ≡ without_first_blanks piece.now }
+/// A text without its leading blanks, spaces and tabs.
+pub fn without_first_blanks(text: &[u8]) -> &[u8]
+    ensures { result.now ≡ without_first_blanks text.now }
 {
-    let start = blank_count(piece);
-    &piece[start..]
+    let start = blank_count(text);
+    &text[start..]
 }
 
 // A piece without its trailing blanks.

@@ -24,9 +24,9 @@ mod reader;
 mod writer;
 
 pub use entries::{Item, Line, ListedMove, greatest_score};
-pub use fields::{field_of, without_blanks};
-pub use line_fault::{LineFault, write_fault, write_too_many};
-pub use lines::{Lines, split_lines};
+pub use fields::{field_of, without_blanks, without_first_blanks};
+pub use line_fault::{LineFault, ManyEmpties};
+pub use lines::{Lines, line_len, split_lines};
 pub use pieces::{Pieces, comment_of, line_pieces};
 pub use reader::{fault_of_front, read_line};
 pub use writer::{move_bytes, score_bytes, write_entry, write_line};

@@ -1,14 +1,12 @@
 //! Why a line is refused, and the words for it.
 
-ghost use Rattle.std.specs.Prelude.{◌≡◌, OnOk, Some};
-ghost use Rattle.std.specs.Io.KnownBytes.{Appends};
+ghost use Rattle.std.specs.Prelude.{◌≡◌, Some};
 ghost use Rattle.obf_text.specs.Faults.{line_fault_text, too_many_text};
 ghost use Rattle.obf_text.specs.declared.line_fault.LineFault.TheVariants.{Memory};
 
 use std::alloc::AllocError;
 use std::error::Error;
-use std::io::Write;
-use std::{fmt, io};
+use std::fmt;
 
 /// Why a line can't be read. A column is the place of a byte in the line, counted from 1. A report
 /// prints the text of a fault as its reason.
@@ -49,20 +47,21 @@ impl From<AllocError> for LineFault {
     }
 }
 
-/// Writes the text of a fault, as reports and lists have it. The error is that of the writer.
-pub fn write_fault<W: Write>(writer: &mut W, fault: LineFault) -> io::Result<()>
-    ensures { OnOk result
-        (Appends (W.contents writer.old) (W.contents writer.new) (line_fault_text fault)) }
-{
-    write!(writer, "{fault}")
+/// Why a position is not solved: the number of its empty squares, and the limit, which is below it.
+/// Reports and lists print the text as their reason.
+#[derive(Clone, Copy, PartialEq, Eq, Debug, Drop)]
+pub struct ManyEmpties {
+    pub found: u8,
+    pub limit: u8,
 }
 
-/// Writes that a position has `found` empty squares, more than the limit, as reports and lists have
-/// it. The error is that of the writer.
-#[tactic(auto, unfolding(crate::specs::Faults::too_many_text))]
-pub fn write_too_many<W: Write>(writer: &mut W, found: u8, limit: u8) -> io::Result<()>
-    ensures { OnOk result
-        (Appends (W.contents writer.old) (W.contents writer.new) (too_many_text found limit)) }
-{
-    write!(writer, "{found} empties, limit {limit}")
+impl fmt::Display for ManyEmpties {
+    ghost output = { λ many. Some (too_many_text many.found many.limit) };
+
+    #[tactic(auto, unfolding(crate::specs::Faults::too_many_text))]
+    fn fmt<W: fmt::Write>(&self, f: &mut fmt::Formatter<W>) -> fmt::Result {
+        let found = self.found;
+        let limit = self.limit;
+        write!(f, "{found} empties, limit {limit}")
+    }
 }

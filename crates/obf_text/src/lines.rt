@@ -1,6 +1,6 @@
 //! A text cut into lines.
 
-ghost use Rattle.std.specs.Prelude.{◌≡◌, ◌==◌, ◌∷◌, ◌<◌, ◌≤◌, ◌+◌, length};
+ghost use Rattle.std.specs.Prelude.{◌≡◌, ◌≢◌, ◌⊎◌, ◌==◌, ◌∷◌, ◌<◌, ◌≤◌, ◌+◌, ◌-◌, All, length, slice_index, take};
 ghost use Rattle.std.specs.Iterator.{YieldsFirstRef, item_count};
 ghost use Rattle.std.specs.List.{position};
 ghost use Rattle.std.specs.Str.Lines.{strip_carriage_return};
@@ -32,6 +32,23 @@ pub fn split_lines(text: &[u8]) -> Lines<'_>
     ensures room { room_of (lines_of text.now) ≤ length text.now + 1 }
 {
     Lines { text }
+}
+
+/// The number of bytes of a text's first line, with the LF that ends it. It is 0 if the text is
+/// empty.
+pub fn line_len(text: &[u8]) -> usize
+    ensures within { result ≤ length text.now }
+    ensures some { 0 < length text.now → 0 < result }
+    ensures before { All (λ b. b ≢ 10) (take (result - 1) text.now) }
+    ensures ended { (result ≡ length text.now)
+        ⊎ ((0 < result) × (slice_index text.now (result - 1) ≡ 10)) }
+{
+    for (at, byte) in text.iter().enumerate() {
+        if *byte == b'\n' {
+            return at + 1;
+        }
+    }
+    text.len()
 }
 
 // The line without one CR at its end.

@@ -1,7 +1,6 @@
 -- Lemmas about the parts of the programs: the numbers of their options, what they read, and how they end.
 -- docs/architecture.md has the argument.
 pub mod InputLemmas
-pub mod ErrorLemmas
 pub mod NumberLemmas
 pub mod DefaultLemmas
 pub mod SettingsLemmas

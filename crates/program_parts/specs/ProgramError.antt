@@ -1,5 +1,7 @@
 -- The errors that end either program early, their reasons and their lines.
-use Rattle.std.specs.Prelude.{ℕ, List, [], ◌++◌, codes}
+use Rattle.std.specs.Prelude.{◌≡◌, ℕ, List, [], ◌++◌, Option, codes}
+use Rattle.std.specs.Io.KnownBytes.{Appends}
+use Rattle.std.specs.declared.io.ErrorKind.{ErrorKind}
 use Rattle.program_settings.specs.InputFault.{input_fault_text}
 use Rattle.program_parts.specs.Cause.{cause_line, cause_text, error_line}
 use Rattle.program_parts.specs.declared.program_error.ProgramError.{ProgramError}
@@ -13,8 +15,9 @@ error_reason BadWords = codes "cannot read the command line"
 error_reason (CannotRead name kind) = codes "cannot read " ++ name.now
 error_reason (CannotWrite name kind) = codes "cannot write " ++ name.now
 
--- why a file can't be read or written
+-- why a file can't be read or written, or what takes more and larger files
 abbrev pub error_cause : ProgramError → List ℕ
+error_cause (BadInput fault) = codes "ffosolve-many takes longer lists"
 error_cause (CannotRead name kind) = cause_text kind
 error_cause (CannotWrite name kind) = cause_text kind
 error_cause _ = []
@@ -29,3 +32,21 @@ abbrev pub IsReadError : ProgramError → Type 0
 IsReadError Memory = Unit {0}
 IsReadError (CannotRead name kind) = Unit {0}
 IsReadError _ = ⊥
+
+-- the error is one of reading the file or the stream of this name
+abbrev pub IsReadErrorOf : List ℕ → ProgramError → Type 0
+IsReadErrorOf text Memory = Unit {0}
+IsReadErrorOf text (CannotRead name kind) = name.now ≡ text
+IsReadErrorOf text _ = ⊥
+
+-- the error is that of writing standard output, which failed for a reason of this kind
+abbrev pub IsOutputError : ErrorKind → ProgramError → Type 0
+IsOutputError kind (CannotWrite name other) = (name.now ≡ codes "standard output") × (other ≡ kind)
+IsOutputError kind _ = ⊥
+
+-- Standard output failed for a reason of this kind, and standard error, which held `old` before and
+-- holds `new` now, has the lines of that error.
+pub record ShowsOutputError (program : List ℕ) (kind : ErrorKind) (old new : Option (List ℕ)) : Type 0 where
+  pub error : ProgramError
+  pub of_output : IsOutputError kind error
+  pub shown : Appends old new (error_text program error)

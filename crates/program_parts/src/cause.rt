@@ -1,18 +1,19 @@
 //! Why a file can't be read or written, in words.
 
-ghost use Rattle.std.specs.Prelude.{◌≡◌, OnOk};
+ghost use Rattle.std.specs.Prelude.{◌≡◌};
 ghost use Rattle.std.specs.Io.KnownBytes.{Appends};
 ghost use Rattle.program_parts.specs.Cause.{cause_line, cause_text};
 
-use std::io;
-use std::io::{ErrorKind, Write};
+use crate::streams::ErrorStream;
+use std::io::ErrorKind;
 
 /// Says in words why a file can't be read or written, by the kind of the error. The text is empty
-/// if there is no such file, or if the kind says nothing more.
+/// if the kind says nothing more.
 pub fn cause_text(kind: ErrorKind) -> &'static str
     ensures { result.now ≡ cause_text kind }
 {
     match kind {
+        ErrorKind::NotFound => "no such file or folder",
         ErrorKind::PermissionDenied => "permission denied",
         ErrorKind::AlreadyExists => "another file is in the way",
         ErrorKind::NotADirectory => "a part of its name is not a folder",
@@ -30,14 +31,13 @@ pub fn cause_text(kind: ErrorKind) -> &'static str
 }
 
 /// Writes the line of a cause: the name of the program, `: `, the cause and LF. Writes nothing if
-/// the cause is empty. The error is that of the writer.
+/// the cause is empty.
 #[tactic(auto, unfolding(crate::specs::Cause::cause_line, crate::specs::Cause::error_line))]
-pub fn print_cause<E: Write>(program: &str, cause: &str, errors: &mut E) -> io::Result<()>
-    ensures { OnOk result (Appends
-        (E.contents errors.old) (E.contents errors.new) (cause_line program.now cause.now)) }
+pub fn print_cause<E: ErrorStream>(program: &str, cause: &str, errors: &mut E)
+    ensures { Appends
+        (E.contents errors.old) (E.contents errors.new) (cause_line program.now cause.now) }
 {
-    if cause.is_empty() {
-        return Ok(());
+    if !cause.is_empty() {
+        errors.show(format_args!("{program}: {cause}\n"));
     }
-    write!(errors, "{program}: {cause}\n")
 }

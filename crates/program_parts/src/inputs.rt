@@ -1,15 +1,17 @@
 //! Reads the files of a program, or standard input.
 
-ghost use Rattle.std.specs.Prelude.{◌≡◌, ◌+◌, ◌≤◌, [], ◌∷◌, IfOk, IfErr, IfSome, length, min, take, vec_len};
+ghost use Rattle.std.specs.Prelude.{◌≡◌, ◌+◌, ◌≤◌, [], ◌∷◌, IfOk, IfErr, IfSome, IsErrOf, Ok, codes, length, min, take, vec_len};
+ghost use Rattle.std.specs.IoError.{error_kind};
 ghost use Rattle.program_settings.specs.Limits.{most_bytes, most_files};
 ghost use Rattle.program_parts.specs.Inputs.{AreFrontsOf, names_of};
-ghost use Rattle.program_parts.specs.ProgramError.{IsReadError};
+ghost use Rattle.program_parts.specs.ProgramError.{IsReadError, IsReadErrorOf};
+ghost use Rattle.program_parts.specs.declared.program_error.ProgramError.TheVariants.{CannotRead, Memory};
 ghost use Rattle.obf_text.specs.LineText.{texts_of};
 
 use crate::program_error::{ProgramError, read_error};
 use program_settings::{MOST_BYTES, MOST_FILES};
 use std::alloc::Global;
-use std::io::Read;
+use std::io::{ErrorKind, Read};
 use std::rt::Files;
 use std::{fs, io};
 
@@ -29,23 +31,31 @@ fn read_front<R: Read>(alloc: Global, reader: &mut R) -> io::Result<Vec<u8>>
     Ok(bytes)
 }
 
+// The text that was read of the file or the stream of this name, or the error for the fault.
+fn text_read<'a>(read: io::Result<Vec<u8>>, name: &'a str) -> Result<Vec<u8>, ProgramError<'a>>
+    ensures text { IfOk read (λ text. result ≡ Ok text) }
+    ensures memory { IfErr read (λ fault. error_kind fault ≡ ErrorKind.OutOfMemory
+        → IsErrOf result Memory) }
+    ensures fault { IfErr read (λ fault. (error_kind fault ≡ ErrorKind.OutOfMemory → ⊥)
+        → IsErrOf result (CannotRead name.entry (error_kind fault))) }
+    ensures named { IfErr result (IsReadErrorOf name.entry.now) }
+{
+    match read {
+        Ok(text) => Ok(text),
+        Err(fault) => Err(read_error(&fault, name)),
+    }
+}
+
 // Reads standard input as the one file, up to one byte more than a file may have.
 fn read_input<R: Read>(alloc: Global, input: &mut R) -> Result<Vec<Vec<u8>>, ProgramError<'static>>
     ensures ok { IfOk result (λ files. IfSome
         (R.remaining input.old) (λ all. texts_of files.items ≡ take (most_bytes + 1) all ∷ [])) }
-    ensures err { IfErr result IsReadError }
+    ensures named { IfErr result (IsReadErrorOf (codes "standard input")) }
 {
-    match read_front(alloc, input) {
-        Ok(text) => {
-            let mut files = Vec::new(alloc);
-            files.push(text)?;
-            Ok(files)
-        }
-        Err(fault) => match fault.kind() {
-            io::ErrorKind::OutOfMemory => Err(ProgramError::Memory),
-            _ => Err(ProgramError::CannotRead("standard input", io::ErrorKind::Other)),
-        },
-    }
+    let text = text_read(read_front(alloc, input), "standard input")?;
+    let mut files = Vec::new(alloc);
+    files.push(text)?;
+    Ok(files)
 }
 
 // Reads the file of this name, up to one byte more than a file may have.
@@ -69,10 +79,7 @@ fn read_named<'a, T: Files>(
     for name in names {
         let name = name.as_str();
         if files.len() <= MOST_FILES {
-            match read_file(rt, alloc, name) {
-                Ok(text) => files.push(text)?,
-                Err(fault) => return Err(read_error(&fault, name)),
-            }
+            files.push(text_read(read_file(rt, alloc, name), name)?)?;
         } else if let Err(fault) = fs::open(rt, name) {
             return Err(read_error(&fault, name));
         }

@@ -1,15 +1,16 @@
 //! The errors that end `ffosolve` or `ffoscores` early.
 
-ghost use Rattle.std.specs.Prelude.{◌≡◌, ◌⊎◌, OnOk, Some};
+ghost use Rattle.std.specs.Prelude.{◌≡◌, ◌⊎◌, Some};
 ghost use Rattle.std.specs.IoError.{error_kind};
 ghost use Rattle.std.specs.Io.KnownBytes.{Appends};
 ghost use Rattle.program_parts.specs.ProgramError.{IsReadError, error_cause, error_reason, error_text};
 ghost use Rattle.program_parts.specs.declared.program_error.ProgramError.TheVariants.{BadInput, BadWords, CannotRead, Memory};
 
 use crate::cause::{cause_text, print_cause};
+use crate::streams::ErrorStream;
 use program_settings::InputFault;
 use std::alloc::{AllocError, AllocFailed};
-use std::io::{ErrorKind, Write};
+use std::io::ErrorKind;
 use std::{fmt, io};
 
 /// An error that ends either program early. A name is that of a file, as the command line has it,
@@ -22,8 +23,7 @@ pub enum ProgramError<'a> {
     BadInput(InputFault),
     /// A word of the command line is not text.
     BadWords,
-    /// The file or the stream of this name can't be read. The kind of the system's error says why;
-    /// it is `Other` for a stream.
+    /// The file or the stream of this name can't be read. The kind of the system's error says why.
     CannotRead(&'a str, ErrorKind),
     /// The file or the stream of this name can't be written, with the kind of the error as before.
     CannotWrite(&'a str, ErrorKind),
@@ -68,7 +68,7 @@ impl fmt::Display for ProgramError<'_> {
     }
 }
 
-/// Makes the error for a failed read of the file of this name: `Memory` if memory was refused,
+/// Makes the error for a failed read of the file or the stream of this name: `Memory` if memory was refused,
 /// otherwise `CannotRead` with the name and the kind.
 pub fn read_error<'a>(fault: &io::Error, name: &'a str) -> ProgramError<'a>
     ensures memory { error_kind fault.now ≡ ErrorKind.OutOfMemory → result ≡ Memory }
@@ -96,7 +96,8 @@ pub fn words_error(fault: &io::Error) -> ProgramError<'static>
 }
 
 impl ProgramError<'_> {
-    /// Says why a file can't be read or written; empty if nothing is known of it.
+    /// Says why a file can't be read or written, or what takes more and larger files; empty if
+    /// nothing is known of it.
     pub fn cause(&self) -> &'static str
         ensures { result.now ≡ error_cause self.now }
     {
@@ -104,19 +105,20 @@ impl ProgramError<'_> {
             ProgramError::CannotRead(_, kind) | ProgramError::CannotWrite(_, kind) => {
                 cause_text(*kind)
             }
+            ProgramError::BadInput(_) => "ffosolve-many takes longer lists",
             _ => "",
         }
     }
 
     /// Writes the error as one line: the name of the program, `: `, the reason, and LF. A second
-    /// line has the cause, if it is known. The error of the call is that of the writer.
+    /// line has the cause, if it is known.
     #[tactic(auto, unfolding(crate::specs::ProgramError::error_text, crate::specs::Cause::error_line))]
-    pub fn print<E: Write>(&self, program: &str, errors: &mut E) -> io::Result<()>
-        ensures { OnOk result (Appends
-            (E.contents errors.old) (E.contents errors.new) (error_text program.now self.now)) }
+    pub fn print<E: ErrorStream>(&self, program: &str, errors: &mut E)
+        ensures { Appends
+            (E.contents errors.old) (E.contents errors.new) (error_text program.now self.now) }
     {
         let error = self;
-        write!(errors, "{program}: {error}\n")?;
+        errors.show(format_args!("{program}: {error}\n"));
         print_cause(program, self.cause(), errors)
     }
 }

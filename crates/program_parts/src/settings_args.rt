@@ -67,11 +67,11 @@ fn scoring_arg<'a>(alloc: Global, names: &'a [&'a str]) -> Arg<'a>
         .value_name("NAME")
         .default_value("winner")
         .value_parser(names)
-        .hide_possible_values(true)
+        .hide_default_value(true)
         .help(
             "Score a finished game with its empty squares given to\n\
              the winner (winner), by discs alone (discs), or as a\n\
-             win, draw or loss (sign)",
+             win, draw or loss (sign) [default: winner]\n",
         )
 }
 

@@ -1,20 +1,35 @@
 //! The streams of a program, and what clap returns in place of options, printed.
 
-ghost use Rattle.std.specs.Prelude.{◌≡◌, ◌≢◌, ◌⊎◌, ◌↔◌, true, false, IfOk, IsErr};
+ghost use Rattle.std.specs.Prelude.{◌≡◌, ◌≢◌, ◌⊎◌, ◌↔◌, IfErr, IfSome, IsOk};
+ghost use Rattle.std.specs.IoError.{error_kind};
+ghost use Rattle.std.specs.declared.io.ErrorKind.{ErrorKind as IoKind};
+ghost use Rattle.std.specs.Io.KnownBytes.{Appends};
 ghost use Rattle.clap.specs.Words.{kind_of};
 ghost use Rattle.program_parts.specs.CommandLine.{IsTextKind};
+ghost use Rattle.program_parts.specs.ProgramError.{ShowsOutputError};
 
 use crate::program_error::ProgramError;
 use clap::error::ErrorKind;
+use std::fmt::Display;
 use std::io;
 use std::io::{Stderr, Write};
 use std::marker::Send;
 
-/// A stream to which errors may be printed. Standard error is one. Standard output is not, so a
-/// `main` can't pass it as one.
-pub trait ErrorStream: Write + Send {}
+/// A stream on which errors are shown. Standard error is one. Standard output is not, so a `main`
+/// can't pass it as one.
+pub trait ErrorStream: Write + Send {
+    /// Writes the text. A failure changes nothing else, since nobody could be told. A stream whose
+    /// content is known has to take every text.
+    fn show<D: Display + Drop>(&mut self, text: D)
+        ensures { IfSome (D.output text)
+            (Appends (Self.contents self.old) (Self.contents self.new)) };
+}
 
-impl ErrorStream for Stderr {}
+impl ErrorStream for Stderr {
+    fn show<D: Display + Drop>(&mut self, text: D) {
+        let _ = self.write_fmt(text);
+    }
+}
 
 // Writes the help or the version, which clap returns as an error.
 fn write_help<W: Write>(output: &mut W, help: &clap::Error) -> io::Result<()> {
@@ -22,27 +37,20 @@ fn write_help<W: Write>(output: &mut W, help: &clap::Error) -> io::Result<()> {
     output.flush()
 }
 
-// Prints what clap returns in place of options. Help and the version go to standard output, and
-// the result is true. The reason of a refusal goes to standard error, and the result is false; a
-// failure of standard error changes nothing. The error is that of standard output.
-fn explain<W: Write, E: Write>(
-    error: &clap::Error,
-    output: &mut W,
-    errors: &mut E,
-) -> io::Result<bool>
-    ensures helped { IfOk result (λ helped. (helped ≡ true) ↔ IsTextKind (kind_of error.now)) }
-    ensures failed { IsErr result → IsTextKind (kind_of error.now) }
-    ensures unwritten { IfOk result
-        (λ helped. helped ≡ false → W.contents output.new ≡ W.contents output.old) }
+// The exit status after the help or the version: 0 if it was written to standard output, or
+// otherwise 3, and the error is printed.
+fn end_help<E: ErrorStream>(program: &str, written: io::Result<()>, errors: &mut E) -> u8
+    ensures written { IsOk written
+        → (result ≡ 0) × (E.contents errors.new ≡ E.contents errors.old) }
+    ensures failed { IfErr written (λ fault. (result ≡ 3) × ShowsOutputError
+        program.now (error_kind fault) (E.contents errors.old) (E.contents errors.new)) }
 {
-    match error.kind() {
-        ErrorKind::DisplayHelp | ErrorKind::DisplayVersion => {
-            write_help(output, error)?;
-            Ok(true)
-        }
-        _ => {
-            let _ = write!(errors, "{error}");
-            Ok(false)
+    match written {
+        Ok(()) => 0,
+        Err(fault) => {
+            let error = ProgramError::CannotWrite("standard output", fault.kind());
+            error.print(program, errors);
+            3
         }
     }
 }
@@ -51,7 +59,7 @@ fn explain<W: Write, E: Write>(
 /// reason of a refusal on standard error. The result is the exit status of the program: 0 for help
 /// and the version, 2 for a refusal, and 3 if standard output can't be written, which is
 /// reported on standard error.
-pub fn end_without_options<W: Write, E: Write>(
+pub fn end_without_options<W: Write, E: ErrorStream>(
     program: &str,
     error: &clap::Error,
     output: &mut W,
@@ -60,14 +68,17 @@ pub fn end_without_options<W: Write, E: Write>(
     ensures status { (result ≡ 0) ⊎ ((result ≡ 2) ⊎ (result ≡ 3)) }
     ensures helped { (result ≢ 2) ↔ IsTextKind (kind_of error.now) }
     ensures unwritten { result ≡ 2 → W.contents output.new ≡ W.contents output.old }
+    ensures quiet { result ≡ 0 → E.contents errors.new ≡ E.contents errors.old }
+    ensures failed { result ≡ 3 → (kind : IoKind) × ShowsOutputError
+        program.now kind (E.contents errors.old) (E.contents errors.new) }
 {
-    match explain(error, output, errors) {
-        Ok(true) => 0,
-        Ok(false) => 2,
-        Err(_) => {
-            let error = ProgramError::CannotWrite("standard output", io::ErrorKind::Other);
-            let _ = error.print(program, errors);
-            3
+    match error.kind() {
+        ErrorKind::DisplayHelp | ErrorKind::DisplayVersion => {
+            end_help(program, write_help(output, error), errors)
+        }
+        _ => {
+            errors.show(format_args!("{error}"));
+            2
         }
     }
 }

@@ -19,8 +19,7 @@ use bound_table::Bounds;
 use endgame_search::{Task, TooMany};
 use move_scores::score_moves;
 use obf_text::{
-    Item, Line, LineFault, ListedMove, comment_of, read_line, split_lines, write_entry,
-    write_fault, write_too_many,
+    Item, Line, LineFault, ListedMove, ManyEmpties, comment_of, read_line, split_lines, write_entry,
 };
 use othello_bits::Pos;
 use program_settings::Criteria;
@@ -53,7 +52,7 @@ fn write_faulty<W: Write>(writer: &mut W, fault: LineFault, line: &[u8]) -> io::
         (W.contents writer.new) (refused_text (line_fault_text fault) line.now)) }
 {
     writer.write_all(b"% refused: ")?;
-    write_fault(writer, fault)?;
+    write!(writer, "{fault}")?;
     write_quoted(writer, line)
 }
 
@@ -64,7 +63,7 @@ fn write_many<W: Write>(writer: &mut W, found: u8, limit: u8, line: &[u8]) -> io
         (W.contents writer.new) (refused_text (too_many_text found limit) line.now)) }
 {
     writer.write_all(b"% refused: ")?;
-    write_too_many(writer, found, limit)?;
+    write!(writer, "{}", ManyEmpties { found, limit })?;
     write_quoted(writer, line)
 }
 

@@ -1,5 +1,5 @@
 -- A text that is read line by line: a line with its end, and a line that is faulty by its front.
-use Rattle.std.proofs.Common.{◌≡◌, ◌≢◌, ◌==◌, ℕ, suc, ◌+◌, ◌-◌, ◌<◌, ◌≤◌, Bool, true, false, cond, List, [], ◌∷◌, ◌++◌, All, map, take, drop, length, refl, ap, sym, ◌∙◌, Option, Some, None, arith, append_assoc, get_or}
+use Rattle.std.proofs.Common.{◌≡◌, ◌==◌, ℕ, suc, ◌+◌, ◌-◌, ◌<◌, true, false, cond, List, [], ◌∷◌, ◌++◌, All, map, take, drop, length, refl, ap, sym, ◌∙◌, Option, Some, None, arith, append_assoc, get_or}
 use Rattle.std.specs.Prelude.{Result, Ok, Err, option_map, codes, nat_eq, if◌then◌else◌}
 use Rattle.std.specs.List.{onto_first, slice_split, starts_with}
 use Rattle.std.specs.Str.{bytes_eq}
@@ -24,7 +24,7 @@ use Rattle.solved_book.specs.declared.book_fault.BookFault.{BookFault}
 use Rattle.solved_book.specs.declared.book_fault.BookFault.TheVariants as fault
 use Rattle.solved_book.proofs.ClaimSteps.{from_end, from_err, onto_nil, onto_onto}
 use Rattle.solved_book.proofs.LineLaws.{fault_before, lines_after}
-use Rattle.solved_book.proofs.Parts.{ended_lines, is_feed, lines_parts}
+use Rattle.solved_book.proofs.Parts.{is_feed, lines_parts}
 
 none_cut : (xs : List ℕ) → NoFeeds xs → All (λ b. is_feed b ≡ false) xs
 none_cut xs h k d lt = ne_eqb _ _ (h k d lt)
@@ -152,11 +152,13 @@ unnamed name long =
     let off : (g : Scoring) → bytes_eq (scoring_name g) name ≡ false = λ g. false_from_ne_true _ (λ e. long_name g name long ((bytes_eq-Decides (scoring_name g) name).0 e)) in
     rw (off Winner, off Discs, off Sign) refl
 
--- the scoring that a line names which is longer than a header, by its front
+-- the scoring that a line names which is longer than a header, by its front: the test for a header
+-- stands here as in the definition, though both of its cases are the same
 abbrev scoring_by : List ℕ → Option Scoring
 scoring_by front =
-    if starts_with nat_eq front header_start then None
-    else (if starts_with nat_eq front (codes "% ffobook ") then None else Some Winner)
+    if starts_with nat_eq front (codes "% ffobook ")
+    then (if starts_with nat_eq front header_start then None else None)
+    else Some Winner
 
 by_front : (sure more : List ℕ) → 18 < length sure → scoring_in (sure ++ more) ≡ scoring_by sure
 by_front sure more long =

@@ -35,12 +35,16 @@ pub record ClaimsView : Type 0 where
 
 -- ---- the first line
 
+-- the scoring that a header names; None if the line is not a header
+abbrev pub scoring_of_header : List ℕ → Option Scoring
+scoring_of_header line =
+    if starts_with nat_eq line header_start then scoring_named (drop 12 line) else None
+
 -- the scoring of a first line: that of a header; None if the line begins as a header and is
 -- not one; otherwise `Winner`
 abbrev pub scoring_in : List ℕ → Option Scoring
 scoring_in line =
-    if starts_with nat_eq line header_start then scoring_named (drop 12 line)
-    else (if starts_with nat_eq line (codes "% ffobook ") then None else Some Winner)
+    if starts_with nat_eq line (codes "% ffobook ") then scoring_of_header line else Some Winner
 
 abbrev pub scoring_of_lines : List (List ℕ) → Option Scoring
 scoring_of_lines [] = Some Winner

@@ -2,7 +2,7 @@
 
 ghost use Rattle.std.specs.Prelude.{◌≡◌, [], ◌∷◌, ◌++◌, OnOk, IfSome, Some};
 ghost use Rattle.std.specs.Io.KnownBytes.{Appends};
-ghost use Rattle.solved_book.specs.Claims.{scoring_in, scoring_of_lines};
+ghost use Rattle.solved_book.specs.Claims.{scoring_in, scoring_of_header, scoring_of_lines};
 ghost use Rattle.solved_book.specs.Books.{header};
 ghost use Rattle.obf_text.specs.LineText.{lines_of};
 ghost use Rattle.othello_rules.specs.declared.scoring.Scoring.{Scoring};
@@ -29,6 +29,7 @@ pub(crate) fn write_header<W: Write>(writer: &mut W, scoring: Scoring) -> io::Re
 /// The scoring that a header names. None if the line is not the header of a book.
 #[tactic(auto, unfolding(crate::specs::Books::header))]
 pub fn header_scoring(line: &[u8]) -> Option<Scoring>
+    ensures value { result ≡ scoring_of_header line.now }
     ensures header { IfSome result (λ g. line.now ≡ header g) }
     ensures all { (g : Scoring) → line.now ≡ header g → result ≡ Some g }
 {
@@ -43,11 +44,8 @@ pub fn header_scoring(line: &[u8]) -> Option<Scoring>
 fn read_header(line: &[u8]) -> Option<Scoring>
     ensures { result ≡ scoring_in line.now }
 {
-    if line.starts_with(HEADER) {
-        return Scoring::from_name(&line[HEADER.len()..]);
-    }
     if line.starts_with(b"% ffobook ") {
-        return None;
+        return header_scoring(line);
     }
     Some(Scoring::Winner)
 }

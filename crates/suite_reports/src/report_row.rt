@@ -4,6 +4,7 @@ ghost use Rattle.std.specs.Prelude.{Some};
 ghost use Rattle.suite_reports.specs.ReportText.{refusal_text};
 
 use crate::check::Check;
+use obf_text::{LineFault, ManyEmpties};
 use othello_rules::Answer;
 use std::fmt;
 
@@ -23,13 +24,17 @@ pub enum Refusal {
 impl fmt::Display for Refusal {
     ghost output = { λ refusal. Some (refusal_text refusal) };
 
-    #[tactic(auto, unfolding(crate::specs::ReportText::refusal_text, obf_text::specs::Faults::line_fault_text, obf_text::specs::Faults::too_many_text))]
+    #[tactic(auto, unfolding(crate::specs::ReportText::refusal_text))]
     fn fmt<W: fmt::Write>(&self, f: &mut fmt::Formatter<W>) -> fmt::Result {
         match self {
-            Refusal::Short(found) => write!(f, "board has {found} of 64 squares"),
-            Refusal::BadCell(column) => write!(f, "bad square at column {column}"),
-            Refusal::BadSide(column) => write!(f, "bad side at column {column}"),
-            Refusal::Empties(found, limit) => write!(f, "{found} empties, limit {limit}"),
+            Refusal::Short(found) => LineFault::Short(*found as usize).fmt(f),
+            Refusal::BadCell(column) => LineFault::BadCell(*column as usize).fmt(f),
+            Refusal::BadSide(column) => LineFault::BadSide(*column as usize).fmt(f),
+            Refusal::Empties(found, limit) => {
+                let found = *found;
+                let limit = *limit;
+                ManyEmpties { found, limit }.fmt(f)
+            }
         }
     }
 }

@@ -3,15 +3,16 @@
 //!
 //! ```rust
 //! use program_settings::Settings;
-//! use suite_runs::{NoGate, run};
+//! use suite_runs::{NoGate, solve_files};
 //!
-//! let outcome = run(&rt, alloc, &files, &Settings::default(), None, &NoGate)?;
-//! assert!(rt; outcome.reports.len() == files.len());
-//! outcome.book.write(&mut text)?;
+//! let solved = solve_files(&rt, alloc, &files, &Settings::default(), None, &NoGate)?;
+//! assert!(rt; solved.reports(alloc)?.len() == files.len());
+//! solved.book(alloc)?.write(&mut text)?;
 //! ```
 //!
-//! `run` solves on threads, `run_serial` on the calling thread. The modules `client`, `joined`
-//! and `started_client` are public for the tests, which are in `crate_tests`.
+//! Programs call `solve_files`. `run` is for callers that want reports and book at once, and
+//! `run_serial` for those without threads. The modules `client`, `joined` and `started_client` are
+//! public for the tests, which are in `crate_tests`.
 #![tactic(auto)]
 
 pub mod client;

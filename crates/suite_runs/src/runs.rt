@@ -39,8 +39,9 @@ fn run_files(
 }
 
 /// Solves the positions of files on the calling thread, over one table of bounds. No program calls
-/// it. The workers of the settings are not used. A position with a claim under the scoring of the
-/// settings is confirmed, and any other position is solved.
+/// it: it is for callers without threads, and tests compare `run` with it. The workers of the
+/// settings are not used. A position with a claim under the scoring of the settings is confirmed,
+/// and any other position is solved.
 ///
 /// The reports are those of the files, in the order of the files. The book holds the canonical form
 /// of each solved position, and nothing else. Reports and book depend neither on the size of the
@@ -83,7 +84,7 @@ fn run_threads<R: Threads + Wait + Sync, G: Gate>(
 }
 
 /// Solves the positions of files on threads, as `solve_files` does, and makes their reports and
-/// their book. No program calls it: it is for tests and other users of this library.
+/// their book. No program calls it: it is for callers that want all of them at once, and for tests.
 ///
 /// Reports and book are those of `run_serial`, for every number of workers and every gate. So are
 /// `TooManyFiles` and `FileTooLarge`, which come before a thread is started or the gate is called.

@@ -1,5 +1,5 @@
 -- The reports of `ffosolve`, and its exit statuses.
-use Rattle.std.specs.Prelude.{◌≡◌, ℕ, ◌≤◌, List, length, Option, None}
+use Rattle.std.specs.Prelude.{◌≡◌, ◌⊎◌, ℕ, ◌≤◌, false, List, length, Option, None}
 use Rattle.std.specs.Io.KnownBytes.{Appends}
 use Rattle.std.specs.List.{concat}
 use Rattle.program_parts.specs.Endings.{EndsProgram}
@@ -9,6 +9,8 @@ use Rattle.program_settings.specs.Settings.{SettingsView, criteria_of}
 use Rattle.suite_reports.specs.Reports.{reports}
 use Rattle.program_settings.specs.InputFault.{first_large}
 use Rattle.program_settings.specs.Limits.{most_files}
+use Rattle.book_files.specs.SolveError.{solve_error_text, solve_status_of}
+use Rattle.book_files.specs.declared.solve_error.SolveError.{SolveError}
 
 -- A run refuses none of the texts, and their reports were written one after the other to standard
 -- output, which held `old` before and holds `new` now.
@@ -38,3 +40,20 @@ pub record EndsFfosolve (words : List (List ℕ)) (given old new : Option (List 
     : Type 0 where
   pub ends : EndsProgram ffosolve 1 words old new status (IsAnswered words given old new)
   pub unwritten : status ≡ 1 → new ≡ old
+
+-- the words do not ask for progress to be reported
+abbrev pub AsksNoProgress : List (List ℕ) → Type 0
+AsksNoProgress words = (r : Request) → Asks words r → r.progress ≡ false
+
+-- An error with this status ended the call: standard error, which held `old` before and holds `new`
+-- now, has the lines of the error, and nothing else is new.
+pub record ShowsError (old new : Option (List ℕ)) (status : ℕ) : Type 0 where
+  pub error : SolveError
+  pub ended : solve_status_of error ≡ status
+  pub shown : Appends old new (solve_error_text error)
+
+-- What standard error got from a call that reported no progress, by its status: nothing with 0, and
+-- the lines of an error with this status with 1 or 3.
+pub record ShowsEnding (old new : Option (List ℕ)) (status : ℕ) : Type 0 where
+  pub quiet : status ≡ 0 → new ≡ old
+  pub failed : (status ≡ 1) ⊎ (status ≡ 3) → ShowsError old new status

@@ -5,8 +5,9 @@ ghost use Rattle.std.specs.IoError.{error_kind};
 ghost use Rattle.std.specs.Process.{exit_status};
 ghost use Rattle.program_parts.specs.Inputs.{names_of};
 ghost use Rattle.program_parts.specs.Endings.{EndsUnread};
-ghost use Rattle.book_files.specs.SolveError.{solve_status_of};
-ghost use Rattle.suite_solver.specs.Programs.{EndsFfosolve};
+ghost use Rattle.std.specs.Io.KnownBytes.{Appends};
+ghost use Rattle.book_files.specs.SolveError.{solve_error_text, solve_status_of};
+ghost use Rattle.suite_solver.specs.Programs.{AsksNoProgress, EndsFfosolve, ShowsEnding, ShowsError};
 
 use crate::ffosolve::program;
 use book_files::SolveError;
@@ -52,12 +53,13 @@ fn error_status(error: &SolveError<'_>) -> u8
     }
 }
 
-/// Prints the error that ends the program, and returns the exit status. A failure of standard error
-/// changes nothing.
-pub(crate) fn print_error<E: Write>(error: &SolveError<'_>, errors: &mut E) -> u8
-    ensures { result ≡ solve_status_of error.now }
+/// Prints the error that ends the program, and returns the exit status.
+pub(crate) fn print_error<E: ErrorStream>(error: &SolveError<'_>, errors: &mut E) -> u8
+    ensures status { result ≡ solve_status_of error.now }
+    ensures shown { Appends
+        (E.contents errors.old) (E.contents errors.new) (solve_error_text error.now) }
 {
-    let _ = error.print(errors);
+    error.print(errors);
     error_status(error)
 }
 
@@ -74,8 +76,12 @@ pub fn program_of<T: Files + Clock + Threads + Wait + Sync, R: Read, W: Write, E
 ) -> ExitStatus
     ensures read { IfOk words (λ all. EndsFfosolve (names_of all.items)
         (R.remaining input.old) (W.contents output.old) (W.contents output.new) result.status) }
+    ensures shown { IfOk words (λ all. AsksNoProgress (names_of all.items)
+        → ShowsEnding (E.contents errors.old) (E.contents errors.new) result.status) }
     ensures unread { IsErr words
         → EndsUnread 1 (W.contents output.old) (W.contents output.new) result.status }
+    ensures unread_shown { IsErr words
+        → ShowsError (E.contents errors.old) (E.contents errors.new) result.status }
     ensures memory { IfErr words (λ fault. error_kind fault ≡ ErrorKind.OutOfMemory
         → result.status ≡ 1) }
     ensures words { IfErr words (λ fault. (error_kind fault ≡ ErrorKind.OutOfMemory → ⊥)

@@ -1,6 +1,6 @@
 //! The program `ffosolve`.
 
-ghost use Rattle.std.specs.Prelude.{◌≡◌, ◌⊎◌, map, option_map, string_bytes, Some, OnOk, IfOk, IfErr, IfSome, IsErr, IsErrOf};
+ghost use Rattle.std.specs.Prelude.{◌≡◌, ◌⊎◌, map, option_map, string_bytes, false, Some, OnOk, IfOk, IfErr, IfSome, IsErr, IsErrOf};
 ghost use Rattle.std.specs.List.{concat};
 ghost use Rattle.std.specs.Io.KnownBytes.{Appends};
 ghost use Rattle.program_parts.specs.Inputs.{names_of};
@@ -8,7 +8,7 @@ ghost use Rattle.book_files.specs.BookPlace.{IsFree};
 ghost use Rattle.book_files.specs.SolveError.{IsSilent, solve_status_of};
 ghost use Rattle.program_parts.specs.declared.program_error.ProgramError.TheVariants.{BadInput};
 ghost use Rattle.book_files.specs.declared.solve_error.SolveError.TheVariants.{Program};
-ghost use Rattle.suite_solver.specs.Programs.{EndsFfosolve, PrintsReportsOf, PrintsReports};
+ghost use Rattle.suite_solver.specs.Programs.{AsksNoProgress, EndsFfosolve, PrintsReportsOf, PrintsReports, ShowsEnding};
 ghost use Rattle.obf_text.specs.LineText.{texts_of};
 ghost use Rattle.program_settings.specs.InputFault.{refusal_of};
 ghost use Rattle.program_settings.specs.declared.input_fault.InputFault.{InputFault};
@@ -19,7 +19,7 @@ use crate::progress::solve_with_progress;
 use book_files::{
     BookPlace, Found, NewFile, SolveError, find_place, read_claims, ready_book, write_book,
 };
-use program_parts::{OptionFault, ProgramError, end_without_options, read_files};
+use program_parts::{ErrorStream, OptionFault, ProgramError, end_without_options, read_files};
 use program_settings::check_files;
 use solved_book::Claims;
 use std::alloc::Global;
@@ -63,6 +63,7 @@ fn solve_and_print<'a, T: Files + Clock + Threads + Wait + Sync, W: Write, E: Wr
         (λ error. solve_status_of error ≡ 1 → W.contents output.new ≡ W.contents output.old) }
     ensures status { IfErr result
         (λ error. (solve_status_of error ≡ 1) ⊎ (solve_status_of error ≡ 3)) }
+    ensures quiet { asked.now.progress ≡ false → E.contents errors.new ≡ E.contents errors.old }
 {
     let solved = solve_with_progress(
         rt,
@@ -77,8 +78,8 @@ fn solve_and_print<'a, T: Files + Clock + Threads + Wait + Sync, W: Write, E: Wr
     let reports = solved.reports(alloc)?;
     match write_reports(output, &reports) {
         Ok(()) => Ok(book),
-        Err(_) => {
-            let error = ProgramError::CannotWrite("standard output", io::ErrorKind::Other);
+        Err(fault) => {
+            let error = ProgramError::CannotWrite("standard output", fault.kind());
             Err(SolveError::Program(error))
         }
     }
@@ -130,6 +131,7 @@ fn carry_out<'a, T: Files + Clock + Threads + Wait + Sync, R: Read, W: Write, E:
         (λ error. solve_status_of error ≡ 1 → W.contents output.new ≡ W.contents output.old) }
     ensures status { IfErr result
         (λ error. (solve_status_of error ≡ 1) ⊎ (solve_status_of error ≡ 3)) }
+    ensures quiet { asked.now.progress ≡ false → E.contents errors.new ≡ E.contents errors.old }
 {
     let claims = read_claims(rt, alloc, &asked.book_in)?;
     let texts = read_files(rt, alloc, &asked.files, input)?;
@@ -156,10 +158,10 @@ fn carry_out<'a, T: Files + Clock + Threads + Wait + Sync, R: Read, W: Write, E:
 /// printed; 1 if the run is refused, for memory or for the number or size of its files; 2 if
 /// the command line is refused; 3 if a file can't be read or is not a book, if standard output
 /// or the book can't be written, or if the book would destroy another file or the book that is
-/// read. An error that ends the program early is printed on standard error, as one line or as
-/// clap's text; a failure of standard error changes nothing. The call may wait for its threads.
+/// read. An error that ends the program early is printed on standard error, as one or two lines or
+/// as clap's text; a failure of standard error changes nothing. The call may wait for its threads.
 #[tactic(auto, using(crate::proofs::ProgramLemmas::asked_faultless))]
-pub fn program<T: Files + Clock + Threads + Wait + Sync, R: Read, W: Write, E: Write + Send>(
+pub fn program<T: Files + Clock + Threads + Wait + Sync, R: Read, W: Write, E: ErrorStream>(
     rt: &T,
     alloc: Global,
     words: &[&str],
@@ -167,8 +169,10 @@ pub fn program<T: Files + Clock + Threads + Wait + Sync, R: Read, W: Write, E: W
     output: &mut W,
     errors: &mut E,
 ) -> u8
-    ensures { EndsFfosolve (map (λ word. word.now) words.now)
+    ensures ends { EndsFfosolve (map (λ word. word.now) words.now)
         (R.remaining input.old) (W.contents output.old) (W.contents output.new) result }
+    ensures shown { AsksNoProgress (map (λ word. word.now) words.now)
+        → ShowsEnding (E.contents errors.old) (E.contents errors.new) result }
 {
     match read_options(alloc, words) {
         Ok(asked) => match carry_out(rt, alloc, &asked, input, output, errors) {

@@ -7,6 +7,7 @@ use job_board::{BoardFault, JobFault, Mixed, NoSender, SubmitFault};
 use list_printer::ListFault;
 use othello_rules::RuleFault;
 use std::alloc::{AllocError, Global};
+use std::io::ErrorKind;
 
 fn texts(alloc: Global) -> Result<String, AllocError> {
     format!(in alloc;
@@ -27,7 +28,7 @@ fn texts(alloc: Global) -> Result<String, AllocError> {
         NoSender,
         Mixed,
         ListFault::Memory,
-        ListFault::CannotWrite
+        ListFault::CannotWrite(ErrorKind::Other)
     )
 }
 

@@ -68,6 +68,9 @@ impl Write for SlowWriter {
     }
 }
 
+// The fault of a `SlowWriter` that is full.
+const FULL: ListFault = ListFault::CannotWrite(io::ErrorKind::StorageFull);
+
 // The first line of what is printed, which is sent on by itself.
 const FIRST: usize = 12;
 
@@ -84,9 +87,9 @@ fn stops_so<R: Threads + Wait>(rt: &R, alloc: Global, calls_left: u32) -> Result
     let (sent, wanted) = if taken == TWO_PRINTED.len() {
         (taken, Ok(false))
     } else if taken >= FIRST {
-        (FIRST, Err(ListFault::CannotWrite))
+        (FIRST, Err(FULL))
     } else {
-        (0, Err(ListFault::CannotWrite))
+        (0, Err(FULL))
     };
     Ok(
         ended == wanted
@@ -124,7 +127,7 @@ impl Write for FullWriter {
 #[test]
 fn a_full_writer_is_reported(rt: HostRuntime) -> Result<(), Fail> {
     let ended = print_text(&rt, rt.alloc(), &mut FullWriter, b"%\n")?;
-    assert!(rt; ended == Err(ListFault::CannotWrite));
+    assert!(rt; ended == Err(ListFault::CannotWrite(io::ErrorKind::WriteZero)));
     Ok(())
 }
 
@@ -149,7 +152,7 @@ impl Write for LineCounter {
 // A finished game with eight empty squares: threads score such lines, several lines each.
 const EIGHT_EMPTY: &[u8] = b"--------XXXXXXXXXXXXXXXXXXXXXXXXXXXXXXXXXXXXXXXXXXXXXXXXXXXXXXXX X\n";
 
-// The lines that a thread scores are written at once.
+// The lines that a thread scores are written in one write.
 #[test]
 fn a_thread_scores_at_most_eight_lines(rt: HostRuntime) -> Result<(), Fail> {
     let mut text = Vec::new(rt.alloc());

@@ -69,7 +69,7 @@ pub(super) fn pos_of(rt: &impl Abort, (black, white): Discs, side: Side) -> Pos 
 pub(super) fn task_of(rt: &impl Abort, position: Pos, scoring: Scoring) -> Task
     ensures { result.scoring ≡ scoring }
 {
-    Task::new(position, 20, scoring).expect(rt, "at most 20 empty squares")
+    Task::new(position, 22, scoring).expect(rt, "at most 22 empty squares")
 }
 
 pub(super) fn square_of(rt: &impl Abort, name: &[u8]) -> Square {

@@ -3,7 +3,9 @@
 
 use super::{TWO, words_of};
 use ffoscores_program::list_program;
+use program_parts::ErrorStream;
 use std::alloc::{AllocError, Global};
+use std::fmt::Display;
 use std::io::{Read, Write};
 use std::rt::{Clock, Files};
 use std::sync::Wait;
@@ -11,6 +13,28 @@ use std::test::Fail;
 use std::thread::Threads;
 use std::{fs, io};
 use suite_solver::program;
+
+// A standard error that keeps what is shown.
+#[derive(Drop)]
+struct Shown {
+    bytes: Vec<u8>,
+}
+
+impl Write for Shown {
+    fn write(&mut self, buf: &[u8]) -> io::Result<usize> {
+        self.bytes.write(buf)
+    }
+
+    fn flush(&mut self) -> io::Result<()> {
+        Ok(())
+    }
+}
+
+impl ErrorStream for Shown {
+    fn show<D: Display + Drop>(&mut self, text: D) {
+        let _ = self.write_fmt(text);
+    }
+}
 
 // Whether the program that the line begins with ends with 3 and prints this on standard error.
 fn fails_with<T: Files + Clock + Threads + Wait + Sync, R: Read, W: Write>(
@@ -22,13 +46,15 @@ fn fails_with<T: Files + Clock + Threads + Wait + Sync, R: Read, W: Write>(
     error: &str,
 ) -> Result<bool, AllocError> {
     let words = words_of(alloc, line)?;
-    let mut errors = Vec::new(alloc);
+    let mut errors = Shown {
+        bytes: Vec::new(alloc),
+    };
     let status = if line.starts_with("ffosolve") {
         program(rt, alloc, &words, input, output, &mut errors)
     } else {
         list_program(rt, alloc, &words, input, output, &mut errors)
     };
-    Ok(status == 3 && errors.as_slice() == error.as_bytes())
+    Ok(status == 3 && errors.bytes.as_slice() == error.as_bytes())
 }
 
 // A reader that returns one byte a call, and fails once no call is left.
@@ -91,16 +117,19 @@ impl Write for HoldingWriter {
 const UNWRITTEN: &[(&str, &str)] = &[
     (
         "ffosolve --book-out unwritten.book",
-        "ffosolve: cannot write standard output\n",
+        "ffosolve: cannot write standard output\nffosolve: no space left\n",
     ),
     (
         "ffosolve --help",
-        "ffosolve: cannot write standard output\n",
+        "ffosolve: cannot write standard output\nffosolve: no space left\n",
     ),
-    ("ffoscores", "ffoscores: cannot write standard output\n"),
+    (
+        "ffoscores",
+        "ffoscores: cannot write standard output\nffoscores: no space left\n",
+    ),
     (
         "ffoscores --help",
-        "ffoscores: cannot write standard output\n",
+        "ffoscores: cannot write standard output\nffoscores: no space left\n",
     ),
 ];
 

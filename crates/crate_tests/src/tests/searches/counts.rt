@@ -1,5 +1,5 @@
-//! How often searches probe their table and store to it. The same search in plain Rust does so as
-//! often, on the same positions.
+//! How often searches probe their table, store to it, and evaluate. The same search in plain Rust does
+//! so as often, on the same positions.
 
 ghost use Rattle.std.specs.Prelude.{◌≡◌};
 
@@ -11,12 +11,13 @@ use othello_rules::{Scoring, Side};
 use std::cell::Cell;
 use std::test::Fail;
 
-// A table that counts its probes and stores.
+// A table that counts its probes and stores, and the evaluations.
 #[derive(Drop)]
 struct Counter {
     table: BoundTable,
     probes: Cell<u32>,
     stores: Cell<u32>,
+    evaluations: Cell<u32>,
 }
 
 impl Bounds for Counter {
@@ -35,20 +36,25 @@ impl Bounds for Counter {
         self.stores.set(self.stores.get().wrapping_add(1));
         self.table.store(position, range);
     }
+
+    fn note_evaluation(&self) {
+        self.evaluations.set(self.evaluations.get().wrapping_add(1));
+    }
 }
 
-// The probes and the stores of a first solve, and the probes of a second one.
-fn count(counter: &Counter, task: Task) -> [u32; 3]
+// The probes, the stores and the evaluations of a first solve, and the probes of a second one.
+fn count(counter: &Counter, task: Task) -> [u32; 4]
     requires { task.scoring ≡ counter.now.table.scoring }
 {
     let _ = solve(counter, task);
     let (probes, stores) = (counter.probes.replace(0), counter.stores.get());
+    let evaluations = counter.evaluations.get();
     let _ = solve(counter, task);
-    [probes, stores, counter.probes.get()]
+    [probes, stores, evaluations, counter.probes.get()]
 }
 
 #[test]
-fn searches_probe_and_store_as_often_as_in_plain_rust(rt: HostRuntime) -> Result<(), Fail> {
+fn searches_do_as_much_work_as_in_plain_rust(rt: HostRuntime) -> Result<(), Fail> {
     for i in 0..POSITIONS.len() {
         for j in 0..Scoring::ALL.len() {
             let scoring = Scoring::ALL[j];
@@ -57,6 +63,7 @@ fn searches_probe_and_store_as_often_as_in_plain_rust(rt: HostRuntime) -> Result
                 table: BoundTable::new(rt.alloc(), 4_096, scoring)?,
                 probes: Cell::new(0),
                 stores: Cell::new(0),
+                evaluations: Cell::new(0),
             };
             assert_eq!(rt; count(&counter, task), COUNTS[i][j]);
         }
@@ -65,8 +72,8 @@ fn searches_probe_and_store_as_often_as_in_plain_rust(rt: HostRuntime) -> Result
 }
 
 // The mover's discs and the opponent's in two positions for each number of empty squares from 8 to 17,
-// and in one or two for each from 18 to 20.
-const POSITIONS: [Discs; 25] = [
+// in one or two for each from 18 to 20, and in one with 22.
+const POSITIONS: [Discs; 26] = [
     (0x3f7b_3a00_3a5a_2e0f, 0xc084_85ff_4525_1110),
     (0x1000_6203_0f19_bf41, 0xa5bf_9cfc_70e6_401e),
     (0x2a40_8083_8b87_8ebf, 0x1f_5f7c_7478_7040),
@@ -92,34 +99,52 @@ const POSITIONS: [Discs; 25] = [
     (0x2929_b5ca_9513_0704, 0x606_0a34_282c_3828),
     (0xff7f_df5f_d81c_1a11, 0x2020_2020_0000),
     (0x41c_1018_0400_0000, 0x1_0707_7bff_7fff),
+    (0x246c_eeee_fefe_f980, 0x10_1010_0000_0000),
 ];
 
 // Of each position the counts under Winner, Discs and Sign. `bench/run counts` prints them. With fewer
 // than 10 empty squares nothing is stored.
-const COUNTS: [[[u32; 3]; 3]; 25] = [
-    [[899, 0, 899], [899, 0, 899], [642, 0, 642]],
-    [[625, 0, 625], [625, 0, 625], [563, 0, 563]],
-    [[936, 0, 936], [936, 0, 936], [848, 0, 848]],
-    [[2142, 0, 2142], [2142, 0, 2142], [208, 0, 208]],
-    [[1153, 2, 452], [1153, 2, 452], [513, 2, 455]],
-    [[2835, 2, 819], [2835, 2, 819], [784, 2, 757]],
-    [[2960, 22, 10], [2960, 22, 10], [1589, 18, 10]],
-    [[4746, 36, 6], [4746, 36, 6], [202, 10, 6]],
-    [[4674, 34, 9], [4674, 34, 9], [3556, 30, 9]],
-    [[3144, 30, 7], [3144, 30, 7], [1316, 21, 7]],
-    [[4650, 72, 17], [4650, 72, 17], [2017, 55, 9]],
-    [[4003, 75, 199], [4003, 75, 199], [2774, 63, 14]],
-    [[3527, 77, 7], [3232, 83, 7], [4996, 59, 7]],
-    [[2366, 70, 4], [2119, 64, 4], [484, 21, 4]],
-    [[2005, 78, 5], [2005, 78, 5], [1695, 43, 5]],
-    [[61, 26, 5], [382, 74, 5], [61, 26, 5]],
-    [[4105, 117, 5], [4105, 117, 5], [1321, 47, 5]],
-    [[602, 89, 6], [1282, 152, 6], [854, 90, 6]],
-    [[515, 37, 5], [728, 53, 5], [1654, 47, 5]],
-    [[81, 25, 5], [91, 30, 5], [89, 21, 5]],
-    [[125716, 774, 5], [125720, 774, 5], [76026, 628, 5]],
-    [[13547, 440, 8], [21875, 621, 8], [21251, 1144, 8]],
-    [[152167, 2702, 9], [152167, 2702, 9], [152167, 2702, 9]],
-    [[396, 43, 5], [4575, 140, 5], [2471, 31, 5]],
-    [[7065, 234, 5], [9895, 405, 5], [969, 92, 5]],
+const COUNTS: [[[u32; 4]; 3]; 26] = [
+    [[899, 0, 0, 899], [899, 0, 0, 899], [642, 0, 0, 642]],
+    [[625, 0, 0, 625], [625, 0, 0, 625], [563, 0, 0, 563]],
+    [[936, 0, 0, 936], [936, 0, 0, 936], [848, 0, 0, 848]],
+    [[2142, 0, 0, 2142], [2142, 0, 0, 2142], [208, 0, 0, 208]],
+    [[1153, 2, 0, 452], [1153, 2, 0, 452], [513, 2, 0, 455]],
+    [[2835, 2, 0, 819], [2835, 2, 0, 819], [784, 2, 0, 757]],
+    [[2960, 22, 0, 10], [2960, 22, 0, 10], [1589, 18, 0, 10]],
+    [[4746, 36, 0, 6], [4746, 36, 0, 6], [202, 10, 0, 6]],
+    [[4674, 34, 14, 9], [4674, 34, 14, 9], [3556, 30, 14, 9]],
+    [[3144, 30, 10, 7], [3144, 30, 10, 7], [1316, 21, 10, 7]],
+    [[4650, 72, 121, 17], [4650, 72, 121, 17], [2017, 55, 83, 9]],
+    [[4003, 75, 74, 199], [4003, 75, 74, 199], [2774, 63, 68, 14]],
+    [[3527, 77, 129, 7], [3232, 83, 129, 7], [4996, 59, 111, 7]],
+    [[2366, 70, 64, 4], [2119, 64, 58, 4], [484, 21, 28, 4]],
+    [[2005, 78, 132, 5], [2005, 78, 132, 5], [1695, 43, 87, 5]],
+    [[61, 26, 141, 5], [382, 74, 202, 5], [61, 26, 141, 5]],
+    [[4105, 117, 149, 5], [4105, 117, 149, 5], [1321, 47, 82, 5]],
+    [[602, 89, 109, 6], [1282, 152, 164, 6], [854, 90, 109, 6]],
+    [[515, 37, 68, 5], [728, 53, 91, 5], [1654, 47, 82, 5]],
+    [[81, 25, 41, 5], [91, 30, 42, 5], [89, 21, 34, 5]],
+    [
+        [125716, 774, 1331, 5],
+        [125720, 774, 1331, 5],
+        [76026, 628, 1061, 5],
+    ],
+    [
+        [13547, 440, 1322, 8],
+        [21875, 621, 2113, 8],
+        [21251, 1144, 2533, 8],
+    ],
+    [
+        [152167, 2702, 11900, 9],
+        [152167, 2702, 11900, 9],
+        [152167, 2702, 11900, 9],
+    ],
+    [[396, 43, 281, 5], [4575, 140, 1236, 5], [2471, 31, 409, 5]],
+    [
+        [7065, 234, 4711, 5],
+        [9895, 405, 7800, 5],
+        [969, 92, 1344, 5],
+    ],
+    [[223, 30, 426, 4], [226, 31, 522, 4], [313, 30, 1193, 4]],
 ];

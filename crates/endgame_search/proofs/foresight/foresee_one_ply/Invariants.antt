@@ -4,7 +4,7 @@ use Rattle.othello_bits.specs.Pos.{IsMove}
 use Rattle.endgame_search.proofs.foresight.foresee_one_ply.Given as goal
 
 abbrev pub decreases-loop-rest : goal.decreases-loop-rest
-decreases-loop-rest l = count_ones l.rest
+decreases-loop-rest g l = count_ones l.rest
 
 abbrev pub invariant-loop-rest : goal.invariant-loop-rest
-invariant-loop-rest l = (q : ℕ) → in_mask l.rest q ≡ true → IsMove l.position q
+invariant-loop-rest g l = (q : ℕ) → in_mask l.rest q ≡ true → IsMove l.position q

@@ -3,7 +3,7 @@ use Rattle.std.proofs.lemmas.Int.{ints}
 use Rattle.endgame_search.proofs.solved.guess_within.Goals as goal
 
 pub returns : goal.returns
-returns c =
+returns g c =
     let range = c.high.ensures.ordered in
     let a = range.least in
     let b = range.ordered in

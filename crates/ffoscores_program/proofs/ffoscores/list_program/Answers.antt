@@ -1,11 +1,11 @@
 use Rattle.std.proofs.Common.{arith, inr, rules}
 use Rattle.program_parts.proofs.EndingLemmas.{in_range_of, not_one}
 use Rattle.ffoscores_program.specs.Options.{list_request_of}
-use Rattle.ffoscores_program.proofs.ListEndings.{asked_faultless}
+use Rattle.ffoscores_program.proofs.ListEndings.{asked_faultless, without_options}
 use Rattle.ffoscores_program.proofs.ffoscores.list_program.Goals as goal
 
-pub returns : goal.returns
-returns g c = record {
+pub returns-clause-ends : goal.returns-clause-ends
+returns-clause-ends g c = record {
   ends = record {
     in_range = search (rules, in_range_of);
     done = search rules;
@@ -17,8 +17,12 @@ returns g c = record {
   stopped = search rules;
 }
 
-pub returns-in-Ok-false : goal.returns-in-Ok-false
-returns-in-Ok-false g c = record {
+pub returns-clause-shown : goal.returns-clause-shown
+returns-clause-shown g c =
+    let ended = c.end_without_options.ensures in without_options _ _ _ ended.status ended.quiet ended.failed
+
+pub returns-in-Ok-false-clause-ends : goal.returns-in-Ok-false-clause-ends
+returns-in-Ok-false-clause-ends g c = record {
   ends = record {
     in_range = omega arith;
     done = λ e. absurd (omega arith);

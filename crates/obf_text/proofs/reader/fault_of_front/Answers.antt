@@ -1,5 +1,4 @@
-use Rattle.std.proofs.Common.{◌≡◌, rules, arith}
-use Rattle.std.proofs.lemmas.Grind.{common_steps}
+use Rattle.std.proofs.Common.{◌≡◌, rules}
 use Rattle.obf_text.specs.Obf.{Faulty, item_of}
 use Rattle.obf_text.specs.declared.line_fault.LineFault.TheVariants.{BadSide}
 use Rattle.obf_text.proofs.FrontFaults.{fault_stays}

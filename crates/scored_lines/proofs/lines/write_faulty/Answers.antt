@@ -13,5 +13,5 @@ returns g c =
     (λ ok w. Appends-trans _ _ _ (codes "% refused: ")
     ((line_fault_text c.args.fault) ++ quoted_text c.args.line.now) c.in_ok-write_all.ensures.bytes
     (Appends-trans _ _ _ (line_fault_text c.args.fault) (quoted_text c.args.line.now)
-    c.in_ok-write_fault.ensures w))
+    c.in_ok-write.ensures.bytes w))
     c.write_quoted.ensures

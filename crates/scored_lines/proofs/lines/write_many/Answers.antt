@@ -14,5 +14,5 @@ returns g c =
     ((too_many_text c.args.found c.args.limit) ++ quoted_text c.args.line.now)
     c.in_ok-write_all.ensures.bytes
     (Appends-trans _ _ _ (too_many_text c.args.found c.args.limit) (quoted_text c.args.line.now)
-    c.in_ok-write_too_many.ensures w))
+    c.in_ok-write.ensures.bytes w))
     c.write_quoted.ensures

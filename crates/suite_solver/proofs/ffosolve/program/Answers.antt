@@ -1,9 +1,10 @@
 use Rattle.std.proofs.Common.{rules}
 use Rattle.program_parts.proofs.EndingLemmas.{in_range_of, not_one}
+use Rattle.suite_solver.proofs.ProgramLemmas.{without_options}
 use Rattle.suite_solver.proofs.ffosolve.program.Goals as goal
 
-pub returns : goal.returns
-returns g c = record {
+pub returns-clause-ends : goal.returns-clause-ends
+returns-clause-ends g c = record {
   ends = record {
     in_range = search (rules, in_range_of);
     done = search rules;
@@ -13,3 +14,7 @@ returns g c = record {
   };
   unwritten = search (rules, not_one);
 }
+
+pub returns-clause-shown : goal.returns-clause-shown
+returns-clause-shown g c =
+    let ended = c.end_without_options.ensures in λ none. without_options _ _ _ ended.status ended.quiet ended.failed

@@ -1,5 +1,5 @@
 use Rattle.std.proofs.Common.{rules}
-use Rattle.program_parts.proofs.ErrorLemmas.{then_cause}
+use Rattle.std.proofs.KnownBytes.{Appends-trans}
 use Rattle.program_parts.specs.Cause.{error_line}
 use Rattle.program_parts.specs.ProgramError.{error_reason, error_text}
 use Rattle.program_parts.proofs.program_error.ProgramError.print.Goals as goal
@@ -7,5 +7,5 @@ use Rattle.program_parts.proofs.program_error.ProgramError.print.Goals as goal
 pub returns : goal.returns
 unfolding error_text error_line
 returns g c =
-    then_cause c.print_cause.result _ _ _ (error_line c.args.program.now (error_reason c.args.self.now)) _
+    Appends-trans _ _ _ (error_line c.args.program.now (error_reason c.args.self.now)) _
     (search rules) (rw c.cause.ensures at c.print_cause.ensures)
