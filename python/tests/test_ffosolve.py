@@ -12,6 +12,7 @@ import itertools
 import os
 import pathlib
 import pickle
+import pydoc
 import re
 import sys
 import textwrap
@@ -24,12 +25,11 @@ import pytest
 from calls import ANSWER, AT_PASS, CORNERS, ITERATORS, LISTS, MANY, ONE, OVER, POSITION, SEARCHES, find
 import ffosolve
 from ffosolve import START, Answer, Game, Kind, Position, Scoring, Solver, masks_of, parse_lines, read_lines
-from ffosolve._library import load, path_of, places
+from ffosolve._library import libraries_to_try, library_path, load
 
 EIGHT = Position.from_obf("XOOOO-O-XOOO-OO-XOOOO-OXXXXXXXO-XXOXXXO-OOOOXOOOOXXXOOOOOX-XXXXO X;")  # 8 empty squares
 SHARED, WIDE, WIDER = Position(3, 2), Position(1, 2**31 - 2), Position(1, 2**30 - 2)  # 33 and 34 empty squares
 MORE = "34 empty squares are more than max_empties=33 of the Solver"
-LIBRARY = path_of(load())
 
 
 def library_that_returns(status):
@@ -51,14 +51,14 @@ def test_the_examples_of_the_help_print_what_it_shows():
     assert (failed, attempted > 5) == (0, True)
 
 
-def first_moves(position):
-    """Plays always the first legal move. Returns the positions before each move, passes left out, and the moves."""
-    turns = []
-    while not position.is_over:
-        position = position.passed() if position.must_pass else position
-        turns.append((position, position.legal_moves[0]))
-        position = position.play(position.legal_moves[0])
-    return turns
+def test_the_help_fits_on_some_pages_and_has_each_name_and_that_of_a_class_has_what_the_class_adds():
+    text = pydoc.plain(pydoc.render_doc(ffosolve))
+    names = {name for name, it in vars(ffosolve).items() if name[0] != "_" and not inspect.ismodule(it)}
+    assert names - set(re.findall(r"\w+", ffosolve.__doc__)) == {"Line", "TYPE_CHECKING"}
+    assert text.count("\n") < 120 and "inherited" not in text
+    for it in filter(inspect.isclass, vars(ffosolve).values()):
+        added = {name for name in vars(it) if name[0] != "_"}
+        assert added <= {*re.findall(r"\w+", pydoc.plain(pydoc.render_doc(it)))} and it.__doc__, it
 
 
 @pytest.mark.parametrize("scoring", Scoring)
@@ -77,29 +77,19 @@ def test_the_best_line_is_of_best_moves_to_the_end_and_each_score_is_that_of_its
 
 
 @pytest.mark.parametrize("position, text", [
-    (POSITION, " H1:+62; A1:+52;"), (POSITION.passed(), None), (AT_PASS, " PS:-64;"), (OVER, " --:+32;")])
+    (POSITION, " H1:+62; A1:+52;"), (POSITION.passed(), " H1:-40;"), (AT_PASS, " PS:-64;"), (OVER, " --:+32;")])
 def test_a_scored_line_has_the_best_moves_first(position, text):
-    solver = Solver()
-    line = solver.scored_line(position)
-    if text is not None:
-        assert line == position.to_obf() + text
-    read = Position.from_obf(line)
-    assert (read, read.side) == (position, position.side)
-    scores = [score for _, score in read.listed]
-    assert scores == sorted(scores, reverse=True) and scores[0] == solver.solve(position).score
-    if position.legal_moves:
-        assert dict(read.listed) == solver.move_scores(position)
-    assert solver.scored_line(tuple(position)) == Position(*position).to_obf() + line[67:]
+    for given in (position, tuple(position)):
+        assert Solver().scored_line(given) == Position(*position, getattr(given, "side", "X")).to_obf() + text
 
 
 def test_the_turns_of_a_game_are_the_positions_in_which_its_moves_are_made():
-    turns = first_moves(START)
-    game = Game.of_text("".join(move for _, move in turns))
-    assert [(position.to_obf(), move) for position, move in game.turns()] == [
-        (position.to_obf(), move) for position, move in turns]
-    passes = sum(before.side == after.side for (before, _), (after, _) in zip(turns, turns[1:]))
-    assert passes > 0
-    assert all(move in position.legal_moves for position, move in game.turns())
+    """White has no move before E7."""
+    at, turns = START, Game.of_text("f5f6d3g5h5h4f7h6e7").turns()
+    for position, move in turns:
+        assert position.to_obf() == (at.passed() if move == "E7" else at).to_obf()
+        at = position.play(move)
+    assert [move for _, move in turns] == "F5 F6 D3 G5 H5 H4 F7 H6 E7".split()
     for wrong in ("f5f5", "z9"):
         with pytest.raises(ffosolve.GameRefused):
             Game.of_text(wrong).turns()
@@ -137,11 +127,14 @@ def test_positions_become_arrays_and_arrays_positions():
     for empty in ([], iter(())):
         assert ffosolve.positions_from(*masks_of(empty)) == []
     assert Solver().solve(Position(own[0], opp[0])) == Solver().solve(POSITION)
+    assert repr(Position(True, numpy.int8(2))) == "Position(own=1, opp=2)"
+    with pytest.raises(TypeError, match="^a mask is a whole number from 0 to .*, not array"):
+        Position(numpy.array(0.5), 2)
 
 
 def test_arrays_that_numpy_rounds_are_refused_by_the_name_of_the_call_that_makes_exact_ones():
     numpy = pytest.importorskip("numpy")
-    own, opp = numpy.array([POSITION, START]).T
+    own, opp = numpy.array([tuple(POSITION), tuple(START)]).T
     why = r"^the masks are arrays of uint64, as masks_of\(positions\) returns them, not of "
     for wrong in (own, numpy.array([1, 2]), [1, 2]):
         for call in (Solver().solve_arrays, Solver().move_scores_arrays, ffosolve.positions_from):
@@ -154,10 +147,12 @@ def test_arrays_that_numpy_rounds_are_refused_by_the_name_of_the_call_that_makes
 @pytest.mark.parametrize("settings, shown", [
     ({}, "scoring='winner', max_empties=20"),
     ({"scoring": "sign", "entries": 7, "max_empties": 9}, "scoring='sign', entries=7, max_empties=9"),
-    ({"library": LIBRARY}, f"{LIBRARY!r}, scoring='winner', max_empties=20"),
+    ({"library": "PATH"}, "'PATH', scoring='winner', max_empties=20"),
 ])
 def test_a_solver_is_shown_copied_and_pickled(settings, shown):
-    solver = Solver(**settings)
+    path = library_path(load())
+    shown = shown.replace("PATH", path)
+    solver = Solver(**{**settings, **({"library": path} if "library" in settings else {})})
     for it in (solver, eval(f"Solver({shown})"), copy.copy(solver), copy.deepcopy(solver),
                pickle.loads(pickle.dumps(solver))):
         assert (repr(it), it.library_version) == (f"Solver({shown})", solver.library_version)
@@ -166,15 +161,12 @@ def test_a_solver_is_shown_copied_and_pickled(settings, shown):
         assert list(pool.map(solver.solve, [POSITION, AT_PASS])) == solver.solve_all([POSITION, AT_PASS])
 
 
-def test_positions_with_equal_masks_are_equal_and_the_side_is_shown_if_it_is_white():
+def test_positions_with_equal_masks_are_equal_and_keep_their_colours():
     own, opp = POSITION
     assert len({POSITION, Position(own, opp), Position(own, opp, "O")}) == 1
     assert repr(POSITION) == f"Position(own={own}, opp={opp})"
     assert repr(Position(1, 2, "O")) == "Position(own=1, opp=2, side='O')"
     assert repr(POSITION.show()) == str(POSITION)
-
-
-def test_a_position_keeps_its_colours():
     white, squares = Position(1, 2, "O"), "OX" + "-" * 62
     for text in (white.to_obf(), "oB" + "." * 62 + "w;A1:+2;"):
         assert Position.from_obf(text).to_obf() == squares + " O;"
@@ -290,18 +282,18 @@ def test_each_call_raises_out_of_memory_and_unknown_statuses(status, refusal, re
 
 @pytest.mark.parametrize("read", [Position.from_obf, lambda line: next(read_lines([line], refused=print))])
 def test_a_line_whose_moves_do_not_fit_into_memory_raises_no_memory(read):
-    with mock.patch("ffosolve._positions.LISTED") as listed:
+    with mock.patch("ffosolve._obf.LISTED") as listed:
         listed.findall.side_effect = MemoryError
         assert refused(ffosolve.NoMemory, read, CORNERS).index is None
 
 
 @pytest.mark.parametrize("name", ONE + MANY)
 def test_an_object_that_is_not_a_position_is_named(name):
-    for it in ("x", "ab", None, 5, ANSWER, (1,), (1, 2, 3), (0.5, 1), Position("a", "b"), CORNERS):
+    for it in ("x", "ab", None, 5, ANSWER, (1,), (1, 2, 3), (0.5, 1), ("a", "b"), CORNERS):
         with pytest.raises(TypeError, match=r"^a position is two masks, as Position\(own, opp\) and .* not "):
             find(name, 1, Solver(), [POSITION, it])
     for it in (Position(-1, 0), Position(0, 2**64)):
-        with pytest.raises(ValueError, match=r"^a mask is a number from 0 to 2\*\*64 - 1$"):
+        with pytest.raises(ValueError, match=r"^a mask is a whole number from 0 to 2\*\*64 - 1$"):
             find(name, 1, Solver(), [POSITION, it])
 
 
@@ -323,7 +315,7 @@ def test_a_missing_library_is_named_by_its_path(path):
 
 def test_places_are_searched_in_the_order_of_the_help(monkeypatch):
     monkeypatch.setenv("FFOSOLVE_LIBRARY", "/of/mine.so")
-    assert places() == ["/of/mine.so"]
+    assert libraries_to_try() == ["/of/mine.so"]
     monkeypatch.setenv("FFOSOLVE_LIBRARY", "")
     monkeypatch.setattr("os.path.exists", lambda _: True)
     monkeypatch.setattr(sys, "prefix", "/of/venv")
@@ -331,17 +323,18 @@ def test_places_are_searched_in_the_order_of_the_help(monkeypatch):
     folder, name = os.path.dirname(ffosolve.__file__), "libffosolve.so.1"
     of_package = [f"{folder}/{level}/{name}" for level in ("x86-64-v3", "x86-64-v2")]
     others = [f"{prefix}/lib/{name}" for prefix in ("/of/venv", "/of/python", "/usr/local")]
-    assert places() == [*of_package, name, *others]
+    assert libraries_to_try() == [*of_package, name, *others]
 
 
 @pytest.mark.parametrize("end", ["\n", "\r\n"])
-def test_lines_are_numbered_skipped_and_refused(end, tmp_path):
+def test_lines_are_numbered_skipped_and_refused_and_files_are_closed(end, tmp_path, recwarn):
     lines = ["", CORNERS, "% H1", CORNERS[:63], CORNERS[:64] + " O;", "?" + CORNERS]
     text, path = end.join(lines) + end, tmp_path / "it.obf"
     path.write_bytes(text.encode())
-    for read, given in ((parse_lines, text), (parse_lines, text.encode()), (read_lines, lines),
-                        (read_lines, [line + end for line in lines]), (read_lines, io.StringIO(text)),
-                        (read_lines, io.BytesIO(text.encode())), (read_lines, path), (read_lines, str(path))):
+    for read, given in ((parse_lines, text), (parse_lines, text.encode()), (parse_lines, bytearray(text.encode())),
+                        (read_lines, lines), (read_lines, [line + end for line in lines]),
+                        (read_lines, io.StringIO(text)), (read_lines, io.BytesIO(text.encode())), (read_lines, path),
+                        (read_lines, str(path))):
         wrong = []
         found = pickle.loads(pickle.dumps(list(read(given, refused=wrong.append))))
         assert [(line, line.number, line.side, line.listed) for line in found] == [
@@ -354,6 +347,7 @@ def test_lines_are_numbered_skipped_and_refused(end, tmp_path):
     assert next(read) == POSITION
     with pytest.raises(ffosolve.ShortBoard):
         next(read)
+    assert not [it for it in recwarn if str(path) in str(it.message)]  # such as an unclosed file
 
 
 def test_squares_have_names_and_numbers():

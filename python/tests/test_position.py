@@ -20,6 +20,12 @@ class Mine(Position):
     note = ""
 
 
+class Slotted(Position):
+    """Another, with a slot."""
+
+    __slots__ = ("note",)
+
+
 def all_of(position):
     return (type(position), tuple(position), position.side, position.last_move, position.listed, position.number,
             getattr(position, "note", None))
@@ -52,12 +58,12 @@ def test_mypy_sees_each_assignment(tmp_path, monkeypatch):
 @pytest.mark.parametrize("copied", [
     copy.copy, copy.deepcopy, lambda it: it._replace(), lambda it: it.__replace__(),
     *(lambda it, protocol=protocol: pickle.loads(pickle.dumps(it, protocol)) for protocol in range(2, 6))])
-@pytest.mark.parametrize("kind", [Position, Mine])
+@pytest.mark.parametrize("kind", [Position, Mine, Slotted])
 def test_a_copy_has_all_that_the_position_has(kind, copied):
     played, (read,) = kind.start().play("F5"), ffosolve.read_lines([CORNERS])
-    read = kind.from_obf(CORNERS) if kind is Mine else read
+    read = read if kind is Position else kind.from_obf(CORNERS)
     for position in (played, read, kind(1, 2, "O"), kind(1, 2)):
-        if kind is Mine:
+        if kind is not Position:
             position.note = "kept"
         again = copied(position)
         assert all_of(again) == all_of(position)
@@ -76,6 +82,43 @@ def test_replace_and_asdict_have_the_side():
     assert all_of(white) == (Mine, (1, 2), "O", None, (), None, "")
 
 
+def test_a_position_with_other_masks_has_no_last_move_and_no_line_but_one_with_another_side_has():
+    after, (read,) = Mine.start().play("F5"), ffosolve.read_lines([CORNERS])
+    after.note = "kept"
+    for changes in ({"own": 0, "opp": 0}, {"own": 0}, {"opp": 0, "side": "O"}):
+        other, board = after.__replace__(**changes), read.__replace__(**changes)
+        assert (other.last_move, other.note, board.listed, board.number) == (None, "kept", (), None)
+        assert str(other).count("X") == other.discs.black + (other.side == "X")
+    assert (after._replace(side="X").last_move, after._replace(opp=after.opp).last_move) == ("F5", "F5")
+    same = read._replace(own=read.own, side="O")
+    assert (same.to_obf(), same.listed, same.number) == (POSITION.to_obf("O"), read.listed, 1)
+    with pytest.raises(TypeError):
+        after._replace(last_move="A1")
+
+
+def test_a_position_is_no_sequence_but_two_masks():
+    for wrong in (lambda: POSITION < START, lambda: POSITION[0], lambda: len(POSITION), lambda: POSITION + POSITION,
+                  lambda: POSITION.count(1), lambda: POSITION.index(1), lambda: setattr(POSITION, "note", "")):
+        with pytest.raises((TypeError, AttributeError)):
+            wrong()
+    own, opp = POSITION
+    assert POSITION == (own, opp) and {POSITION: 1}[own, opp] and POSITION != (opp, own)
+    assert Slotted(own, opp) == Mine(own, opp) == POSITION != [own, opp]
+    assert "note" not in dir(POSITION) and not hasattr(POSITION, "__dict__")
+
+
+def test_numpy_takes_a_position_for_an_object():
+    numpy = pytest.importorskip("numpy")
+    positions = [START, POSITION]
+    found = numpy.array(positions)
+    assert (found.dtype, found.shape, list(found)) == (object, (2,), positions)
+
+
+def test_a_pickle_of_version_1_1_is_read():
+    read = pickle.loads(b"\x80\2cffosolve._positions\nPosition\nK\1K\2\x86\x81.")
+    assert all_of(read) == all_of(Position(1, 2))
+
+
 def test_new_positions_are_of_the_same_class():
     start = Mine.start()
     made = [start, start.play("F5"), start.play_all("f5d6"), start.passed(), Mine.from_obf(CORNERS), start.canonical(),
@@ -91,7 +134,6 @@ def test_the_last_move_is_known_of_a_position_that_a_move_made():
     assert (START.last_move, after.last_move, after.passed().last_move, after.play(43).last_move) == (
         None, "F5", "PS", "D6")
     assert [it.last_move for it in Solver().positions("f5d6c3")] == [None, "F5", "D6", "C3"]
-    assert after._replace(side="X").last_move == "F5"
 
 
 def test_a_position_tells_its_discs():
@@ -111,7 +153,7 @@ def test_a_pass_is_played_where_it_is_legal():
 
 def test_moves_of_a_list_are_counted_from_its_own_first_position():
     middle = START.play_all("f5d6c3")
-    for moves in ("d3d4", ["D3", "D4"], [19, 27]):
+    for moves in ("d3d4", ["D3", "D4"], iter([19, 27])):
         with pytest.raises(ffosolve.NoMove, match="^move 2: D4 is not a legal move for Black in "):
             middle.play_all(moves)
 
@@ -129,8 +171,9 @@ def test_the_canonical_image_is_the_least_of_the_images_and_the_same_for_all(own
     position = Position(own, opp, "O")
     images = position.symmetries()
     assert images[0] == position
-    assert {image.canonical() for image in images} == {min(images)}
-    assert position.canonical_symmetry == images.index(min(images))
+    least = min(images, key=tuple)
+    assert {image.canonical() for image in images} == {least}
+    assert position.canonical_symmetry == images.index(least)
     assert [position.image(number) for number in range(8)] == images
     assert {image.side for image in (*images, position.canonical())} == {"O"}
 
@@ -148,6 +191,9 @@ def test_a_symmetry_moves_squares_as_its_help_says_and_its_inverse_moves_them_ba
     for symmetry in Symmetry:
         moves = {symmetry.square(move) for move in START.play("F5").legal_moves}
         assert moves == set(START.play("F5").image(symmetry).legal_moves)
+        assert [symmetry.square(move) for move in ("PS", "ps", "--")] == ["PS", "PS", "--"]
+        assert (symmetry.mask(START.own), symmetry.mask(START.opp)) == tuple(START.image(symmetry))
+        assert (symmetry.mask(0), symmetry.mask(2 ** 64 - 1)) == (0, 2 ** 64 - 1)
 
 
 def test_the_picture_marks_the_last_move_and_is_saved(tmp_path):

@@ -6,14 +6,16 @@ import pytest
 from calls import AT_PASS, CORNERS, END, OVER, PASS, PASSES, POSITION
 import ffosolve
 from ffosolve import (
-    START, Answer, Board, Kind, NoMove, Position, SharedSquare, Solver, TooManyEntries, UnknownScoring,
+    START, Answer, Board, Kind, NoMove, Position, SharedSquare, Solver, Symmetry, TooManyEntries, UnknownScoring,
     UnknownSymmetry, parse_lines, read_lines, square_name, square_names, square_number)
 
-AFTER, SHARED, FULL = START.play("F5"), Position(3, 2), Position(2**64 - 1, 0)
-FIRST, SECOND, THIRD = START.to_obf(), AFTER.to_obf(), AFTER.play("D6").to_obf()
+FIRST = f"{'-' * 27}OX{'-' * 6}XO{'-' * 27} X;"
+SECOND = f"{'-' * 27}OX{'-' * 6}XXX{'-' * 26} O;"  # after F5
+THIRD = f"{'-' * 27}OX{'-' * 6}OXX{'-' * 5}O{'-' * 20} X;"  # after D6
+AFTER, SHARED, FULL = Position.from_obf(SECOND), Position(3, 2), Position(2**64 - 1, 0)
 NO_SQUARE = "a square is a name such as 'F5' or a number from 0 to 63, not "
 SHARES, SCORING = "the masks share a square", "a scoring is 'winner', 'discs' or 'sign', not "
-MASK = "a mask is a number from 0 to 2**64 - 1"
+MASK = "a mask is a whole number from 0 to 2**64 - 1"
 LISTED = "a move is listed by the name of a square, as PS or as --, not as "
 LINES = "lines are read from a path or an iterable of lines such as an open file, not from "
 TEXT, CLAIM = "OBF text is of the type str or bytes, not ", "a claim is an Answer(score, kind, best), not "
@@ -47,7 +49,8 @@ REFUSED = [
     (TypeError, None, lambda: square_name("A1")),
     *((TypeError, f"moves are a transcript or a list of squares, not {it!r}", lambda it=it: START.play_all(it))
       for it in (5, None, b"f5d6")),
-    *((ValueError, f"{MASK}, not {mask}", lambda mask=mask: square_names(mask)) for mask in (-1, 1 << 64)),
+    *((ValueError, f"{MASK}, not {mask}", lambda call=call, mask=mask: call(mask))
+      for call in (square_names, Symmetry.HALF_TURN.mask) for mask in (-1, 1 << 64)),
     (ValueError, f"the game is not over, so only a Solver finds the score: {FIRST}", START.score),
     (ValueError, f"the game is not over, so only a Solver finds the score: {PASS}", AT_PASS.score),
     (UnknownScoring, f"{SCORING}'loser'", lambda: OVER.score("loser")),
@@ -56,6 +59,8 @@ REFUSED = [
         lambda: SHARED.play(9), lambda: SHARED.play_all("f5"))),
     *((UnknownSymmetry, f"a symmetry has a number from 0 to 7, not {number}", lambda number=number: START.image(number))
       for number in (-1, 8, 256, 2**32)),
+    *((TypeError, f"{MASK}, not {it!r}", call) for it in (0.5, "a", None) for call in (
+        lambda it=it: Position(it, 2), lambda it=it: Position(1, it), lambda it=it: START._replace(own=it))),
     (ValueError, f"{SIDE}'black'", lambda: Position(1, 2, "black")),
     (ValueError, f"{SIDE}'black'", lambda: POSITION.show({}, "black")),
     (ValueError, "C1 has a score, but is not empty", lambda: POSITION.show({"C1": 3})),
@@ -63,7 +68,7 @@ REFUSED = [
     (TypeError, "the score of A1 is a number, not 'x'", lambda: POSITION.show({"A1": "x"})),
     (TypeError, "the score of A1 is a number, not None", lambda: POSITION.show({"A1": None})),
     *((TypeError, SHOWN + text, lambda it=it: POSITION.show(it)) for it, text in (
-        (62, "62"), ([("H1", 62)], "[('H1', 62)]"), (POSITION.listed, "(('H1', 62), ('PS', -4))"))),
+        (62, "62"), ([], "[]"), ([("H1", 62)], "[('H1', 62)]"), (POSITION.listed, "(('H1', 62), ('PS', -4))"))),
     (ValueError, "a board is saved as a picture in SVG, so its file's name ends with .svg: it.png",
      lambda: START.show().save("it.png")),
     (FileNotFoundError, None, lambda: START.show().save("/nowhere/it.svg")),

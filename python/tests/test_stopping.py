@@ -1,16 +1,21 @@
-"""A call that is left stops, and calls that may last are made in processes, which are kept and end with the program."""
+"""Calls can be interrupted or cancelled. Those that may last are made in processes, which end with the program, even
+while it forks or ends."""
 import asyncio
 import contextlib
+import contextvars
 import gc
+import inspect
 import os
 import resource
+import shutil
 import signal
 import struct
 import subprocess
 import sys
 import threading
 import time
-from concurrent.futures import thread as executors
+from concurrent.futures import CancelledError
+from unittest import mock
 
 import psutil
 import pytest
@@ -18,13 +23,13 @@ import pytest
 from calls import ANSWER, MANY, SEARCHES, find
 from calls import POSITION as EASY
 import ffosolve
-from ffosolve import START, Answer, Kind, Position, Solver, _library, _processes
+from ffosolve import START, Answer, Kind, Position, Solver, _library, _processes, _solvers
 
 HOPELESS = START  # would take years
 HARD = Position.from_obf("XXX--OXOOXOOOOOO-XXXXXOO-XXXXOOO---XOXOO--OOOOOO---OOXOO----OOOO X;")  # 16 empty squares
 QUICK = Position.from_obf("OXXX-XO-XOXXXXXX--OXOXOXOOOOXXOXOOOXXXXXOOOOOOXXXXOOOXXX--OOX-XO O;")  # 7 empty squares
 LATE = 60  # seconds that a busy machine may take for what is done at once
-
+PACKAGES = os.path.dirname(os.path.dirname(ffosolve.__file__))
 
 CALLS = [*((name, None) for name in SEARCHES), *((name, threads) for threads in (1, 3) for name in MANY)]
 each_call, on_threads = pytest.mark.parametrize("name, threads", CALLS), pytest.mark.parametrize("threads", [1, 3])
@@ -132,23 +137,45 @@ def by_ctrl_c(call):
         call()
 
 
-def by_asyncio(call):
-    has_begun = threading.Event()
+async def waited_for(task):
+    with pytest.raises(asyncio.TimeoutError):
+        await asyncio.wait_for(task, 0.3)
+
+
+async def cancelled(task):
+    await asyncio.sleep(0.3)
+    task.cancel()
+    with pytest.raises(asyncio.CancelledError):
+        await task
+
+
+async def dropped(task):
+    """asyncio.run cancels the task, as after Ctrl-C."""
+    await asyncio.sleep(0.3)
+
+
+def by_asyncio(call, end=waited_for, to_thread=ffosolve.to_thread):
+    """Lets a task of asyncio make a call in a thread. Once it has begun, `end` ends the task, after 0.3 seconds."""
+    has_begun, raised = threading.Event(), []
 
     def begin():
         has_begun.set()
-        call()
+        try:
+            call()
+        except BaseException as error:
+            raised.append(type(error))
+            raise
 
     async def main():
-        task = asyncio.create_task(asyncio.to_thread(begin))
+        task = asyncio.create_task(to_thread(begin))
         while not has_begun.is_set():
             await asyncio.sleep(0.01)
-        with pytest.raises(asyncio.TimeoutError):
-            await asyncio.wait_for(task, 0.3)
+        await end(task)
 
     # A call that goes on would keep asyncio from ending.
     with timer(LATE / 2, lambda: [os.kill(process, signal.SIGKILL) for process in children()]):
         asyncio.run(main())
+    assert raised == [CancelledError if to_thread is ffosolve.to_thread else TimeoutError]
 
 
 @pytest.mark.parametrize("leave", [by_timeout, by_signal, by_ctrl_c, by_asyncio])
@@ -161,21 +188,48 @@ def test_a_call_that_is_left_ends_at_once_and_stops(name, threads, leave, solver
     assert_no_processor_works()
 
 
-@pytest.mark.parametrize("changed", ["other name", "other frame"])
-def test_on_another_executor_asyncio_does_not_stop_a_call_but_its_timeout_does(changed, solver, monkeypatch):
-    found, run = [], executors._WorkItem.run
+@pytest.mark.parametrize("end", [waited_for, cancelled, dropped])
+def test_a_call_ends_with_its_task_even_among_brief_ones_but_in_another_thread_only_by_its_timeout(end, solver):
+    by_asyncio(lambda: solver.solve(HOPELESS), end)
+    by_asyncio(lambda: [solver.solve(EASY) for _ in iter(bool, True)], end)
+    by_asyncio(lambda: solver.solve(HOPELESS, timeout=1), end, asyncio.to_thread)
+    assert_no_processor_works()
 
-    def call():
-        if changed == "other name":
-            monkeypatch.delattr(executors, "_WorkItem")
-        with pytest.raises(TimeoutError):
-            solver.solve(HOPELESS, timeout=1)
-        found.append("timeout")
 
-    if changed == "other frame":
-        monkeypatch.setattr(executors._WorkItem, "run", lambda item, *given: run(item, *given))
-    by_asyncio(call)
-    assert found == ["timeout"]
+def test_to_thread_does_what_that_of_asyncio_does(solver):
+    assert [(it.name, it.kind) for it in inspect.signature(ffosolve.to_thread).parameters.values()] == [
+        (it.name, it.kind) for it in inspect.signature(asyncio.to_thread).parameters.values()]
+    known = contextvars.ContextVar("known")
+
+    def call(*given, **named):
+        known.set("changed")
+        return threading.get_ident(), given, named
+
+    async def main():
+        known.set("kept")
+        thread, *found = await ffosolve.to_thread(call, 1, func=known.get)
+        assert (thread != threading.get_ident(), found, known.get()) == (True, [(1,), {"func": known.get}], "kept")
+        assert await ffosolve.to_thread(known.get) == "kept"
+        with pytest.raises(ffosolve.SharedSquare):
+            await ffosolve.to_thread(solver.solve, Position(3, 2))
+        calls = [ffosolve.to_thread(solver.solve, position, timeout=LATE) for position in (EASY, HARD, EASY)]
+        first = asyncio.create_task(ffosolve.to_thread(solver.solve, HOPELESS))
+        answers = asyncio.gather(*calls)
+        await cancelled(first)
+        assert await answers == solver.solve_all([EASY, HARD, EASY])
+
+    asyncio.run(main())
+
+
+def test_a_failed_task_of_a_group_ends_the_calls_of_the_others(solver):
+    async def main():
+        async with asyncio.TaskGroup() as group:
+            for position in (HOPELESS, HOPELESS, Position(3, 2)):
+                group.create_task(ffosolve.to_thread(solver.solve, position))
+
+    with pytest.raises(BaseException) as caught:
+        asyncio.run(main())
+    assert [type(error) for error in caught.value.exceptions] == [ffosolve.SharedSquare]
     assert_no_processor_works()
 
 
@@ -283,7 +337,7 @@ def test_another_process_gets_each_argument_and_returns_each_status(tmp_path, mo
     asked, zeros, claim = list(map(tuple, both)), bytes(144).hex(), struct.pack("iiQ", -30, 1, 2**62).hex()
     with open(log) as noted:
         assert noted.read().splitlines() == [
-            f"{_library.path_of(solver._library)} {words}" for words in (
+            f"{_library.library_path(solver._library)} {words}" for words in (
                 f"ffosolve_confirm 2 5 {asked[:1]} {claim}", f"ffosolve_solve_all 2 5 {asked} {zeros[:64]}",
                 f"ffosolve_move_scores_all 2 5 {asked} {zeros}")]
     assert len(kept()) == 1
@@ -294,7 +348,7 @@ def test_another_process_gets_each_argument_and_returns_each_status(tmp_path, mo
 
 def test_another_process_finds_the_library_that_this_one_found_by_its_name(solver, monkeypatch):
     """Since it is loaded, the system's loader finds it by name wherever it is."""
-    monkeypatch.setenv("FFOSOLVE_LIBRARY", _library.NAME)
+    monkeypatch.setenv("FFOSOLVE_LIBRARY", _library.FILE_NAME)
     assert Solver().solve(HARD) == solver.solve(HARD)
 
 
@@ -303,6 +357,7 @@ def test_processes_are_kept_and_used_again(solver):
         solver.solve(HARD)
         solver.move_scores(HARD)
     (process,) = kept()
+    assert psutil.Process(process).cwd() == "/"  # so that any other file system can be unmounted
     solver.solve_all([HARD] * 12, threads=3)
     assert process in kept() and 2 <= len(kept()) <= min(3, os.cpu_count())
     solver.solve_all([HARD] * 9, threads=9)
@@ -386,8 +441,20 @@ def test_without_a_path_of_python_a_call_is_made_but_has_no_timeout(name, value,
     _processes.end_idle()
     monkeypatch.setattr(sys, name, value, raising=False)
     assert (solver.solve(HARD), children()) == (wanted, [])
-    with pytest.raises(FileNotFoundError):
+    with pytest.raises(FileNotFoundError, match=f"^no process can be started: |'{value}'$"):
         solver.solve(HARD, timeout=100)
+
+
+def test_a_best_line_claims_the_score_that_is_known_and_has_one_timeout(monkeypatch):
+    claims, calls = [], mock.Mock(wraps=_solvers.SolverCall)
+    monkeypatch.setattr(_processes, "is_brief", lambda *_: True)
+    monkeypatch.setattr(_solvers, "SolverCall", calls)
+    solver = Solver()
+    solver._library = mock.Mock(wraps=solver._library)
+    solver._library.ffosolve_confirm.side_effect = lambda *words: (claims.append(words[3].score), mock.DEFAULT)[1]
+    assert solver.best_line(EASY, timeout=LATE) == [("H1", 62), ("PS", -62), ("A1", 62)]
+    assert claims == [-62, 62, -62]
+    assert [call.args[1:] for call in calls.call_args_list] == [(LATE,)]
 
 
 PROGRAM = f"""if True:
@@ -407,10 +474,9 @@ PROGRAM = f"""if True:
 """
 
 
-def ran(code, **how):
-    environment = {**os.environ, "PYTHONPATH": os.path.dirname(os.path.dirname(ffosolve.__file__))}
-    return subprocess.run([sys.executable, "-c", PROGRAM + code], env=environment, capture_output=True, text=True,
-                          timeout=LATE, **how)
+def ran(code, packages=PACKAGES, **how):
+    return subprocess.run([sys.executable, "-c", PROGRAM + code], env={**os.environ, "PYTHONPATH": packages}, cwd="/",
+                          capture_output=True, text=True, timeout=LATE, **how)
 
 
 @pytest.mark.parametrize("code", [
@@ -419,6 +485,37 @@ def ran(code, **how):
 def test_the_processes_end_with_the_program(code):
     (process,) = map(int, ran(code).stdout.split())
     wait_until(lambda: state(process) == psutil.STATUS_ZOMBIE)
+
+
+def test_a_forked_process_does_not_keep_the_calls_of_its_killed_parent():
+    code = """
+    begin()
+    child = os.fork()
+    if not child:
+        os.closerange(1, 3)
+        time.sleep(600)
+    print(child, flush=True)
+    os.kill(os.getpid(), signal.SIGKILL)
+"""
+    process, child = map(int, ran(code).stdout.split())
+    try:
+        wait_until(lambda: state(process) == psutil.STATUS_ZOMBIE)
+        assert state(child) != psutil.STATUS_ZOMBIE
+    finally:
+        os.kill(child, signal.SIGKILL)
+
+
+def test_a_program_ends_with_an_iterator_half_way():
+    found = ran("    answers = solver.solve_iter(iter(lambda: hard, None), threads=2); print(next(answers))")
+    assert (found.returncode, found.stdout) == (0, f"{Solver().solve(HARD)}\n")
+
+
+def test_a_package_in_a_zip_makes_calls_but_has_no_timeout(tmp_path, monkeypatch):
+    packages = shutil.make_archive(str(tmp_path / "it"), "zip", PACKAGES, "ffosolve")
+    monkeypatch.setenv("FFOSOLVE_LIBRARY", _library.library_path(Solver()._library))
+    found = ran("    print(solver.solve(hard)); solver.solve(hard, timeout=60)", packages)
+    assert (found.returncode, found.stdout) == (1, f"{Solver().solve(HARD)}\n")
+    assert found.stderr.splitlines()[-1].startswith("FileNotFoundError: no process can be started: ")
 
 
 def test_an_object_that_is_deleted_while_python_ends_may_call_without_a_timeout():

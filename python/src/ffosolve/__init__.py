@@ -26,8 +26,8 @@ with two more empty squares takes some 2 to 20 times as long.
 
 `read_lines("list.obf")` reads a file of lines such as `from_obf` reads, and `solver.scored_line(position)` writes one.
 `read_games("WTH_2001.wtb")` reads games; `solver.positions(game)` has a game's positions, and `game.turns()` each move
-with the position in which it is made, which is what a search for a player's mistakes needs. `compare_scores` compares a
-list's scores with those of `ffoscores`. With NumPy, `solver.solve_arrays(*masks_of(positions))` solves arrays.
+with the position in which it is made, which is what a search for a player's mistakes needs. `compare_scores` compares
+the scores of an evaluation with exact ones. With NumPy, `solver.solve_arrays(*masks_of(positions))` solves arrays.
 
 `position.canonical()` is the same for all eight images of a position, as a book needs it, and
 `position.canonical_symmetry.square("F5")` is the square that a move becomes there.
@@ -35,23 +35,40 @@ list's scores with those of `ffoscores`. With NumPy, `solver.solve_arrays(*masks
 A notebook shows a position as a picture. `position.show(solver.move_scores(position))` adds the scores of its moves;
 `position.show().save("board.svg")` writes the picture to a file.
 
-A call that is left stops at once: by Ctrl-C, or another signal whose handler raises an exception; by `timeout=SECONDS`
-(TimeoutError); if an iterator is closed; or if asyncio cancels what awaits `asyncio.to_thread(solver.solve, position)`.
-The last works in the thread pools of Python 3.8 to 3.13; in others, a call goes on until its `timeout`. For all this,
-calls that may last are made in processes of their own, which end with the program. Brief calls, for one position with
-at most 14 empty squares or 4,096 with at most 8, are made without; they end within 0.2 seconds anyway. Several threads
-may call at once, and so may the processes of a pool, since a Solver can be pickled.
+A call stops at once if it is interrupted: by Ctrl-C, or another signal whose handler raises an exception; after
+`timeout=SECONDS` (TimeoutError); if its iterator is closed; or if asyncio cancels the task that awaits
+`ffosolve.to_thread(solver.solve, position)`. What awaits `asyncio.to_thread` or another pool of threads can be
+cancelled, too, but the call goes on in its thread until its `timeout`, and `asyncio.run` waits for it.
+
+Calls are made by processes of their own, which can be stopped and end with the program. If somebody else ends such a
+process, its call raises ChildProcessError. If none can be started, as while Python is ending, in a frozen program or
+with this package in a zip, a call with a `timeout` raises OSError, and one without is made in this process. A brief
+call, for one position with at most 14 empty squares or 4,096 with at most 8, is made in this process anyway: it ends as
+usual, within half a second, even after its `timeout`. Several threads may call at once, and so may the processes of a
+pool, since a Solver can be pickled.
 
 The wheel that `make wheel` builds contains the shared library. Without that wheel, install the library, or name its
 path: `Solver("FOLDER/libffosolve.so")` or FFOSOLVE_LIBRARY. Reading, writing and showing positions needs no library.
+
+The classes and functions have a help of their own, such as `help(ffosolve.Position)`:
+
+    positions    Position START Board Discs Symmetry square_name square_names square_number
+    solving      Solver Answer Kind Scoring NO_SCORE MOST_EMPTIES MOST_ENTRIES table_entries to_thread
+    files        read_lines parse_lines read_games Game compare_scores ScoreComparison WrongScore
+    arrays       masks_of positions_from
+    errors       Refused (of calls: NoMemory NoMove SharedSquare TooManyEmpties TooManyEntries UnequalLengths
+                 UnknownScoring UnknownSymmetry OtherRefusal; of lines: LineRefused NoPosition ShortBoard BadSquare
+                 BadSide), whose `status` is a Status; GameRefused LibraryNotFound ReadingWarning
 """
 from typing import TYPE_CHECKING
 
 from ._answers import Answer, Kind, Scoring
+from ._arrays import masks_of, positions_from
 from ._boards import Board
 from ._games import Game, GameRefused, read_games
 from ._library import MOST_EMPTIES, MOST_ENTRIES, LibraryNotFound
-from ._positions import START, Discs, Position, masks_of, parse_lines, positions_from, read_lines
+from ._lists import parse_lines, read_lines
+from ._positions import START, Discs, Position
 from ._refusals import (
     BadSide, BadSquare, LineRefused, NoMemory, NoMove, NoPosition, OtherRefusal, Refused, SharedSquare, ShortBoard,
     Status, TooManyEmpties, TooManyEntries, UnequalLengths, UnknownScoring, UnknownSymmetry)
@@ -59,11 +76,22 @@ from ._score_comparison import ScoreComparison, WrongScore, compare_scores
 from ._solvers import NO_SCORE, Solver, table_entries
 from ._squares import square_name, square_number, square_names
 from ._symmetries import Symmetry
+from ._tasks import to_thread
+from ._text import ReadingWarning
 
 Line = Position  # what read_lines yields had this name in earlier versions
 
 if TYPE_CHECKING:
     __version__: str
+    # While Python runs, there is no __all__: `help` would show each class, with all that it inherits.
+    __all__ = [
+        "MOST_EMPTIES", "MOST_ENTRIES", "NO_SCORE", "START", "Answer", "BadSide", "BadSquare", "Board", "Discs", "Game",
+        "GameRefused", "Kind", "LibraryNotFound", "LineRefused", "NoMemory", "NoMove", "NoPosition", "OtherRefusal",
+        "Position", "ReadingWarning", "Refused", "ScoreComparison", "Scoring", "SharedSquare", "ShortBoard", "Solver",
+        "Status", "Symmetry", "TooManyEmpties", "TooManyEntries", "UnequalLengths", "UnknownScoring", "UnknownSymmetry",
+        "WrongScore", "compare_scores", "masks_of", "parse_lines", "positions_from", "read_games", "read_lines",
+        "square_name", "square_names", "square_number", "table_entries", "to_thread",
+    ]
 else:
     def __getattr__(name):
         """Finds `__version__` when it is first asked for, since that takes a while."""
@@ -71,12 +99,3 @@ else:
             raise AttributeError(f"module {__name__!r} has no attribute {name!r}")
         from ._version import version
         return version()
-
-__all__ = [
-    "MOST_EMPTIES", "MOST_ENTRIES", "NO_SCORE", "START", "Answer", "BadSide", "BadSquare", "Board", "Discs", "Game",
-    "GameRefused", "Kind", "LibraryNotFound", "LineRefused", "NoMemory", "NoMove", "NoPosition", "OtherRefusal",
-    "Position", "Refused", "ScoreComparison", "Scoring", "SharedSquare", "ShortBoard", "Solver", "Status", "Symmetry",
-    "TooManyEmpties", "TooManyEntries", "UnequalLengths", "UnknownScoring", "UnknownSymmetry", "WrongScore",
-    "compare_scores", "masks_of", "parse_lines", "positions_from", "read_games", "read_lines", "square_name",
-    "square_names", "square_number", "table_entries",
-]

@@ -7,7 +7,7 @@ from ._squares import square_names
 
 
 class Named(enum.IntEnum):
-    """A number that prints as its name in small letters."""
+    """A number that prints as its name in lower case."""
 
     def __str__(self) -> str:
         return self.name.lower()
@@ -59,3 +59,6 @@ class Answer(NamedTuple):
 
     def __str__(self) -> str:
         return f"{self.score:+03} {','.join(self.squares) or ENDS.get(self.kind, '')}"
+
+    def __format__(self, form: str) -> str:
+        return format(str(self), form)

@@ -1,16 +1,11 @@
-"""Solves positions in NumPy arrays. Only calls for arrays import this module, so the others need no NumPy."""
-from typing import Any, List, NamedTuple, Optional, Tuple
-
-import numpy
+"""Positions and answers in arrays. Only the calls for arrays need NumPy, so each imports it itself."""
+from typing import Any, Callable, Iterable, List, NamedTuple, Tuple
 
 from ._bulk import MOST_WEIGHT, in_order
 from ._library import CPosition
-from ._processes import LIGHTEST, Run
-from ._refusals import checked_number
-from ._rules import checked_empties
-from ._solvers import Solver
-
-SIZES = numpy.array([bin(byte).count("1") for byte in range(256)], numpy.uint8)  # the number of bits in each byte
+from ._positions import Position
+from ._processes import LIGHTEST, SolverCall
+from ._rules import c_positions, checked_position, checked_positions, masks_and_empties
 
 
 class Answers(NamedTuple):
@@ -21,24 +16,31 @@ class Answers(NamedTuple):
     best: Any
 
 
-def slices_of(solver: Solver, masks: Any, threads: int) -> List[Tuple[slice, int]]:
-    """Cuts an array of positions into parts; if `threads` is 1, into one. A row of `masks` is a position: the masks of
-    the mover's and of the other side's discs. Returns, for each part, the slice of its rows and the greatest number of
-    empty squares in a position. Raises SharedSquare or TooManyEmpties for the first refused position."""
-    own, opp = masks[:, 0], masks[:, 1]
-    empties = 64 - SIZES[(own | opp).view(numpy.uint8)].reshape(-1, 8).sum(axis=1, dtype=numpy.int64)
-    for index in numpy.flatnonzero((own & opp != 0) | (empties > solver.max_empties)).tolist():
-        checked_empties(masks[index].tolist(), solver.max_empties, index)
-    weights = numpy.left_shift(1, numpy.clip(empties - LIGHTEST, 0, None)) * (threads > 1)
-    ends = numpy.flatnonzero(numpy.diff(weights.cumsum() // MOST_WEIGHT)) + 1
-    bounds = [0, *ends.tolist(), len(masks)]
-    parts = [slice(start, end) for start, end in zip(bounds, bounds[1:]) if start < end]
-    return [(part, int(empties[part].max())) for part in parts]
+def masks_of(positions: Iterable[Position]) -> Tuple[Any, Any]:
+    """Returns (own, opp) for positions: arrays of uint64 with the masks of the discs of the side to move and of the
+    other side, as `Solver.solve_arrays` takes them. Raises ValueError for a mask outside 0 to 2**64 - 1, and TypeError
+    for an object that is not a position."""
+    import numpy
+
+    listed = [mask for position in checked_positions(positions) for mask in masks_and_empties(position)[:2]]
+    # To read the type of a ctypes array, NumPy runs Python code that takes an exception of a signal for a wrong type.
+    masks = numpy.frombuffer(c_positions(listed), numpy.uint64).reshape(-1, 2)
+    return masks[:, 0].copy(), masks[:, 1].copy()
 
 
-def checked(own: Any, opp: Any) -> Tuple[Any, Any]:
-    """Returns the masks of the mover's and of the other side's discs as arrays. Raises TypeError unless they are arrays
-    of uint64, and ValueError unless these have one dimension and equal lengths."""
+def positions_from(own: Any, opp: Any, side: str = "X") -> List[Position]:
+    """Returns the positions in arrays such as `masks_of` returns; `side` is to move in each. Raises TypeError and
+    ValueError for other arrays, and ValueError for another side than "X" and "O"."""
+    rows: List[Tuple[int, int]] = rows_of(own, opp).tolist()
+    return [Position(*masks, side) for masks in rows]
+
+
+def rows_of(own: Any, opp: Any) -> Any:
+    """Returns an array with a row of two masks for each position in arrays such as `masks_of` returns, laid out as a
+    CPosition. Raises TypeError unless they are arrays of uint64, and ValueError unless these have one dimension and
+    equal lengths."""
+    import numpy
+
     own, opp = numpy.asarray(own), numpy.asarray(opp)
     for masks in (own, opp):
         if masks.dtype != numpy.uint64:
@@ -46,23 +48,41 @@ def checked(own: Any, opp: Any) -> Tuple[Any, Any]:
             raise TypeError(f"{wanted}, not of {masks.dtype}")
     if own.ndim != 1 or own.shape != opp.shape:
         raise ValueError("the masks are two arrays of one dimension and of equal length")
-    return own, opp
+    return numpy.stack((own, opp), axis=1)
 
 
-def found_by(solver: Solver, name: str, record: Any, own: Any, opp: Any, threads: int, timeout: Optional[float]
-             ) -> List[Any]:
-    """Solves positions by the call `name` of the library, which writes a `record` (a C structure) for each position.
-    Returns an array for each member of `record`. Raises the same as `checked`, and Refused and TimeoutError."""
-    run = Run(solver._library, timeout)
-    masks = numpy.stack(checked(own, opp), axis=1)  # each row is laid out as a CPosition
-    found: Any = numpy.empty(len(masks), record)
+def slices_of(rows: Any, max_empties: int, threads: int) -> List[Tuple[slice, int]]:
+    """Cuts the `rows_of` arrays into slices; if `threads` is 1, into one. Returns each with the greatest number of
+    empty squares in its positions. Raises SharedSquare, or TooManyEmpties for more than `max_empties`, for the first
+    refused position."""
+    import numpy
 
-    def call_for(run: Run, part: Tuple[slice, int]) -> Tuple[()]:
-        rows, empties = part
-        count = len(masks[rows])
-        asked, results = (CPosition * count).from_buffer(masks[rows]), (record * count).from_buffer(found[rows])
-        solver._search(run, name, asked, results, empties)
+    own, opp = rows[:, 0], rows[:, 1]
+    sizes = numpy.array([bin(byte).count("1") for byte in range(256)], numpy.uint8)  # how many bits each byte has
+    empties = 64 - sizes[(own | opp).view(numpy.uint8)].reshape(-1, 8).sum(axis=1, dtype=numpy.int64)
+    for index in numpy.flatnonzero((own & opp != 0) | (empties > max_empties)).tolist():
+        checked_position(rows[index].tolist(), max_empties, index)
+    weights = numpy.left_shift(1, numpy.clip(empties - LIGHTEST, 0, None)) * (threads > 1)
+    ends = numpy.flatnonzero(numpy.diff(weights.cumsum() // MOST_WEIGHT)) + 1
+    bounds = [0, *ends.tolist(), len(rows)]
+    slices = [slice(start, end) for start, end in zip(bounds, bounds[1:]) if start < end]
+    return [(it, int(empties[it].max())) for it in slices]
+
+
+def found_by(search: Callable[[Any, Any, int], None], call: SolverCall, record: Any, rows: Any, max_empties: int,
+             threads: int) -> List[Any]:
+    """Solves the positions in `rows`, as `rows_of` returns them, by `search`: it takes arrays of CPositions and of
+    records (C structures), and the greatest number of empty squares, and writes what it finds to the records. Returns
+    an array for each member of `record`. Raises what `slices_of` and `in_order` raise."""
+    import numpy
+
+    found: Any = numpy.empty(len(rows), record)
+
+    def solve(part: Tuple[slice, int]) -> Tuple[()]:
+        at, empties = part
+        count = len(rows[at])
+        search((CPosition * count).from_buffer(rows[at]), (record * count).from_buffer(found[at]), empties)
         return ()  # the results are in `found`
 
-    list(in_order(run, call_for, slices_of(solver, masks, checked_number("threads", threads, 1)), threads))
+    list(in_order(call, solve, slices_of(rows, max_empties, threads), threads))
     return [numpy.ascontiguousarray(found[field]) for field, _ in record._fields_]

@@ -1,6 +1,8 @@
 """What the package's programs have in common: exit statuses, refusals, messages, output, signals and new files."""
 import argparse
 import contextlib
+import fcntl
+import io
 import os
 import re
 import shutil
@@ -9,6 +11,7 @@ import stat
 import sys
 import tempfile
 import threading
+import time
 from pathlib import Path
 from types import FrameType
 from typing import IO, Any, Callable, Dict, Iterable, Iterator, Mapping, NoReturn, Optional, Set, Tuple, Type, Union
@@ -42,6 +45,17 @@ def refusing(verb: str, what: Union[str, "os.PathLike[str]"],
         raise Refusal(f"cannot {verb} {shown(what)}: {why.strerror or why}") from why
 
 
+@contextlib.contextmanager
+def file_of(name: str) -> Iterator[io.BufferedReader]:
+    """Opens a file, or standard input for `-`. Refuses if that, or reading in the body of the `with`, fails."""
+    with refusing("read", name), open(0 if name == "-" else name, "rb", closefd=name != "-") as file:
+        yield file
+
+
+def misused(text: str) -> Refusal:
+    return Refusal(f"{text}. Try '{name} --help'", MISUSED)
+
+
 class Parser(argparse.ArgumentParser):
     """Reads a command line. Refuses a wrong one, with one line; --help and --version go to standard output."""
 
@@ -61,7 +75,7 @@ class Parser(argparse.ArgumentParser):
         return f"{name} {__version__}"
 
     def error(self, message: str) -> NoReturn:
-        raise Refusal(f"{re.sub('^argument ', '', message)}. Try '{name} --help'", MISUSED)
+        raise misused(re.sub("^argument ", "", message))
 
     def _print_message(self, message: str, file: Optional[IO[str]] = None) -> None:
         print_all([message.encode()])
@@ -110,7 +124,7 @@ def regular(name: str) -> Path:
     path = path_of(name)
     if str(path) == "/dev/stdin" and sys.stdin is None:
         raise Refusal(f"cannot read {name}: standard input is closed")
-    with refusing("read", name), open(0 if name == "-" else path, "rb", closefd=name != "-") as source:
+    with file_of(name) as source:
         if path.is_file() and not (name == "-" and source.tell()):
             return path
         with refusing(f"copy {shown(name)} to", tempfile.gettempdir()), tempfile.TemporaryFile() as copy:
@@ -129,6 +143,20 @@ def replace(name: str, pieces: Iterable[bytes]) -> None:
             write_whole({os.path.realpath(name): pieces}, replaces=True, mode=stat.S_IMODE(mode))
         else:
             file.writelines(pieces)
+
+
+def lock_file(file: int, folder: Union[str, "os.PathLike[str]"], what: str) -> None:
+    """Locks an open file, for as long as it is open. It stands for a folder, in which `what`, such as a run, works:
+    refuses if another one does, unless that ends within two seconds."""
+    for _ in range(40):
+        try:
+            return fcntl.flock(file, fcntl.LOCK_EX | fcntl.LOCK_NB)
+        except BlockingIOError:
+            time.sleep(0.05)
+        except OSError as why:
+            return say(f"cannot lock {shown(folder)}, since its file system has no flock ({why.strerror}): let no other"
+                       f" {what} work there, or name another folder")
+    raise Refusal(f"another {what} works in {shown(folder)}")
 
 
 def print_all(pieces: Iterable[bytes]) -> None:

@@ -1,21 +1,25 @@
-"""Reads games from transcripts and WTHOR files, and plays them by the library's rules."""
+"""Reads games from transcripts and WTHOR files, plays them by the library's rules, and corrects scores in a file."""
 import contextlib
 import io
 import os
 import struct
-from typing import Any, BinaryIO, Callable, Iterator, List, NamedTuple, Optional, Sequence, Tuple, Type, Union
+import warnings
+from typing import (Any, BinaryIO, Callable, Iterable, Iterator, List, Mapping, NamedTuple, Optional, Sequence, Tuple,
+                    Type, Union)
 
 from ._positions import NO_SQUARE, START, Position, played
 from ._refusals import NoMove
 from ._squares import NAMES
-from ._text import NotText, refuse_archive, text_lines
-from ._transcripts import PASSES, words_of
+from ._text import NotText, ReadingWarning, refuse_archive, shown, text_lines
+from ._transcripts import PASSES, transcript_words
 
 PASS = 64  # instead of a square's number
 WORDS = {**{name.lower(): number for number, name in enumerate(NAMES)}, **dict.fromkeys(PASSES, PASS)}
-HEADER = struct.Struct("<4x I H 2x B B B x")  # games, other records, size of the board, kind, empty squares
+HEADER = struct.Struct("<4x I H H B B B x")  # games, other records, year, size of the board, kind, empty squares
 EMPTIES_BYTE = 14  # in the header: the number of empty squares
 RECORD, REAL, SCORE, FIRST_MOVE = 68, 6, 7, 8  # the length of a game's record in bytes, and offsets in it
+NUMBERS = struct.Struct("<HHH")  # how a record begins: the numbers, from 0, of the tournament, of Black and of White
+PLAYER, TOURNAMENT = 20, 26  # bytes of a name, with the NUL after it, in a file of players or tournaments
 MOST_DISCS = 64
 SQUARE_NUMBERS = range(64)
 # The number of the square that each byte stands for in a WTHOR file: ten times the row plus the column, both from 1.
@@ -41,24 +45,31 @@ class Game(NamedTuple):
     `number` counts from 1: it is the game's line in a text, or its place in a WTHOR file. Only a WTHOR file has scores.
     A score is the number of Black's discs, 0 to 64; the winner also gets the empty squares. `score` is the theoretical
     score, after perfect play from the position with `empties` empty squares; `empties` is None if the file does not say
-    how many. `real` is the score of the game as it was played."""
+    how many. `real` is the score of the game as it was played.
+
+    `year`, `players` (Black's and White's names) and `tournament` are None unless a WTHOR file or, for the names, the
+    files beside it say them: see `read_games`."""
 
     number: int
     moves: Sequence[int] = ()  # squares' numbers, PASS or NO_SQUARE
-    words: Sequence[object] = ()  # each move as the file has it: a word in small letters, or a byte
+    words: Sequence[object] = ()  # each move as the file has it: a word in lower case, or a byte
     score: Optional[int] = None
     real: Optional[int] = None
     fault: Optional[str] = None  # why it can't be read, or None
     empties: Optional[int] = None
+    year: Optional[int] = None
+    players: Optional[Tuple[str, str]] = None
+    tournament: Optional[str] = None
 
     @classmethod
     def of_text(cls, text: str, number: int = 1) -> "Game":
         """The game of a transcript such as `f5d6c3` or `1. F5 2. D6`: squares with blanks, commas, hyphens or nothing
         between them, and with or without move numbers. A pass may be left out, or written `pass`, `ps`, `pa` or `--`. A
-        result at the end, such as `33-31`, is skipped, and so are headers in brackets and everything from `%` on. A
-        game in GGF, `(;GM[Othello] .. ;)`, is read, too; one of another kind or position gets a `fault`."""
+        result at the end, such as `33-31` or, for an open one, `*`, is skipped, and so are headers in brackets before
+        the moves and everything from `%` on. A game in GGF, `(;GM[Othello] .. ;)`, is read, too; one of another kind or
+        position gets a `fault`."""
         try:
-            words = words_of(text)
+            words = transcript_words(text)
         except ValueError as why:
             return cls(number, fault=str(why))
         return cls(number, [WORDS.get(word, NO_SQUARE) for word in words], words)
@@ -66,7 +77,7 @@ class Game(NamedTuple):
     @property
     def squares(self) -> List[str]:
         """The names of the moves' squares, such as "F5", without passes. For a move that is not a square, the list has
-        the word of the transcript in small letters, or the value of the byte in the WTHOR file, such as "99"."""
+        the word of the transcript in lower case, or the value of the byte in the WTHOR file, such as "99"."""
         return [NAMES[move] if move in SQUARE_NUMBERS else str(self._word(at))
                 for at, move in enumerate(self.moves) if move != PASS]
 
@@ -94,7 +105,8 @@ def read_games(
 ) -> Iterator[Game]:
     """Yields the games of a WTHOR file, or of a text with a game in each line, in their order. `source` is a path or a
     file opened in binary mode. A line of a text may have any form that `Game.of_text` reads; lines without a move are
-    skipped.
+    skipped. The names of players and tournaments come from the files WTHOR.JOU and WTHOR.TRN in the folder of a WTHOR
+    file, or from its only file .JOU and .TRN; a ReadingWarning says if there are several.
 
     Raises GameRefused if a WTHOR file ends too early or goes on after its last game; if `refused` is given, it is
     called with the error instead. An illegal move is refused only by `Solver.positions`. Raises ValueError for a file
@@ -102,8 +114,8 @@ def read_games(
 
         solver = Solver(max_empties=24)
         for game in read_games("WTH_2001.wtb"):
-            position = solver.positions(game)[60 - game.empties]
-            score = solver.solve(position).score
+            position = solver.positions(game)[:61 - game.empties][-1]
+            score = position.score() if position.is_over else solver.solve(position).score
             if 2 * game.score - 64 != (score if position.side == "X" else -score):
                 print(game.number, game.score)
     """
@@ -135,16 +147,16 @@ def games_in(file: Any, name: str) -> Tuple[Iterator[Game], Optional[int]]:
         lines = enumerate(text_lines(file, name), 1)
         games = (Game.of_text(line.decode("utf-8", "replace"), number) for number, line in lines)
         return (game for game in games if game.moves or game.fault), None
-    count, empties = read_header(file, name)
-    return records(file, count, empties), empties
+    count, year, empties = read_header(file, name)
+    return records(file, count, year, empties), empties
 
 
-def read_header(file: BinaryIO, name: str) -> Tuple[int, int]:
-    """Reads the header of a WTHOR file. Returns (number of games, number of empty squares that theoretical scores are
-    for, or 0 if the header does not say it). Raises NotText, with `name` in the message, if the header is not that of
-    games on 8 by 8 squares."""
+def read_header(file: BinaryIO, name: str) -> Tuple[int, int, int]:
+    """Reads the header of a WTHOR file. Returns the number of games, their year, and the number of empty squares that
+    the theoretical scores are for; the last two are 0 if they are not known. Raises NotText, with `name` in the
+    message, if the header is not that of games on 8 by 8 squares."""
     head = file.read(HEADER.size)
-    count, other, board, kind, empties = HEADER.unpack(head.ljust(HEADER.size, b"\0"))
+    count, other, year, board, kind, empties = HEADER.unpack(head.ljust(HEADER.size, b"\0"))
     for is_wrong, why in (
         (not head, "it is empty"),
         (len(head) < HEADER.size, f"it ends within its header of {HEADER.size} bytes"),
@@ -156,12 +168,14 @@ def read_header(file: BinaryIO, name: str) -> Tuple[int, int]:
     ):
         if is_wrong:
             raise NotText(f"{name} is not a WTHOR file of games: {why}")
-    return count, empties
+    return count, year, empties
 
 
-def records(file: BinaryIO, count: int, empties: int) -> Iterator[Game]:
-    """Yields the games after the header of a WTHOR file, in which `read_header` found `count` and `empties`. If the
-    file is too short or too long for `count` games, the last Game has no moves, and its `fault` says what is wrong."""
+def records(file: Any, count: int, year: int, empties: int) -> Iterator[Game]:
+    """Yields the games after the header of a WTHOR file, which `read_header` has read. If the file is too short or too
+    long for them, the last Game has no moves, and its `fault` says what is wrong."""
+    path = getattr(file, "name", None)
+    players, tournaments = (names_beside(path, it) if isinstance(path, str) else b"" for it in (".jou", ".trn"))
     counts = f"its header counts {count} game{'s' * (count != 1)}"
     for number in range(1, count + 1):
         record = file.read(RECORD)
@@ -170,9 +184,40 @@ def records(file: BinaryIO, count: int, empties: int) -> Iterator[Game]:
             yield Game(number, fault=f"the file ends {where}, but {counts}")
             return
         written = record[FIRST_MOVE:].rstrip(b"\0")
-        yield Game(number, written.translate(SQUARES), written, record[SCORE], record[REAL], empties=empties or None)
+        tournament, *sides = NUMBERS.unpack_from(record)
+        black, white = (name_in(players, PLAYER, side) for side in sides)
+        yield Game(
+            number, written.translate(SQUARES), written, record[SCORE], record[REAL], empties=empties or None,
+            year=year or None, players=(black, white) if black and white else None,
+            tournament=name_in(tournaments, TOURNAMENT, tournament) or None)
     if file.read(1):
         yield Game(count + 1, fault=f"the file goes on, but {counts}")
+
+
+def names_beside(path: str, suffix: str) -> bytes:
+    """The content of the file of players or tournaments, with this suffix, in the folder of a WTHOR file: the one named
+    WTHOR, or the only one; b"" if there is none. Warns if there are several."""
+    folder = os.path.dirname(path)
+    try:
+        found = [it.path for it in os.scandir(folder or ".") if it.name.lower().endswith(suffix) and it.is_file()]
+        named = [it for it in found if os.path.basename(it).lower() == f"wthor{suffix}"] or found
+        if len(named) > 1:
+            several = " and ".join(sorted(shown(os.path.basename(it)) for it in named))
+            warnings.warn(f"names are left out, since the folder {shown(folder or '.')} has {several}: name the right "
+                          f"one WTHOR{suffix.upper()}", ReadingWarning)
+        elif named:
+            with open(named[0], "rb") as file:
+                return file.read()
+    except OSError:
+        pass
+    return b""
+
+
+def name_in(content: bytes, size: int, number: int) -> str:
+    """The name with a number, from 0, in the content of a file of names of `size` bytes; "" if it has none."""
+    at = HEADER.size + size * number
+    text = content[at:at + size].partition(b"\0")[0].decode("latin-1")
+    return "".join(filter(str.isprintable, text)).strip()
 
 
 def positions_of(game: Game) -> List[Position]:
@@ -207,6 +252,25 @@ def position_with(empties: int, game: Game, found: List[Position]) -> Position:
         raise GameRefused("it has no moves", game.number)
     why = f"it ends here, with {left} empty square{'s' * (left > 1)}; {empties} are asked for"
     raise GameRefused(why, game.number, len(found) - 1)
+
+
+def corrected(
+    file: BinaryIO, empties: int, right: Iterable[Tuple[Game, Mapping[int, Optional[int]]]]
+) -> Iterator[bytes]:
+    """Yields the pieces of a copy of a WTHOR file. `right` has its games, each with {offset in its record: right score,
+    or None if that is not known}. A header without a number of empty squares gets `empties`. No other byte changes.
+    Raises NotText if the file has other games."""
+    header = bytearray(file.read(HEADER.size))
+    header[EMPTIES_BYTE] = header[EMPTIES_BYTE] or empties
+    yield header
+    for game, scores in right:
+        record = bytearray(file.read(RECORD))
+        if record[FIRST_MOVE:].rstrip(b"\0") != game.words:
+            raise NotText(f"{shown(file.name)} has changed since its games were read")
+        for offset, score in scores.items():
+            record[offset] = record[offset] if score is None else score
+        yield record
+    yield from iter(lambda: file.read(1 << 16), b"")
 
 
 def discs_of_black(score: int, side: str) -> int:

@@ -1,21 +1,20 @@
 """The program ffosolve-games and its command line. The help text, WHAT, explains theoretical scores."""
 import argparse
 import contextlib
-import io
 import os
 import re
-import shutil
-import subprocess
 import sys
-from typing import Any, Callable, Dict, Iterable, Iterator, List, NamedTuple, NoReturn, Optional
+import warnings
+from typing import Any, Callable, Dict, Iterator, List, NamedTuple, NoReturn, Optional
 
+from ._check_folders import exact_scores, scores_of
 from ._command_line import DONE, MISSING, MISUSED, REMARKED, UNREADABLE
-from ._command_line import Parser, Refusal, print_all, refusing, run, say, write_whole
-from ._games import MOST_DISCS, REAL, SCORE, Game, GameRefused, discs_of_black, games_in, position_with, positions_of
+from ._command_line import Parser, Refusal, file_of, print_all, run, say, write_whole
+from ._games import (MOST_DISCS, REAL, SCORE, Game, GameRefused, corrected, discs_of_black, games_in, position_with,
+                     positions_of)
 from ._library import MOST_EMPTIES, LibraryNotFound, load
 from ._positions import Position
-from ._text import NotText, shown, text_lines
-from ._theoretical_scores import corrected, scores_in, title
+from ._text import NotText, ReadingWarning, shown
 
 NAME = "ffosolve-games"
 USAGE = f"""{NAME} [--empties N] [FILE ...]
@@ -30,7 +29,7 @@ A FILE is a WTHOR file (.wtb) or a text with one game in each line. A line of a
 text has the squares of the moves, as f5d6c3 or `1. F5 2. D6`, with blanks,
 commas, hyphens or nothing between them. A pass is left out, or is written as
 `pass`, `ps`, `pa` or `--`. Headers in brackets before the moves are skipped, as
-is a result at the end, such as 33-31. A line may also be a game in GGF.
+is a result at the end, such as 33-31 or *. A line may also be a game in GGF.
 
 The comment of a printed line names the file and the game: its line in a text,
 or its place in a WTHOR file. If the WTHOR file has a theoretical score for N
@@ -38,11 +37,12 @@ empty squares, the comment has that too: Black's discs after perfect play, 0 to
 64, where the winner gets the empty squares.
 
 `check` takes WTHOR files, and lets ffosolve-many solve the position that each
-theoretical score is for. After an interruption, the same command goes on.
+theoretical score is for. A folder keeps what is solved for any later check of
+the FILE: after an interruption, and also if its moves were corrected.
 `compare` takes the exact scores from BOOK, which ffosolve or ffosolve-many
 wrote with --book-out. Scores are Black's discs, and the difference is the
 published score minus the exact one. Players and tournaments are named if their
-files, .JOU and .TRN, are in the folder of the WTHOR file.
+files, WTHOR.JOU and WTHOR.TRN, are in the folder of the WTHOR file.
 """
 MORE = f"""\
 The side to move in a printed position may have to pass. A game is reported on
@@ -73,11 +73,10 @@ status:
      positions are not solved
   4  the library or ffosolve-many can't be found
 """
-SOLVER = "ffosolve-many"
-MANY = (  # its options that check takes: (name, value if it has one, how the default differs)
-    ("--max-empties", "N", "[default: as many as the positions have]"), ("--lines", "N", "[default: 10]"),
-    ("--jobs", "N", None), ("--scheduler", "ADDRESS", None), ("--cut", None, None), ("--quiet", None, None),
-    ("--workers", "N", None), ("--table", "N", None), ("--book-in", "FILE", None))
+MANY = (  # options of ffosolve-many that check passes on: (name, value if it has one)
+    ("--jobs", "N"), ("--scheduler", "ADDRESS"), ("--cut", None), ("--quiet", None), ("--workers", "N"),
+    ("--table", "N"), ("--book-in", "FILE"))
+MOST_LINES = 10_000  # in a part of ffosolve-many
 
 
 class Messages:
@@ -90,20 +89,24 @@ class Messages:
         say(reason)
 
 
-def number_of_empties(word: str) -> int:
-    if not re.fullmatch("[0-9]{1,2}", word) or int(word) > MOST_EMPTIES:
-        raise argparse.ArgumentTypeError(f"takes a number from 0 to {MOST_EMPTIES}, not {word!r}")
-    return int(word)
+def number(least: int, most: int) -> Callable[[str], int]:
+    """A function that reads a word as a number from `least` to `most`."""
+    def read(word: str) -> int:
+        if not re.fullmatch("[0-9]{1,5}", word) or not least <= int(word) <= most:
+            raise argparse.ArgumentTypeError(f"takes a number from {least} to {most}, not {word!r}")
+        return int(word)
+
+    return read
 
 
-def options_of(words: List[str]) -> argparse.Namespace:
+def read_options(words: List[str]) -> argparse.Namespace:
     """The options in the command line `words`. `task` is the first word if that is `check` or `compare`, else None;
     `many` has the words for ffosolve-many. Prints the help or the version; refuses the rest."""
     parser = Parser(USAGE, WHAT, MORE)
     parser.add_argument("files", metavar="FILE", nargs="*",
                         help="WTHOR files or texts; `-` is standard input [default: standard input]")
     parser.add_argument(
-        "--empties", metavar="N", type=number_of_empties,
+        "--empties", metavar="N", type=number(0, MOST_EMPTIES),
         help=f"how many squares are empty in the positions, 0 to {MOST_EMPTIES} [default: as many as for the "
              "theoretical scores of the WTHOR file]; check and compare use it only for files that do not say it")
     parser.add_common(parser)
@@ -114,17 +117,23 @@ def options_of(words: List[str]) -> argparse.Namespace:
              "is a folder, all FILEs into it")
     group.add_argument("--real", action="store_true", help="with --fix: also write the real scores that the moves have")
     group = parser.add_argument_group("options of check, most of them for ffosolve-many")
-    group.add_argument("--folder", metavar="FOLDER", help="keeps what is solved [default: FILE.check]")
-    for name, value, text in MANY:
+    group.add_argument("--folder", metavar="FOLDER",
+                       help="keeps what is solved of all FILEs [default: FILE.check for each FILE]")
+    group.add_argument("--max-empties", metavar="N", type=number(0, MOST_EMPTIES),
+                       help="solve only positions with at most N empty squares")
+    group.add_argument("--lines", metavar="N", type=number(1, MOST_LINES), help="[default: 10]")
+    for name, value in MANY:
         how: Dict[str, Any] = {"action": "append_const", "const": name}
         if value:
             how = {"action": "append", "metavar": value, "type": f"{name}={{}}".format}
-        group.add_argument(name, dest="many", default=[], help=text, **how)
+        group.add_argument(name, dest="many", default=[], **how)
     task = words[0] if words[:1] in (["check"], ["compare"]) else None
     end = words.index("--") if "--" in words else len(words)  # argparse would forget one that no FILE precedes
     options = parser.parse_intermixed_args(words[task is not None:end], argparse.Namespace(task=task))
     options.files += words[end + 1:]
-    of_check = ["--folder"] * (options.folder is not None) + [word.partition("=")[0] for word in options.many]
+    of_check = [f"--{name}" for name in ("folder", "max-empties", "lines")
+                if getattr(options, name.replace("-", "_")) is not None]
+    of_check += [word.partition("=")[0] for word in options.many]
     fixes, names = options.fix is not None, options.files[task == "compare":]
     for is_wrong, why in (
         (not task and (fixes or options.real),
@@ -146,7 +155,9 @@ def main(find: Callable[[], Optional[str]] = lambda: None) -> NoReturn:
     """Runs the program with the arguments in sys.argv, and ends this process. `find` returns the path of the library,
     or None if `load` is to look for it."""
     def program() -> int:
-        options, messages = options_of(sys.argv[1:]), Messages()
+        options, messages = read_options(sys.argv[1:]), Messages()
+        warnings.simplefilter("default", ReadingWarning)  # each text once
+        warnings.showwarning = lambda message, *_: say(message)
         try:
             load(find())  # for `positions_of`
         except LibraryNotFound as why:
@@ -158,8 +169,9 @@ def main(find: Callable[[], Optional[str]] = lambda: None) -> NoReturn:
 
 
 class Found(NamedTuple):
-    """A game of a file, and its first position with N empty squares, or None if it is refused. Scores are None if they
-    are not known: the right real score, and the exact theoretical one, which a book has."""
+    """A game of a file, and its first position with N empty squares, or None if it has none. Scores are None if they
+    are not known: the right real score, and the exact theoretical one, which is the real one if the game is over before
+    that position, and otherwise in a book."""
 
     file: str
     game: Game
@@ -171,6 +183,14 @@ class Found(NamedTuple):
     def difference(self) -> int:
         """The published score minus the exact one, or 0 if that is not known."""
         return 0 if self.exact is None or self.game.score is None else self.game.score - self.exact
+
+    @property
+    def title(self) -> str:
+        """The file and the number of the game and, in parentheses, its year, players and tournament, if known."""
+        game = self.game
+        parts = (str(game.year or ""), " - ".join(game.players or ()), game.tournament)
+        about = ", ".join(part for part in parts if part)
+        return f"{shown(self.file)}, game {game.number}" + f" ({about})" * bool(about)
 
 
 def list_games(options: argparse.Namespace, messages: Messages) -> Iterator[bytes]:
@@ -190,7 +210,7 @@ def found_in(name: str, options: argparse.Namespace, messages: Messages) -> Iter
     """Yields the games of a file, and reports what is wrong with them. N is that of --empties or, without it and for
     `check` and `compare`, that of the file's header; refuses if there is none. A theoretical score for another N is
     left out."""
-    with opened(name) as file:
+    with file_of(name) as file:
         games, of_scores = games_in(file, shown(name))
         if options.task and of_scores is None:
             raise Refusal(f"{shown(name)} is a text, which has no theoretical scores")
@@ -201,18 +221,22 @@ def found_in(name: str, options: argparse.Namespace, messages: Messages) -> Iter
             raise Refusal(f"{shown(name)} does not say how many squares are empty at its theoretical scores; "
                           "try --empties 22 or 24, the usual numbers", MISUSED)
         for game in games:
-            position = real = None
+            position = real = exact = None
             try:
                 *_, last = positions = positions_of(game)
                 real = discs_of_black(last.score(), last.side) if last.is_over else None
-                position = position_with(empties, game, positions)
+                if options.task and last.is_over and last.empties > empties:
+                    exact = real
+                else:
+                    position = position_with(empties, game, positions)
             except GameRefused as why:
                 messages.report(f"{shown(name)}, {why}", REMARKED)
             if game.empties not in (None, empties):
                 game = game._replace(score=None)
-            yield Found(name, game, position, real)
-            for wrong in wrong_scores(game, real) if position else ():
-                messages.report(f"{shown(name)}, game {game.number}{title(name, game.number)}: {wrong}", REMARKED)
+            found = Found(name, game, position, real, exact)
+            yield found
+            for wrong in wrong_scores(game, real) if position or exact is not None else ():
+                messages.report(f"{found.title}: {wrong}", REMARKED)
 
 
 def wrong_scores(game: Game, discs: Optional[int]) -> Iterator[str]:
@@ -231,12 +255,11 @@ def compare(options: argparse.Namespace, messages: Messages) -> Iterator[bytes]:
     """Yields a line for each wrong theoretical score, and one with counts. With --fix, first writes corrected files.
     For `check`, first lets ffosolve-many write the book; with --cut, yields nothing."""
     named = options.files.pop(0) if options.task == "compare" else None
-    found, copies = scored_games(options, messages), places(options)
-    book = named or solved(dict.fromkeys(it.position for it in found if it.position), options)
+    found, copies = scored_games(options, messages), new_paths(options)
+    folders = folders_of(found, options)
+    scores = scores_of(named) if named else exact_scores(folders, options.lines or 10, options.many)
     if "--cut" in options.many:
         return
-    with opened(book) as file:
-        scores = scores_in(text_lines(file, shown(book)), shown(book))
     for at, it in enumerate(found):
         if it.position and (score := scores.get(it.position.canonical())) is not None:
             found[at] = it._replace(exact=discs_of_black(score, it.position.side))
@@ -244,38 +267,27 @@ def compare(options: argparse.Namespace, messages: Messages) -> Iterator[bytes]:
         fix(copies, found, options)
     differ = [it for it in found if it.difference]
     for it in differ:
-        name = os.fsencode(f"{shown(it.file)}, game {it.game.number}")
-        difference = f"published {it.game.score}, exact {it.exact}, difference {it.difference:+}"
-        yield name + f"{title(it.file, it.game.number)}: {difference}".encode()
+        published = f"published {it.game.score}, exact {it.exact}, difference {it.difference:+}"
+        yield f"{it.title}: {published}".encode()
     compared = sum(it.exact is not None for it in found)
-    unsolved = sum(it.position is not None for it in found) - compared
+    unsolved = sum(it.position is not None and it.exact is None for it in found)
     if differ or unsolved:
         messages.status = max(messages.status, REMARKED)
     yield b"compared %d differ %d unsolved %d" % (compared, len(differ), unsolved)
 
 
-def solved(positions: Iterable[Position], options: argparse.Namespace) -> str:
-    """Lets ffosolve-many, which is next to this program or on the path, solve positions in the folder of `check`; with
-    --cut, only cut their list. Returns the path of the book that it writes. Refuses unless it ends with status 0."""
-    folder = f"{options.files[0]}.check" if options.folder is None else options.folder
-    listed, book = os.path.join(folder, "list.obf"), os.path.join(folder, "list.book")
-    with refusing("make", folder):
-        os.makedirs(folder, exist_ok=True)
-    with refusing("write", listed):
-        write_whole({listed: (it.to_obf().encode() + b"\n" for it in positions)}, replaces=True)
-    here = os.path.dirname(os.path.realpath(sys.argv[0]))
-    program = shutil.which(os.path.join(here, SOLVER)) or shutil.which(SOLVER)
-    if program is None:
-        raise Refusal(f"{SOLVER} is missing: it has to be next to {NAME}, in {here}, or on the path", MISSING)
-    defaults = [f"--max-empties={max(it.empties for it in positions)}", "--lines=10"]
-    words = {word.partition("=")[0]: word for word in defaults + options.many}
-    ends_with_this = ["setpriv", "--pdeathsig", "TERM"]
-    with refusing("run", SOLVER):
-        status = subprocess.run([*ends_with_this, program, *words.values(), f"--book-out={book}", "--", listed],
-                                stdout=None if "--cut" in words else subprocess.DEVNULL).returncode
-    if status:
-        raise Refusal(f"{SOLVER} has not solved all, so no score is compared", status if status > 1 else UNREADABLE)
-    return book
+def folders_of(found: List[Found], options: argparse.Namespace) -> Dict[str, List[Position]]:
+    """The folders of `check`, each with the positions that are to be solved there."""
+    folders: Dict[str, List[Position]] = {}
+    paths: Dict[str, str] = {}
+    for file in options.files:
+        folder = f"{file}.check" if options.folder is None else options.folder
+        wanted = [it.position for it in found if it.file == file and it.position]
+        if options.max_empties is not None:
+            wanted = [position for position in wanted if position.empties <= options.max_empties]
+        if wanted:
+            folders.setdefault(paths.setdefault(os.path.realpath(folder), folder), []).extend(wanted)
+    return folders
 
 
 def scored_games(options: argparse.Namespace, messages: Messages) -> List[Found]:
@@ -285,13 +297,13 @@ def scored_games(options: argparse.Namespace, messages: Messages) -> List[Found]
         if os.path.exists(name) and not os.path.isfile(name):
             raise Refusal(f"{shown(name)} is not a regular file")
         found += found_in(name, options, messages)
-    if not any(it.position for it in found):
+    if all(it.position is None and it.exact is None for it in found):
         raise Refusal("no game has a position with a theoretical score")
     return found
 
 
-def places(options: argparse.Namespace) -> Dict[str, str]:
-    """{new path: WTHOR file to copy there} for --fix. Refuses if two have one path, or a file can't be new there."""
+def new_paths(options: argparse.Namespace) -> Dict[str, str]:
+    """{new path: WTHOR file to copy there} for --fix. Refuses two of one path, or one that can't be created there."""
     if options.fix is None:
         return {}
     place, names = options.fix, options.files
@@ -318,7 +330,7 @@ def fix(copies: Dict[str, str], found: List[Found], options: argparse.Namespace)
         pieces = {}
         for path, name in copies.items():
             right = [(it.game, {SCORE: it.exact, REAL: it.real if options.real else None}) for it in games[path]]
-            pieces[path] = corrected(stack.enter_context(opened(name)), options.empties or 0, right)
+            pieces[path] = corrected(stack.enter_context(file_of(name)), options.empties or 0, right)
         try:
             write_whole(pieces)
         except OSError as why:
@@ -330,10 +342,3 @@ def fix(copies: Dict[str, str], found: List[Found], options: argparse.Namespace)
             changed = sum(it.real not in (None, it.game.real) for it in listed)
             text += f"; real scores changed {changed}, not checked {sum(it.real is None for it in listed)}"
         say(f"{shown(path)}: {text}")
-
-
-@contextlib.contextmanager
-def opened(name: str) -> Iterator[io.BufferedReader]:
-    """Opens a file, or standard input for `-`. Refuses if that, or reading in the body of the `with`, fails."""
-    with refusing("read", name), open(0 if name == "-" else name, "rb", closefd=name != "-") as file:
-        yield file

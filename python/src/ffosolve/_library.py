@@ -10,7 +10,7 @@ import sys
 import threading
 from typing import Any, List, Union
 
-NAME = "libffosolve.so.1"
+FILE_NAME = "libffosolve.so.1"
 MAJOR = 1
 MOST_EMPTIES = 60
 MOST_ENTRIES = 4_194_304
@@ -33,22 +33,24 @@ class CMoveScores(ctypes.Structure):
     _fields_ = [("scores", ctypes.c_int8 * 64), ("moves", ctypes.c_uint64)]
 
 
-def places() -> List[str]:
+def libraries_to_try() -> List[str]:
     """The libraries to try if no path is given. If the environment variable FFOSOLVE_LIBRARY names one, only that one.
-    Otherwise those in this package, the one for newer processors first; then the file NAME where the system's loader
+    Otherwise those in this package, the one for newer processors first; then FILE_NAME where the system's loader
     finds it; then this file in the folder `lib` of the virtual environment, if any, of Python and of /usr/local."""
     named = os.environ.get("FFOSOLVE_LIBRARY")
     if named:
         return [os.path.abspath(named) if os.sep in named else named]
-    own = [os.path.join(os.path.dirname(__file__), level, NAME) for level in ("x86-64-v3", "x86-64-v2")]
+    own = [os.path.join(os.path.dirname(__file__), level, FILE_NAME) for level in ("x86-64-v3", "x86-64-v2")]
     prefixes = dict.fromkeys([sys.prefix, sys.base_prefix, "/usr/local"])
-    return [*filter(os.path.exists, own), NAME, *(os.path.join(prefix, "lib", NAME) for prefix in prefixes)]
+    in_lib = (os.path.join(prefix, "lib", FILE_NAME) for prefix in prefixes)
+    return [*filter(os.path.exists, own), FILE_NAME, *in_lib]
 
 
 def load(path: Union[str, "os.PathLike[str]", None] = None) -> ctypes.CDLL:
-    """The library at `path`; for None, the first in `places()` that this package can call. Raises LibraryNotFound."""
+    """The library at `path`; for None, the first in `libraries_to_try()` that this package can call. Raises
+    LibraryNotFound."""
     errors = []
-    for place in [os.path.abspath(path)] if path is not None else places():
+    for place in [os.path.abspath(path)] if path is not None else libraries_to_try():
         try:
             return declared(place)
         except OSError as error:
@@ -93,7 +95,7 @@ class LinkMap(ctypes.Structure):  # see dlinfo(3)
     _fields_ = [("address", ctypes.c_void_p), ("path", ctypes.c_char_p)]
 
 
-def path_of(library: ctypes.CDLL) -> str:
+def library_path(library: ctypes.CDLL) -> str:
     """The path of a loaded library. Its name is not enough for another process: once a library is loaded, the system's
     loader finds it by name wherever it is."""
     found = ctypes.POINTER(LinkMap)()

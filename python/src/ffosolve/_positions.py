@@ -1,27 +1,19 @@
-"""Positions; lines of text that hold them, in the format OBF, which `Position.from_obf` explains; and their arrays."""
-import os
-import re
+"""Positions, and the moves that lead from one to the next."""
+import copy
 import reprlib
-from typing import (
-    Any, BinaryIO, Callable, Dict, Iterable, Iterator, List, Mapping, NamedTuple, Optional, Tuple, Type, TypeVar, Union)
+from typing import Any, Dict, Iterable, Iterator, List, Mapping, NamedTuple, Optional, Tuple, Type, TypeVar, Union
 
 from ._answers import Answer, Kind, Scoring
 from ._boards import OTHER, SIDES, Board, checked_score, checked_side
 from ._library import CAnswer, CPosition, loaded, search
-from ._refusals import BadSide, BadSquare, LineRefused, NoMemory, NoMove, NoPosition, ShortBoard, Status
-from ._rules import accept, c_position, c_positions, checked_positions, empties_of, moves, size_of
-from ._squares import NAMES, number_of, square_names, square_of
+from ._obf import MOVES, Listed, parsed
+from ._refusals import NoMemory, NoMove, Status
+from ._rules import accept, c_position, c_positions, moves, size_of
+from ._squares import NAMES, mask_of, number_of, square_names, square_of
 from ._symmetries import Symmetry, canonical_form, image
-from ._transcripts import PASSES, words_of
+from ._transcripts import PASSES, transcript_words
 
-LINE = re.compile(rb"([ \t]*)([Xx*BbOoWw.-]{0,64})([ \t]*)([Xx*BbOoWw]?)([^%]*)")
-MOVES = {name.encode(): name for name in (*NAMES, "PS", "--")}
-LISTED = re.compile(rb"(?:\A|;)[ \t]*([A-Ha-h][1-8]|[Pp][Ss]|--):([+-]?(?:[0-5]?[0-9]|6[0-4]))[ \t]*(?=;|\Z)")
-Lines = Iterable[Union[str, bytes]]
-Source = Union[str, "os.PathLike[str]", Lines]
-Listed = Tuple[Tuple[str, int], ...]
 P = TypeVar("P", bound="Position")
-BLACK, WHITE = (bytes.maketrans(b"Xx*BbOoWw-.", bits) for bits in (b"11111000000", b"00000111100"))
 NO_SQUARE = 255  # a number that the library takes for no square
 STATES = {Kind.PASS: "has to pass: {:+}", Kind.OVER: "scores {:+}: the game is over"}
 
@@ -33,29 +25,36 @@ class Discs(NamedTuple):
     white: int
 
 
-class Position(NamedTuple("Masks", [("own", int), ("opp", int)])):
+class Position:
     """The masks of the discs of the side to move (`own`) and of the other side (`opp`), and the mover's colour, `side`.
 
-    Square A1 is bit 0 of a mask and H8 bit 63. `side` is "X" (Black) or "O" (White); another raises ValueError. Only
-    texts and pictures depend on `side`: positions with equal masks are equal, and so are their answers.
+    Square A1 is bit 0 of a mask and H8 bit 63. `side` is "X" (Black) or "O" (White). Raises ValueError for another side
+    and TypeError for a mask that is not a whole number. Only texts and pictures depend on `side`: positions with equal
+    masks are equal, and so are their answers. A position also equals the tuple of its masks, and `own, opp = position`
+    takes them apart.
 
-    A position does not change: `play`, `play_all` and `passed` return a new one, of the same class. The shared library
-    knows the rules, so `legal_moves`, `is_legal`, `must_pass`, `is_over`, `play`, `play_all`, `score`, `canonical`,
-    `image` and `symmetries` raise LibraryNotFound without it. Only these and a Solver check masks. They raise
-    ValueError for one outside 0 to 2**64 - 1, SharedSquare if a square is in both.
+    A position does not change: `play`, `play_all` and `passed` return a new one, of the same class, and so does
+    `_replace(own=.., opp=.., side=..)`, which Python 3.13 also calls `copy.replace`. The shared library knows the
+    rules, so `legal_moves`, `is_legal`, `must_pass`, `is_over`, `play`, `play_all`, `score`, `canonical`, `image` and
+    `symmetries` raise LibraryNotFound without it. Only these and a Solver look at the masks: they raise ValueError for
+    one outside 0 to 2**64 - 1, and SharedSquare if a square is in both.
     """
 
-    _side = "X"
-    _last_move: Optional[str] = None
-    _listed: Listed = ()
-    _number: Optional[int] = None
+    __slots__ = ("_own", "_opp", "_side", "_last_move", "_listed", "_number")
+    __match_args__ = ("own", "opp")
+    _own: int
+    _opp: int
+    _side: str
+    _last_move: Optional[str]
+    _listed: Listed
+    _number: Optional[int]
 
     def __new__(cls: Type[P], own: int, opp: int, side: str = "X") -> P:
-        if type(own) is not int or type(opp) is not int:  # such as the uint64 of NumPy
-            own, opp = (int(mask) if hasattr(mask, "__index__") else mask for mask in (own, opp))
-        position = tuple.__new__(cls, (own, opp))
-        if side != "X":
-            position._side = checked_side(side)
+        if type(own) is not int or type(opp) is not int:
+            own, opp = mask_of(own), mask_of(opp)
+        position = object.__new__(cls)
+        position._own, position._opp, position._side = own, opp, side if side == "X" else checked_side(side)
+        position._last_move, position._listed, position._number = None, (), None
         return position
 
     @classmethod
@@ -69,8 +68,9 @@ class Position(NamedTuple("Masks", [("own", int), ("opp", int)])):
         maybe moves with their scores such as `H1:+62;`, which become `listed`.
 
         Any of `X x * B b` stands for Black, any of `O o W w` for White, and `-` or `.` for an empty square. Blanks and
-        tabs before the squares and the side are skipped. After the side, any text but moves with scores is skipped.
-        Raises NoPosition, ShortBoard, BadSquare and BadSide (ValueErrors), NoMemory and TypeError. Needs no library.
+        tabs before the squares and the side are skipped. After the side, any text but moves with scores is skipped; a
+        ReadingWarning names a side such as `blanc`, which is read as Black. Raises NoPosition, ShortBoard, BadSquare
+        and BadSide (ValueErrors), NoMemory and TypeError. Needs no library.
         """
         return read_line(text, None, cls)
 
@@ -87,6 +87,16 @@ class Position(NamedTuple("Masks", [("own", int), ("opp", int)])):
                 raise ValueError(f"a move is listed by the name of a square, as PS or as --, not as {move!r}")
             text += f" {name}:{checked_score(name, score):+03};"
         return text
+
+    @property
+    def own(self) -> int:
+        """The mask of the discs of the side to move."""
+        return self._own
+
+    @property
+    def opp(self) -> int:
+        """The mask of the discs of the other side."""
+        return self._opp
 
     @property
     def side(self) -> str:
@@ -172,7 +182,7 @@ class Position(NamedTuple("Masks", [("own", int), ("opp", int)])):
         passes."""
         if isinstance(squares, bytes) or not hasattr(squares, "__iter__"):
             raise TypeError(f"moves are a transcript or a list of squares, not {reprlib.repr(squares)}")
-        squares, position = words_of(squares) if isinstance(squares, str) else squares, self
+        squares, position = transcript_words(squares) if isinstance(squares, str) else squares, self
         moves(self)  # raises SharedSquare, and ValueError for a wrong mask
         try:
             for position in played(self, squares):
@@ -191,7 +201,7 @@ class Position(NamedTuple("Masks", [("own", int), ("opp", int)])):
             raise ValueError(f"the game is not over, so only a Solver finds the score: {self.to_obf()}")
         found = (CAnswer * 1)()
         number = Scoring(scoring)  # type: ignore[arg-type]
-        accept(search(loaded(), "ffosolve_solve_all", number, 0, c_positions([self]), found))
+        accept(search(loaded(), "ffosolve_solve_all", number, 0, c_positions([*self]), found))
         return int(found[0].score)
 
     def canonical(self: P) -> P:
@@ -235,15 +245,35 @@ class Position(NamedTuple("Masks", [("own", int), ("opp", int)])):
         return str(self.show())
 
     def __repr__(self) -> str:
-        text = super().__repr__()
-        return text if self.side == "X" else f"{text[:-1]}, side={self.side!r})"
+        side = "" if self.side == "X" else f", side={self.side!r}"
+        return f"{type(self).__name__}(own={self.own!r}, opp={self.opp!r}{side})"
+
+    def __iter__(self) -> Iterator[int]:
+        return iter((self._own, self._opp))
+
+    def __eq__(self, other: object) -> bool:
+        if isinstance(other, Position):
+            return self._own == other._own and self._opp == other._opp
+        if isinstance(other, tuple):
+            return (self._own, self._opp) == other
+        return NotImplemented
+
+    def __hash__(self) -> int:
+        return hash((self._own, self._opp))
+
+    def __getnewargs__(self) -> Tuple[int, int]:
+        return self._own, self._opp
 
     def _asdict(self) -> Dict[str, Any]:
-        return {**super()._asdict(), "side": self.side}
+        return {"own": self.own, "opp": self.opp, "side": self.side}
 
     def _replace(self: P, **changes: Any) -> P:
-        position = type(self)(**{**self._asdict(), **changes})
-        vars(position).update({**vars(self), "_side": position.side})
+        """Returns a copy with other masks or another side. With other masks, it is another board, of which neither the
+        last move nor a line is known."""
+        changed, position = Position(**{**Position._asdict(self), **changes}), copy.copy(self)
+        position._own, position._opp, position._side = changed.own, changed.opp, changed.side
+        if changed != self:
+            position._last_move, position._listed, position._number = None, (), None
         return position
 
     __replace__ = _replace
@@ -293,108 +323,9 @@ def read_line(text: Union[str, bytes], number: Optional[int], kind: Type[P]) -> 
     """Reads a line of OBF text as a position of the class `kind`, and raises the same as `Position.from_obf`. `number`,
     which may be None, becomes the `number` of the position or the `line` of the LineRefused."""
     try:
-        found: Any = LINE.match(without_end(text))
-        _, letters, _, side, rest = found.groups()
-        if len(letters) < 64 or not side:
-            raise fault_of(found, number)
-        squares = letters[::-1]
-        black, white = int(squares.translate(BLACK), 2), int(squares.translate(WHITE), 2)
-        line = kind(black, white) if side in b"Xx*Bb" else kind(white, black, "O")
-        line._number = number
-        if rest:
-            line._listed = tuple([(MOVES[move.upper()], int(score)) for move, score in LISTED.findall(rest)])
-        return line
+        own, opp, side, listed = parsed(text, number)
+        line = kind(own, opp, side)
     except MemoryError:
         raise NoMemory() from None
-
-
-def fault_of(found: "re.Match[bytes]", number: Optional[int]) -> LineRefused:
-    """The refusal of a line: NoPosition, or the one for its first fault. `found` is the match of the pattern LINE."""
-    content, squares = found.string[found.end(1):], len(found[2])
-    if not content or content.startswith(b"%"):
-        return NoPosition(0, number)
-    if squares == 64:
-        return BadSide(found.end(3) + 1, number)
-    return ShortBoard(squares, number) if squares == len(content) else BadSquare(found.end(2) + 1, number)
-
-
-def bytes_of(text: Union[str, bytes]) -> bytes:
-    if not isinstance(text, (str, bytes, bytearray)):
-        raise TypeError(f"OBF text is of the type str or bytes, not {type(text).__name__}")
-    return text.encode("utf-8", "surrogatepass") if isinstance(text, str) else text
-
-
-def without_end(text: Union[str, bytes]) -> bytes:
-    """The bytes of a line without its end, which is LF, CR LF, CR or nothing."""
-    line = bytes_of(text)
-    line = line[:-1] if line.endswith(b"\n") else line
-    return line[:-1] if line.endswith(b"\r") else line
-
-
-def read_lines(source: Source, refused: Optional[Callable[[LineRefused], object]] = None) -> Iterator[Position]:
-    """Yields the positions of lines of OBF text, in their order. `source` is a path, or an iterable of lines such as an
-    open file. Blank lines and comments are skipped. Any other line without a position raises ShortBoard, BadSquare or
-    BadSide, whose `line` is the line's number. If `refused` is given, it is called with the error, and reading goes on:
-
-        wrong = []
-        positions = list(read_lines("a.obf", refused=wrong.append))
-
-    Raises NoMemory, OSError if the file can't be read, and TypeError for another source. `parse_lines` reads a text.
-    """
-    return positions_in(lines_of(source), refused)
-
-
-def parse_lines(text: Union[str, bytes], refused: Optional[Callable[[LineRefused], object]] = None
-                ) -> Iterator[Position]:
-    """Yields the positions of the lines of a text, as `read_lines` does for a file."""
-    return positions_in(bytes_of(text).split(b"\n"), refused)
-
-
-def positions_in(lines: Lines, refused: Optional[Callable[[LineRefused], object]]) -> Iterator[Position]:
-    for number, text in enumerate(lines, 1):
-        try:
-            yield read_line(text, number, Position)
-        except NoPosition:
-            continue
-        except LineRefused as error:
-            if refused is None:
-                raise
-            refused(error)
-
-
-def lines_of(source: Source) -> Lines:
-    """The lines of `source`, a path or an iterable of lines. A path's file is opened at once, and closed after its last
-    line. Raises OSError for a file that can't be opened or read, and TypeError for another source."""
-    is_text = isinstance(source, (bytes, bytearray)) or isinstance(source, str) and "\n" in source
-    if is_text or not isinstance(source, (str, os.PathLike)) and not hasattr(source, "__iter__"):
-        what = "a text, which parse_lines reads" if is_text else reprlib.repr(source)
-        raise TypeError(f"lines are read from a path or an iterable of lines such as an open file, not from {what}")
-    return lines_in(open(source, "rb")) if isinstance(source, (str, os.PathLike)) else source
-
-
-def lines_in(file: BinaryIO) -> Iterator[bytes]:
-    with file:
-        yield from file
-
-
-def masks_of(positions: Iterable[Position]) -> Tuple[Any, Any]:
-    """Returns (own, opp) for positions: arrays of uint64 with the masks of the discs of the side to move and of the
-    other side, as `Solver.solve_arrays` takes them. `numpy.array(positions)` would round masks to floats. Raises
-    ValueError for a mask outside 0 to 2**64 - 1, and TypeError for an object that is not a position."""
-    import numpy
-
-    listed = list(checked_positions(positions))
-    for position in listed:
-        empties_of(position)  # raises TypeError for another object
-    # To read the type of a ctypes array, NumPy runs Python code that takes an exception of a signal for a wrong type.
-    masks = numpy.frombuffer(c_positions(listed), numpy.uint64).reshape(-1, 2)
-    return masks[:, 0].copy(), masks[:, 1].copy()
-
-
-def positions_from(own: Any, opp: Any, side: str = "X") -> List[Position]:
-    """Returns the positions in arrays such as `masks_of` returns; `side` is to move in each. Raises TypeError and
-    ValueError for other arrays, and ValueError for another side than "X" and "O"."""
-    from ._arrays import checked
-
-    own, opp = checked(own, opp)
-    return [Position(*masks, side) for masks in zip(own.tolist(), opp.tolist())]
+    line._listed, line._number = listed, number
+    return line

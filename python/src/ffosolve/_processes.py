@@ -1,4 +1,4 @@
-"""Makes the library's calls. One that may last is made in another process, so that it stops when it is left."""
+"""Makes the library's calls, those that may last in other processes. `help(ffosolve)` says how calls stop."""
 import atexit
 import contextlib
 import ctypes
@@ -10,22 +10,21 @@ import reprlib
 import signal
 import subprocess
 import sys
-import threading
 import time
 from concurrent.futures import CancelledError
 from typing import Any, List, Optional, Set
 
 from . import _library
 from ._library import search
+from ._tasks import is_cancelled
 
-# A call is brief if it solves one position with 14 empty squares, which takes at most 0.15 s, or 4 times as many
-# positions for each empty square less, down to 8.
-BRIEF, LIGHTEST = 4096, 8
+BRIEF, LIGHTEST = 4096, 8  # the most positions of a brief call, and their most empty squares
 CHECK_SECONDS = 0.2  # how often a waiting call finds out whether it has to stop, also by a signal to another thread
 
 
 def is_brief(count: int, empties: int) -> bool:
-    """Whether a call for `count` positions with at most `empties` empty squares is brief, so that it is not stopped."""
+    """Whether a call for `count` positions with at most `empties` empty squares is brief: it takes 0.4 s at most. For
+    each empty square more than LIGHTEST, it may have a fourth of the positions."""
     return count << 2 * max(0, empties - LIGHTEST) <= BRIEF
 
 
@@ -33,8 +32,9 @@ class SearchProcess:
     """A process that makes calls, one at a time, as `serve` says. It ends when this process does."""
 
     def __init__(self) -> None:
-        if not sys.executable or hasattr(sys, "frozen"):
-            raise FileNotFoundError("this program does not know the path of Python, so it can't start a process")
+        if not sys.executable or hasattr(sys, "frozen") or not os.path.isfile(_library.__file__):
+            raise FileNotFoundError("no process can be started: this program is frozen, has this package in a zip, or "
+                                    "does not know the path of Python")
         if sys.is_finalizing():
             raise OSError("Python is ending, so it can't start a process")
         words = [sys.executable, "-S", _library.__file__]
@@ -95,9 +95,9 @@ def forget() -> None:
 os.register_at_fork(after_in_child=forget)
 
 
-class Run:
-    """Makes the calls of a library for one call of a Solver, until this has taken `timeout` seconds, is cancelled by
-    asyncio, or sets `is_left`. Raises TypeError and ValueError for a wrong `timeout`; None stands for any time."""
+class SolverCall:
+    """Makes the calls of a library for one call of a Solver, until this has taken `timeout` seconds, its task is
+    cancelled, or it sets `is_left`. Raises TypeError and ValueError for a wrong `timeout`; None stands for any time."""
 
     def __init__(self, library: ctypes.CDLL, timeout: Optional[float] = None) -> None:
         self.library, self.timeout, self.is_left, self.end = library, timeout, False, math.inf
@@ -114,14 +114,18 @@ class Run:
         left = self.end - time.monotonic()
         if left <= 0:
             raise TimeoutError(f"not finished within {self.timeout} seconds")
+        self.check()
+        return min(left, CHECK_SECONDS)
+
+    def check(self) -> None:
         if self.is_left or is_cancelled():
             raise CancelledError
-        return min(left, CHECK_SECONDS)
 
     def search(self, empties: int, name: str, scoring: int, entries: int, positions: Any, found: Any) -> int:
         """Makes the call that `_library.search` describes, for positions with at most `empties` empty squares; unless
         it is brief, in a SearchProcess. Raises TimeoutError, CancelledError, and ChildProcessError if somebody ended
         the process."""
+        self.check()
         if is_brief(len(positions), empties):
             return search(self.library, name, scoring, entries, positions, found)
         try:
@@ -131,7 +135,7 @@ class Run:
                 raise
             return search(self.library, name, scoring, entries, positions, found)
         try:
-            place = _library.path_of(self.library)
+            place = _library.library_path(self.library)
             process.connection.send((place, name, int(scoring), int(entries), bytearray(positions), bytearray(found)))
             while not process.connection.poll(self.wait_seconds()):
                 pass
@@ -145,20 +149,3 @@ class Run:
         process.keep()
         ctypes.memmove(found, data, len(data))
         return int(status)
-
-
-def is_cancelled() -> bool:
-    """Whether asyncio has cancelled what awaits the task that this thread carries out for an executor, as for
-    asyncio.to_thread. Since asyncio tells the thread nothing, this looks into the executor's frame and at the callbacks
-    of the task; if they are not those of Python 3.8 to 3.13, it is False."""
-    threads = sys.modules.get("concurrent.futures.thread")
-    if threads is None or threading.current_thread() is threading.main_thread():
-        return False
-    with contextlib.suppress(AttributeError, KeyError, TypeError, ValueError):
-        frame = sys._getframe()
-        while frame.f_code is not threads._WorkItem.run.__code__:
-            frame = frame.f_back  # type: ignore[assignment]
-        calls = [it for it in frame.f_locals["self"].future._done_callbacks if it.__module__ == "asyncio.futures"]
-        cells = [cell.cell_contents for call in calls for cell in call.__closure__]
-        return any(it.cancelled() for it in cells if sys.modules["asyncio"].isfuture(it))
-    return False

@@ -25,6 +25,7 @@ class Status(enum.IntEnum):
     UNKNOWN_SYMMETRY = 12
 
 
+WRONG_MASK = "a mask is a whole number from 0 to 2**64 - 1"
 REFUSALS: Dict[int, Type["Refused"]] = {}  # the class of each status
 
 

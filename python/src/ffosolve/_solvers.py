@@ -1,21 +1,20 @@
 """The Solver, which calls the shared library. A mask is a set of squares as a number: A1 is bit 0, .. H8 is bit 63."""
+import functools
 import os
 import reprlib
 import struct
-from typing import TYPE_CHECKING, Any, Dict, Iterable, Iterator, List, Optional, Sequence, Tuple, Union
+from typing import Any, Callable, Dict, Iterable, Iterator, List, Optional, Tuple, Union
 
 from ._answers import ENDS, Answer, Kind, Scoring
-from ._bulk import Part, PartOrRefusal, in_order, parts_of
+from ._arrays import Answers, found_by, rows_of
+from ._bulk import Batch, BatchOrRefusal, batches_of, in_order
 from ._games import Game, positions_of
 from ._library import MOST_EMPTIES, MOST_ENTRIES, CAnswer, CMoveScores, load
 from ._positions import P, Position
-from ._processes import Run
+from ._processes import SolverCall
 from ._refusals import Refused, TooManyEntries, checked_number
-from ._rules import accept, c_positions, checked_empties, empties_of, moves
+from ._rules import accept, c_positions, checked_position, masks_and_empties, moves
 from ._squares import NAMES
-
-if TYPE_CHECKING:
-    from ._arrays import Answers
 
 NO_SCORE = 127  # in an array of scores, for a square that is not a legal move
 KINDS = tuple(Kind)
@@ -33,12 +32,8 @@ def table_entries(empties: int) -> int:
 
 class Solver:
     """Solves positions under a scoring. Keeps no results between calls. Several threads may use one Solver at once. It
-    can be pickled.
-
-    A call ends with TimeoutError if it takes more than `timeout` seconds; a brief one, as `help(ffosolve)` says, ends
-    as usual. If somebody else ends the process that makes a call, this raises ChildProcessError. If no process can be
-    started, as while Python is ending, a call with a `timeout` raises OSError unless it is brief; one without is made
-    in this process.
+    can be pickled. A call ends with TimeoutError if it takes more than `timeout` seconds; `help(ffosolve)` says what
+    else stops it, and what a call does that can't be stopped.
 
     `library` is the path of the shared library. By default, it is the path in the environment variable FFOSOLVE_LIBRARY
     or, if that is empty or not set, the first library that fits: in this package, in the system's library folders, in
@@ -94,7 +89,7 @@ class Solver:
     def solve(self, position: Position, *, timeout: Optional[float] = None) -> Answer:
         """The answer for a position. Raises SharedSquare, TooManyEmpties and NoMemory; ValueError for a mask below 0
         or above 2**64 - 1; and TypeError for an object that is not a position."""
-        return self._answers(Run(self._library, timeout), self._part(position))[0]
+        return self._answers(self._call(timeout), self._batch(position))[0]
 
     def confirm(self, position: Position, claim: Answer, *, timeout: Optional[float] = None) -> Answer:
         """The answer for a position, found by testing the claimed score first; the answer is exact even if the claim is
@@ -102,42 +97,42 @@ class Solver:
         `solve`, and TypeError for a claim that is not an Answer."""
         if not isinstance(claim, Answer):
             raise TypeError(f"a claim is an Answer(score, kind, best), not {reprlib.repr(claim)}")
-        return self._answers(Run(self._library, timeout), self._part(position), "ffosolve_confirm", CAnswer(*claim))[0]
+        return self._answers(self._call(timeout), self._batch(position), "ffosolve_confirm", CAnswer(*claim))[0]
 
     def best_line(self, position: Position, *, timeout: Optional[float] = None) -> List[Tuple[str, int]]:
         """Perfect play from a position to the end of the game: each move and its score for the side that makes it, such
         as [("H1", 62), ("PS", -62), ("A1", 62)]. Of several best moves, it has the first. Raises the same as `solve`.
         """
-        run, line = Run(self._library, timeout), []
-        answer = self._answers(run, self._part(position))[0]
+        call, line = self._call(timeout), []
+        answer = self._answers(call, self._batch(position))[0]
         while answer.kind != Kind.OVER:
             move = answer.squares[0] if answer.best else ENDS[answer.kind]
             line.append((move, answer.score))
             position = self.play(position, move)
             claim = answer._replace(score=-answer.score)
-            answer = self._answers(run, self._part(position), "ffosolve_confirm", CAnswer(*claim))[0]
+            answer = self._answers(call, self._batch(position), "ffosolve_confirm", CAnswer(*claim))[0]
         return line
 
     def move_scores(self, position: Position, *, timeout: Optional[float] = None) -> Dict[str, int]:
         """Returns {square's name: score for the side to move} for all legal moves, in the order A1, B1, .. H8. The dict
         is empty if there is no legal move. One table serves all moves. Raises the same as `solve`."""
-        return self._scores(Run(self._library, timeout), self._part(position))[0]
+        return self._scores(self._call(timeout), self._batch(position))[0]
 
     def scored_line(self, position: Position, *, timeout: Optional[float] = None) -> str:
         """The line that `ffoscores` prints for a position: an OBF line that lists all legal moves with their scores,
         the best ones first; or a pass, or the end of the game, with its score. Raises the same as `solve`."""
-        run, part = Run(self._library, timeout), self._part(position)
-        moves = sorted(self._scores(run, part)[0].items(), key=lambda it: -it[1])
+        call, batch = self._call(timeout), self._batch(position)
+        moves = sorted(self._scores(call, batch)[0].items(), key=lambda it: -it[1])
         if not moves:
-            (answer,) = self._answers(run, part)
+            (answer,) = self._answers(call, batch)
             moves = [(ENDS[answer.kind], answer.score)]
         return as_position(position).to_obf(moves=moves)
 
     def solve_all(self, positions: Iterable[Position], *, threads: int = 1, timeout: Optional[float] = None
                   ) -> List[Answer]:
         """The answers for positions, in their order. One thread uses one table for all positions; for several threads,
-        the list is cut into parts, each with its own table. Raises the same as `solve`. SharedSquare and TooManyEmpties
-        come before any position is solved, and have the `index` of the first refused position."""
+        the list is cut into batches, each with its own table. Raises the same as `solve`. SharedSquare and
+        TooManyEmpties come before any position is solved, and have the `index` of the first refused position."""
         return list(self._each(self._answers, positions, threads, timeout, at_once=True))
 
     def solve_iter(self, positions: Iterable[Position], *, threads: int = 1, timeout: Optional[float] = None
@@ -157,22 +152,18 @@ class Solver:
         """Yields what `move_scores` returns for each position, in the way that `solve_iter` yields answers."""
         return self._each(self._scores, positions, threads, timeout)
 
-    def solve_arrays(self, own: Any, opp: Any, *, threads: int = 1, timeout: Optional[float] = None) -> "Answers":
+    def solve_arrays(self, own: Any, opp: Any, *, threads: int = 1, timeout: Optional[float] = None) -> Answers:
         """The answers for positions in arrays of uint64, as `masks_of` returns them: `own`, the masks of the discs of
         the side to move, and `opp`, those of the other side. The result has three arrays of the same length: `score`
         and `kind` of int32, and `best` of uint64. Needs NumPy. Raises the same as `solve_all`, and TypeError and
         ValueError for other arrays."""
-        from ._arrays import Answers, found_by
-
-        return Answers(*found_by(self, "ffosolve_solve_all", CAnswer, own, opp, threads, timeout))
+        return Answers(*self._in_arrays("ffosolve_solve_all", CAnswer, own, opp, threads, timeout))
 
     def move_scores_arrays(self, own: Any, opp: Any, *, threads: int = 1, timeout: Optional[float] = None) -> Any:
         """The scores of all moves in positions. `own` and `opp` are as for `solve_arrays`. The result is an array of
         int8 with a row of 64 scores for each position, in the order A1, B1, .. H8, with NO_SCORE for an illegal move.
         Needs NumPy. Raises the same as `solve_arrays`."""
-        from ._arrays import found_by
-
-        return found_by(self, "ffosolve_move_scores_all", CMoveScores, own, opp, threads, timeout)[0]
+        return self._in_arrays("ffosolve_move_scores_all", CMoveScores, own, opp, threads, timeout)[0]
 
     def moves(self, position: Position) -> int:
         """The mask of legal moves; `Position.legal_moves` names them. Raises SharedSquare, ValueError and TypeError."""
@@ -191,48 +182,61 @@ class Solver:
             raise TypeError(f"a game is a Game or the text of a transcript, not {reprlib.repr(game)}")
         return positions_of(game)
 
-    def _part(self, position: Sequence[int]) -> Part:
-        """Returns a Part with one position, or raises SharedSquare, TooManyEmpties, TypeError or ValueError."""
-        return Part([position], checked_empties(position, self._max_empties))
+    def _call(self, timeout: Optional[float]) -> SolverCall:
+        return SolverCall(self._library, timeout)
 
-    def _each(self, call: Any, positions: Iterable[Position], threads: int, timeout: Optional[float],
-              at_once: bool = False) -> Iterator[Any]:
-        """Yields what `call` finds for positions. If `at_once`, reads all of them before the first call, raises a
+    def _batch(self, position: Iterable[int]) -> Batch:
+        """Returns a Batch with one position, or raises SharedSquare, TooManyEmpties, TypeError or ValueError."""
+        own, opp, empties = checked_position(position, self._max_empties)
+        return Batch([own, opp], empties)
+
+    def _each(self, solve: Callable[[SolverCall, BatchOrRefusal], List[Any]], positions: Iterable[Position],
+              threads: int, timeout: Optional[float], at_once: bool = False) -> Iterator[Any]:
+        """Yields what `solve` finds for positions. If `at_once`, reads all of them before the first call, raises a
         Refused if one is refused, and makes one call of all if `threads` is 1."""
-        run, threads = Run(self._library, timeout), checked_number("threads", threads, 1)
-        parts: Iterable[PartOrRefusal] = parts_of(positions, self._max_empties, whole=at_once and threads == 1)
+        call, threads = self._call(timeout), checked_number("threads", threads, 1)
+        batches: Iterable[BatchOrRefusal] = batches_of(positions, self._max_empties, whole=at_once and threads == 1)
         if at_once:
-            parts = list(parts)
-            if parts and isinstance(parts[-1], Refused):
-                raise parts[-1]
-        return in_order(run, call, parts, threads)
+            batches = list(batches)
+            if batches and isinstance(batches[-1], Refused):
+                raise batches[-1]
+        return in_order(call, functools.partial(solve, call), batches, threads)
 
-    def _answers(self, run: Run, part: PartOrRefusal, call: str = "ffosolve_solve_all", *claim: CAnswer
+    def _in_arrays(self, name: str, record: Any, own: Any, opp: Any, threads: int, timeout: Optional[float]
+                   ) -> List[Any]:
+        """Makes the call `name` of the library for arrays of positions. Returns an array for each member of `record`,
+        the C structure that the library writes for a position."""
+        call, rows = self._call(timeout), rows_of(own, opp)
+        search = functools.partial(self._search, call, name)
+        return found_by(search, call, record, rows, self._max_empties, checked_number("threads", threads, 1))
+
+    def _answers(self, call: SolverCall, batch: BatchOrRefusal, name: str = "ffosolve_solve_all", *claim: CAnswer
                  ) -> List[Answer]:
-        rows = ANSWER.iter_unpack(self._found(run, part, call, CAnswer, *claim))
+        rows = ANSWER.iter_unpack(self._found(call, batch, name, CAnswer, *claim))
         return [Answer(score, KINDS[kind], best) for score, kind, best in rows]
 
-    def _scores(self, run: Run, part: PartOrRefusal) -> List[Dict[str, int]]:
-        rows = MOVE_SCORES.iter_unpack(self._found(run, part, "ffosolve_move_scores_all", CMoveScores))
+    def _scores(self, call: SolverCall, batch: BatchOrRefusal) -> List[Dict[str, int]]:
+        rows = MOVE_SCORES.iter_unpack(self._found(call, batch, "ffosolve_move_scores_all", CMoveScores))
         return [{name: score for name, score in zip(NAMES, row) if score != NO_SCORE} for row in rows]
 
-    def _found(self, run: Run, part: PartOrRefusal, name: str, record: Any, *claim: CAnswer) -> Any:
+    def _found(self, call: SolverCall, batch: BatchOrRefusal, name: str, record: Any, *claim: CAnswer) -> Any:
         """Returns the array that the call `name` of the library writes: a `record` (a C structure) for each position of
-        `part`. Raises `part` if it is a Refused, and another if the library refuses the call."""
-        if isinstance(part, Refused):
-            raise part
-        found = (record * len(part.positions))(*claim)
-        self._search(run, name, c_positions(part.positions), found, part.empties)
+        `batch`. Raises `batch` if it is a Refused, and another if the library refuses the call."""
+        if isinstance(batch, Refused):
+            raise batch
+        positions = c_positions(batch.masks)
+        found = (record * len(positions))(*claim)
+        self._search(call, name, positions, found, batch.empties)
         return found
 
-    def _search(self, run: Run, name: str, positions: Any, found: Any, empties: int) -> None:
+    def _search(self, call: SolverCall, name: str, positions: Any, found: Any, empties: int) -> None:
         """Makes a call as `search` does, for positions with at most `empties` empty squares."""
         entries = table_entries(empties) if self._entries is None else self._entries
-        accept(run.search(empties, name, self._scoring, entries, positions, found))
+        accept(call.search(empties, name, self._scoring, entries, positions, found))
 
 
 def as_position(position: P) -> P:
     if isinstance(position, Position):
         return position
-    empties_of(position)  # raises TypeError for an object that is not a position
-    return Position(*position)
+    own, opp, _ = masks_and_empties(position)
+    return Position(own, opp)

@@ -3,6 +3,8 @@ import operator
 import reprlib
 from typing import List, Union
 
+from ._refusals import WRONG_MASK
+
 NAMES = [column + row for row in "12345678" for column in "ABCDEFGH"]
 
 
@@ -36,9 +38,23 @@ def square_of(square: Union[int, str]) -> int:
     return number
 
 
+def mask_of(mask: int) -> int:
+    """Returns a whole number, such as one of NumPy, as an int. Raises TypeError for another object."""
+    try:
+        return int(operator.index(mask))  # before Python 3.10, the index of True is True
+    except TypeError:
+        raise TypeError(f"{WRONG_MASK}, not {reprlib.repr(mask)}") from None
+
+
+def checked_mask(mask: int) -> int:
+    """Returns what `mask_of` does, but raises ValueError unless it is from 0 to 2**64 - 1."""
+    mask = mask_of(mask)
+    if mask >> 64:
+        raise ValueError(f"{WRONG_MASK}, not {mask}")
+    return mask
+
+
 def square_names(mask: int) -> List[str]:
     """The names of the squares in a mask, in the order of their numbers. Raises ValueError for a wrong mask."""
-    mask = operator.index(mask)
-    if not 0 <= mask < 1 << 64:
-        raise ValueError(f"a mask is a number from 0 to 2**64 - 1, not {mask}")
+    mask = checked_mask(mask)
     return [NAMES[number] for number in range(64) if mask >> number & 1]

@@ -2,12 +2,13 @@
 import ctypes
 import enum
 import operator
-from typing import Sequence, Tuple, Union
+from typing import Iterable, Tuple, Union
 
+from ._answers import ENDS
 from ._library import CPosition, loaded
 from ._refusals import UnknownSymmetry
 from ._rules import accept, c_position
-from ._squares import NAMES, square_of
+from ._squares import NAMES, checked_mask, square_of
 
 
 class Symmetry(enum.IntEnum):
@@ -15,6 +16,9 @@ class Symmetry(enum.IntEnum):
 
         IDENTITY (c, r)        FLIP_COLUMNS (7 - c, r)    FLIP_ROWS (c, 7 - r)    HALF_TURN (7 - c, 7 - r)
         TRANSPOSE (r, c)       TURN_RIGHT (7 - r, c)      TURN_LEFT (r, 7 - c)    ANTI_TRANSPOSE (7 - r, 7 - c)
+
+    `symmetry.square("F5")` is the name of the square to which it moves F5, `symmetry.mask(mask)` the mask to which it
+    moves another, and `symmetry.inverse` the Symmetry that undoes it.
     """
 
     IDENTITY = 0
@@ -33,9 +37,15 @@ class Symmetry(enum.IntEnum):
         return turns.get(self, self)
 
     def square(self, square: Union[int, str]) -> str:
-        """The name of the square to which a square moves. `square` is a name such as "F5" or a number, 0 to 63. Raises
-        ValueError for another name or number, TypeError for other types."""
+        """The name of the square to which a square moves. `square` is a name such as "F5" or a number, 0 to 63. A pass,
+        "PS", and the end of a game, "--", stay. Raises ValueError for another name or number, TypeError for others."""
+        if isinstance(square, str) and square.upper() in ENDS.values():
+            return square.upper()
         return NAMES[image(1 << square_of(square), self).bit_length() - 1]
+
+    def mask(self, mask: int) -> int:
+        """The mask of the squares to which those of a mask move. Raises ValueError for a wrong mask, and TypeError."""
+        return image(checked_mask(mask), self)
 
 
 def image(mask: int, symmetry: int) -> int:
@@ -48,7 +58,7 @@ def image(mask: int, symmetry: int) -> int:
     return found.value
 
 
-def canonical_form(position: Sequence[int]) -> Tuple[int, int, Symmetry]:
+def canonical_form(position: Iterable[int]) -> Tuple[int, int, Symmetry]:
     """The two masks of the canonical image of a position, and the first Symmetry that leads to it."""
     found, symmetry = CPosition(), ctypes.c_uint32()
     accept(loaded().ffosolve_canonical(c_position(position), found, symmetry))

@@ -12,6 +12,10 @@ class NotText(ValueError):
     """A file can't be read as a text or as a WTHOR file of games. The message says why."""
 
 
+class ReadingWarning(UserWarning):
+    """A line or a file is read, but maybe not as it was meant. The message says why."""
+
+
 def text_lines(file: BinaryIO, name: str, may_have_nul: bool = False) -> Iterator[bytes]:
     """Yields the lines of a text, with their line ends. Raises NotText, with `name` in the message, if the text
     begins with a byte-order mark or like an archive, ends its lines with CR alone, has a line of more than MOST_BYTES

@@ -3,34 +3,36 @@ import re
 from typing import List
 
 PASSES = ("--", "pass", "ps", "pa")
+DASHES = str.maketrans(dict.fromkeys("\u2010\u2011\u2012\u2013\u2014\u2212", "-"))  # are read as hyphens
 # Several hyphens are a pass, but a single one separates moves. A blank or comma separates a number without a point from
 # the move before it, and also a result, which comes last.
 TOKEN = re.compile(
     r"""
     ( [a-h]\s*[1-8] | pass | --+ )
-    | (?<![^\s,]) [(\[]? (?: \d{1,2}\s*[-:]\s*\d{1,2} | 1/2-1/2 | [+-]?\d{1,2} ) [)\]]? \s*\Z
-    | [\s,]+ | - | \d{1,3}\s*[.):]+ | (?<![^\s,]) \d{1,3} (?= [\s,a-h] )
-    | ( \S{1,2} )
+    | (?<![^\s,]) [(\[]? (?: [0-9]{1,2}[-:][0-9]{1,2} | 1/2-1/2 | [+-]?[0-9]{1,2} | \* ) [)\]]? \.? [\s,]*\Z
+    | [\s,]+ | - | [0-9]{1,4}\s*[.):]+ | (?<![^\s,]) [0-9]{1,4} (?= [\s,a-h] | \Z )
+    | ( [^\s,]{1,2} )
     """,
     re.VERBOSE,
 )
 
 
-HEADERS = re.compile(r"\s*(?:\[[^\[\]]*\]\s*)+")  # such as [Event "Final"] [Black "Ann"]
+HEADERS = re.compile(r"\s*(?:\[[^\]]*\]\s*)+")  # such as [Event "Final"] [Black "Ann"]
 GGF = re.compile(r"\s*(?:\d+\s*)?\(;")
 PROPERTY = re.compile(r"([A-Z]+)\[((?:[^\]\\]|\\.)*)\]")
 GGF_START = f"8{27 * '-'}O*{6 * '-'}*O{27 * '-'}*"  # 8 by 8 squares, the usual discs, Black to move; without blanks
 
 
-def words_of(text: str) -> List[str]:
-    """The words of a transcript, in small letters: squares without blanks inside, passes (several hyphens become `--`)
+def transcript_words(text: str) -> List[str]:
+    """The words of a transcript, in lower case: squares without blanks inside, passes (several hyphens become `--`)
     and other text in words of one or two characters. Skips headers in brackets before the moves, blanks, commas, a
-    hyphen between moves, move numbers such as `1.` and `12`, a result at the end such as `33-31` or `+2`, and
+    hyphen between moves, move numbers such as `1.` and `12`, a result at the end such as `33-31`, `+2` or `*`, and
     everything from `%` on. Of a game in GGF, `(;GM[Othello] .. ;)`, has the moves; raises ValueError as `ggf_words`."""
     if GGF.match(text):
         return ggf_words(text)
     text = HEADERS.sub("", text, 1) if HEADERS.match(text) else text
-    words = (move or other for move, other in TOKEN.findall(text.partition("%")[0].lower()))
+    text = text.partition("%")[0].lower().translate(DASHES)
+    words = (move or other for move, other in TOKEN.findall(text))
     return [word if len(word) < 3 else "--" if word[0] == "-" else "".join(word.split()) for word in words if word]
 
 

@@ -9,25 +9,31 @@ from typing import List
 @functools.lru_cache(maxsize=None)
 def version() -> str:
     """The version by which pip and apt know the package. In a checkout: what the file VERSION has and, if commits came
-    after its last change, their number and the last of them, as in 1.0.0+12.g0123456."""
+    after its last change, their number and the last of them, as in 1.0.0+12.g0123456. A clone with only the last
+    commits does not know the number: 1.0.0+g0123456. The version of a mere copy of the package is 0+unknown."""
     sources = Path(__file__).absolute().parent.parent
     for known in importlib.metadata.distributions(name="ffosolve", path=[str(sources)]):
         return known.version
     if (sources.parent / "PKG-INFO").exists():  # of a source archive
         return importlib.metadata.PathDistribution(sources.parent).version
     root = sources.parent.parent
+    if sources != root / "python/src" or not (root / "VERSION").exists():
+        return "0+unknown"
     release = (root / "VERSION").read_text().strip()
     try:
-        last, *_ = commits(root, "--max-count=1", "HEAD", "--", "VERSION")
-        later = commits(root, f"{last}..HEAD")
-        return f"{release}+{len(later)}.g{later[0][:7]}"
-    except (OSError, subprocess.CalledProcessError, ValueError, IndexError):  # no checkout, or none later
+        is_shallow, head = git(root, "rev-parse", "--is-shallow-repository", "HEAD")
+        if is_shallow == "true":
+            return f"{release}+g{head[:7]}"
+        last, *_ = git(root, "rev-list", "--max-count=1", head, "--", "VERSION")
+        later = git(root, "rev-list", f"{last}..{head}")
+        return f"{release}+{len(later)}.g{head[:7]}" if later else release
+    except (OSError, subprocess.CalledProcessError, ValueError):  # no checkout
         return release
 
 
-def commits(root: Path, *words: str) -> List[str]:
-    listed = ["git", f"--git-dir={root / '.git'}", "rev-list", *words]
-    return subprocess.run(listed, cwd=root, stdout=subprocess.PIPE, stderr=subprocess.DEVNULL, check=True,
+def git(root: Path, *words: str) -> List[str]:
+    command = ["git", f"--git-dir={root / '.git'}", *words]
+    return subprocess.run(command, cwd=root, stdout=subprocess.PIPE, stderr=subprocess.DEVNULL, check=True,
                           encoding="ascii").stdout.split()
 
 

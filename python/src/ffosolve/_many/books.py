@@ -4,24 +4,21 @@ import io
 import itertools
 import re
 from operator import itemgetter
-from typing import Iterable, Iterator, List, Tuple
+from typing import Any, Iterable, Iterator, List, Tuple
 
+from .._books import ENTRY
 from .._command_line import MISUSED, Refusal
-from .._positions import BLACK, WHITE, Position
+from .._obf import BLACK, WHITE
+from .._positions import Position
 from .._refusals import NoPosition
 from .._squares import NAMES
 from .._text import BOOK_HEADER
 from .folder import Run
 
-Entry = Tuple[Tuple[int, int], str, int, bytes]  # see `entries_of`
-# A line of a book, as ffosolve writes it, except that the moves may be in another order.
-ENTRY = re.compile(rb"[XO-]{64} X;(?: (?:PS|--):[+-]\d\d;| [A-H][1-8]:([+-]\d\d);(?: [A-H][1-8]:\1;)*)\n")
 
-
-def entries_of(name: str, lines: Iterable[bytes]) -> Iterator[Entry]:
-    """Yields (masks, name, line number, text) for each position in the book of that name. Books are sorted by `masks`:
-    X's and O's squares as bits; `text` is the line in ENTRY's form. Raises ValueError at a line that is malformed,
-    lists no move, is repeated or not in order."""
+def entries_of(name: str, lines: Iterable[bytes]) -> Iterator[Tuple[Tuple[int, int], str, int, bytes]]:
+    """Yields (masks of X's and O's squares, name, line number, line in ENTRY's form) for each position in the book of
+    that name. Raises ValueError at a line that is malformed, lists no move, is repeated or not in order."""
     last = (-1, -1)
     for number, text in enumerate(lines, 1):
         moves = [*zip(text[69:-1:8], text[68:-1:8])]  # the row and the column of each move of an ENTRY
@@ -45,7 +42,7 @@ def entries_of(name: str, lines: Iterable[bytes]) -> Iterator[Entry]:
 def merged(books: Iterable[Tuple[str, Iterable[bytes]]]) -> Iterator[bytes]:
     """Yields the lines of one book with all positions of `books`, each a name and lines. Refuses two scorings, and
     lines that disagree. Raises ValueError where `entries_of` does."""
-    entries: List[Iterator[Entry]] = []
+    entries: List[Iterator[Any]] = []
     first_name = first_scoring = ""
     for name, book in books:
         lines = iter(book)
@@ -70,5 +67,5 @@ def merged(books: Iterable[Tuple[str, Iterable[bytes]]]) -> Iterator[bytes]:
 def book_of(run: Run) -> Iterator[bytes]:
     """Yields the lines of a run's book, merged from the parts' books."""
     header = f"{BOOK_HEADER}{run.task['options']['--scoring']}\n".encode()  # all of the book if there are no lines
-    books = ((str(part), io.BytesIO(found.book)) for part, found in zip(run.parts, run.solved()))
+    books = ((str(part), io.BytesIO(found.book)) for part, found in run.solved())
     return merged(itertools.chain([("", [header])], books))

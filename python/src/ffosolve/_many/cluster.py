@@ -1,9 +1,8 @@
-"""Solves the parts of a run on the workers of a Dask cluster. A part is a plain task of Dask's, sent to one worker; the
-scheduler runs no code of ours."""
-from __future__ import annotations
-
+"""Lets a Dask cluster solve the parts of a run. Each part is a plain task of Dask's, which chooses its worker, tries it
+again on another one if that ends, and brings workers the programs; so the scheduler runs no code of ours."""
 import asyncio
 import contextlib
+import functools
 import json
 import logging
 import os
@@ -11,22 +10,24 @@ import re
 import sys
 import time
 import warnings
-from concurrent.futures import CancelledError, Future
+from collections import defaultdict
+from concurrent.futures import CancelledError
 from pathlib import Path
-from typing import Any, Coroutine, Dict, List, Tuple
+from typing import Any, DefaultDict, Dict, List, Sequence, Set, Tuple
 
 from .._command_line import MISSING, Refusal, say
 from .._text import shown
-from .engine import MOST_FAILS, Answer, Machine
+from . import solve
+from .engine import Outcome
 from .folder import Part, Run
-from .solve import Task, content_of, fit_program, solve
+from .solve import Pack, content_of
 
 try:
-    import cloudpickle
     import dask
     # Otherwise, Dask reads the source of this module for each part, and adds up the sizes of all objects that it sends.
     dask.config.set({"distributed.diagnostics.computations.ignore-modules": [""], "distributed.comm.offload": False})
     import distributed
+    import toolz
 except ImportError as fault:
     raise Refusal(f"--scheduler needs the package distributed, which {sys.executable} lacks ({fault}): apt-get install "
                   f"python3-distributed for Debian's Python, or {sys.executable} -m pip install distributed",
@@ -34,38 +35,11 @@ except ImportError as fault:
 except Exception as fault:  # such as a malformed file of settings
     raise Refusal(f"Dask cannot start: {type(fault).__name__}: {' '.join(str(fault).split())}") from None
 
-LOST_SECONDS = 30  # of silence, after which a scheduler is lost: as long as Dask waits for a connection
+LOST_SECONDS = 30  # of silence, after which a scheduler is lost, and no worker waited for: as long as Dask connects
 SILENT_SECONDS = 5  # of silence, after which progress says so: a busy scheduler may need a second or two
-PYTHON = "%d.%d" % sys.version_info[:2]
-
-
-class Pack:
-    """A run's programs and --book-in, in the memory of a worker. Dask drops it when the client ends."""
-
-    def __init__(self, task: Task, contents: Dict[str, bytes]) -> None:
-        """Raises ChildProcessError if no program works on this machine."""
-        self.task, self.contents = task, contents
-        self.memory = {name: open(os.memfd_create("ffosolve"), "w+b", 0) for name in contents}
-        self.files = {name: f"/proc/{os.getpid()}/fd/{file.fileno()}" for name, file in self.memory.items()}
-        try:
-            for name, file in self.memory.items():
-                file.write(contents[name])
-            self.program, _ = fit_program(task, self.files)
-        except OSError:
-            for file in self.memory.values():
-                file.close()  # otherwise, they stay until the garbage of the error is collected
-            raise
-
-    def __reduce__(self) -> Tuple[Any, ...]:
-        return Pack, (self.task, self.contents)
-
-
-def solve_part(pack: Pack, number: int, text: bytes) -> Tuple[bytes, str]:
-    """Runs on a worker. Returns what `solve` returns. Kills the program once Dask takes the part from the worker."""
-    worker = distributed.get_worker()
-    key = worker.get_current_task()
-    return solve(pack.task, pack.files, pack.program, number, text,
-                 lambda: getattr(worker.state.tasks.get(key), "state", None) == "executing")
+AHEAD = 100  # parts that are sent beside two for each thread, so that a cluster which grows by need does
+MOST_FAILS = 3  # parts failed in a row, after which a worker gets no more, unless these fail elsewhere, too
+Worker = Tuple[str, str]  # its address, which another one may have later, and its folder
 
 
 def address_of(name: str) -> str:
@@ -80,127 +54,157 @@ def address_of(name: str) -> str:
     raise Refusal(f"cannot reach a scheduler: the file {shown(name)} has no address of one, or not yet")
 
 
-async def server_at(address: str) -> Tuple[str, str]:
-    """Returns what kind of server of Dask's is at an address, such as Scheduler, and the Python of a scheduler."""
-    security = distributed.Security().get_connection_args("client")
-    async with distributed.rpc(address, timeout=LOST_SECONDS, connection_args=security) as server:
-        kind = (await server.identity())["type"]
-        return kind, python_of(await server.versions()) if kind == "Scheduler" else ""
-
-
-def python_of(versions: Any) -> str:
-    return ".".join(versions["host"]["python"].split(".")[:2])
-
-
-def text_of(fault: object) -> str:
-    return str(fault).partition("\n")[0] or repr(fault)
-
-
-class Worker(Machine):
-    """A worker, with what the scheduler knows `about` it, the Dask future of its Pack, and the future of its test."""
-
-    def __init__(self, address: str, about: Dict[str, Any]) -> None:
-        super().__init__(address, about["host"], about["nthreads"])
-        self.is_fit, self.start = False, about["local_directory"]
-        self.pack: Any = None
-        self.test: Future[Any] = Future()
+def client_of(address: str) -> Any:
+    """Returns a client of the scheduler at an address. Refuses if there is another server of Dask's, or none."""
+    async def kind_of_server() -> str:
+        security = distributed.Security().get_connection_args("client")
+        async with distributed.rpc(address, timeout=LOST_SECONDS, connection_args=security) as server:
+            return str((await server.identity())["type"])
+    try:
+        kind = asyncio.run(asyncio.wait_for(kind_of_server(), 2 * LOST_SECONDS))
+        if kind == "Scheduler":
+            return distributed.Client(address, timeout=LOST_SECONDS, set_as_default=False)
+    except Exception as why:
+        reason = " ".join(str(why).split()) or repr(why)
+        if "handshake" in reason or isinstance(why, asyncio.TimeoutError):
+            reason = "it does not answer as a scheduler does (the address of one with TLS begins with tls://)"
+        raise Refusal(f"cannot reach the scheduler {address}: {reason}") from None
+    raise Refusal(f"{address} is not a scheduler, but a {kind.lower()}")
 
 
 class Cluster:
-    """The workers of a Dask cluster, as an engine (see `Threads`)."""
+    """A Dask cluster, as an engine (see `Threads`). `workers` has the threads of each fit worker that is not silent, of
+    the `count` workers that there are; `kept`, the parts that silent ones have at work; `failed`, those that each has
+    failed in a row. An `unfit` worker fails a known line. One that is `left_out` gets no part if others are fit."""
 
     tries, trouble = 3, ""
 
     def __init__(self, name: str, run: Run) -> None:
         logging.disable()
         warnings.simplefilter("ignore")
-        for module in ("solve", "cluster"):  # workers do not have these modules
-            cloudpickle.register_pickle_by_value(sys.modules[f"{__package__}.{module}"])
-        self.run, self.address = run, address_of(name)
-        self.contents = {name: Path(path).read_bytes() for name, path in run.files.items()}
+        self.run, self.address, self.key = run, address_of(name), f"ffosolve-{os.urandom(4).hex()}"
+        self.client = client_of(self.address)
+        self.pack: Any = None  # Dask's future of the `Pack` of this run
+        self.workers: Dict[Worker, int] = {}
+        self.count = self.threads = 0
+        self.kept: Set[int] = set()
+        self.left_out: Set[Worker] = set()
+        self.unfit: Set[Worker] = set()
+        self.failed: DefaultDict[Worker, Set[int]] = defaultdict(set)
+        self.running: Dict[int, Tuple[str, float]] = {}
+        # Runs a coroutine in Dask's thread. No call waits for Dask, which may be silent for any time.
+        self.in_dask: Any = functools.partial(asyncio.run_coroutine_threadsafe, loop=self.client.loop.asyncio_loop)
+        self.heard, self.asked = time.monotonic(), self.in_dask(self.ask())
+
+    async def ask(self) -> None:
+        """Notes which workers there are, and what they do. Drops a Pack that only silent workers have."""
+        workers = (await self.client.scheduler.identity())["workers"]
+        keys, now = await self.client.processing(), time.monotonic()
+        if self.client.status == "running":
+            self.heard = now  # otherwise, Dask connects again
+        # A worker's first tasks are at work; those that it has beyond its threads wait there.
+        found = [(int(key.split("-")[2]), name) for name, about in workers.items()
+                 for key in map(str, keys.get(name, [])[:about["nthreads"]]) if key.startswith(self.key)]
+        self.running = {number: (workers[at]["host"], self.running.get(number, ("", now))[1]) for number, at in found}
+        last = max([about["last_seen"] for about in workers.values()], default=0)
+        silent = {name for name, about in workers.items() if about["last_seen"] < last - LOST_SECONDS}
+        fit = {(name, workers[name]["local_directory"]) for name in workers.keys() - silent} - self.unfit
+        self.workers = {worker: workers[worker[0]]["nthreads"] for worker in fit}
+        self.count, self.threads = len(workers), sum(self.workers.values())
+        self.kept = {number for number, at in found if at in silent}
+        if silent and self.pack and self.pack.status == "finished":
+            holders = await self.client.who_has([self.pack])
+            self.pack = self.pack if {*holders[self.pack.key]} - silent else None
+
+    def chosen(self, failed: Sequence[str] = ()) -> Set[str]:
+        """Returns the addresses of workers that may have a part: fit ones; if possible, only those that have not failed
+        MOST_FAILS parts in a row; and if possible, only those that have not `failed` this one."""
+        doubted = self.left_out | {worker for worker, parts in self.failed.items() if len(parts) >= MOST_FAILS}
+        trusted = {name for name, _ in self.workers.keys() - doubted or self.workers}
+        return trusted - {*failed} or trusted
+
+    def most(self, is_alone: bool) -> int:
+        """Does what `Threads.most` does. None is sent while nothing is known of the workers, or all are unfit."""
+        fit = len(self.workers)
+        if self.trouble or self.client.status != "running" or self.count and not fit:
+            return 0
+        # Dask gives parts that only some workers may have to these at once, so one that falls silent would keep many.
+        # Half of the workers stay free for a part that ends its own, so that it does not end those of others, too.
+        return max(1, fit // 2) if is_alone else 2 * self.threads + AHEAD * (fit == self.count)
+
+    def send(self, part: Part, failed: List[str]) -> Any:
+        return self.in_dask(self.solve(part, failed))
+
+    async def answer(self, part: Part, failed: List[str]) -> Any:
+        """Returns what a Pack does for a part. Cancels it if it waits while there are other workers or another Pack."""
+        workers = self.chosen(failed)
+        some = [*workers] if len(workers) < self.count else None
+        if not self.pack or self.pack.status in ("cancelled", "error"):
+            make, words = Pack(Path(solve.__file__).read_text(), self.run.task, {}, self.run.files).__reduce__()
+            # If all workers end, parts that wait in the scheduler's queue must not come before what they need.
+            self.pack = self.client.submit(make, *words, pure=False, priority=self.tries, workers=some,
+                                           allow_other_workers=bool(some))
+        pack, key = self.pack, f"{self.key}-{part.number}-{os.urandom(4).hex()}"
+        # A part that has failed is urgent, since it may show which worker is to blame.
+        task = self.client.submit(toolz.apply, pack, part.number, self.run.text(part), key=key, workers=some,
+                                  priority=len(failed))
+        result = asyncio.ensure_future(task)
+        while not (await asyncio.wait({result}, timeout=1))[0]:
+            has_others = some and self.chosen(failed) - workers and part.number not in self.running
+            if has_others or self.pack is not pack and part.number not in self.kept:
+                await task.cancel()
+        return await result
+
+    async def solve(self, part: Part, failed: List[str]) -> Outcome:
+        """Lets Dask solve a part on one of the `chosen` workers."""
+        if failed:
+            with contextlib.suppress(OSError):
+                await self.ask()  # otherwise, a worker that fails it again might be the only one that is known
         try:
-            kind, python = asyncio.run(asyncio.wait_for(server_at(self.address), 2 * LOST_SECONDS))
-            if (kind, python) == ("Scheduler", PYTHON):
-                self.client = distributed.Client(self.address, timeout=LOST_SECONDS, set_as_default=False)
-        except Exception as why:
-            reason = " ".join(str(why).split()) or repr(why)
-            if "handshake" in reason or isinstance(why, asyncio.TimeoutError):
-                reason = "it does not answer as a scheduler does (the address of one with TLS begins with tls://)"
-            raise Refusal(f"cannot reach the scheduler {self.address}: {reason}") from None
-        if kind != "Scheduler":
-            raise Refusal(f"{self.address} is not a scheduler, but a {kind.lower()}")
-        if python != PYTHON:
-            raise Refusal(f"the scheduler {self.address} has Python {python}, and ffosolve-many {PYTHON}: use the same")
-        self.workers: Dict[str, Worker] = {}
-        self.heard, self.asked = time.monotonic(), self.in_dask(self.client.scheduler.identity())
-
-    def in_dask(self, coroutine: Coroutine[Any, Any, Any]) -> Future[Any]:
-        """Runs a coroutine in Dask's thread. No call waits for Dask, which may be silent for any time."""
-        return asyncio.run_coroutine_threadsafe(coroutine, self.client.loop.asyncio_loop)
-
-    @property
-    def machines(self) -> List[Worker]:
-        return [] if self.trouble or self.client.status != "running" else [*self.workers.values()]
-
-    async def test(self, worker: Worker) -> None:
-        """Asks a worker for its Python, since another could not run our functions, and then sends it the Pack."""
-        try:
-            versions = await self.client.scheduler.broadcast(msg={"op": "versions"}, workers=[worker.name])
-            if (python := python_of(versions[worker.name])) != PYTHON:
-                return self.leave_out(worker, f"it has Python {python}, and ffosolve-many {PYTHON}")
-            worker.pack = self.client.submit(Pack, self.run.task, self.contents, workers=[worker.name], pure=False)
-            if fault := await worker.pack.exception():
-                return self.leave_out(worker, text_of(fault))
-            worker.is_fit = True
-        except (OSError, CancelledError):  # the connection has failed
-            worker.start = None  # so `look` takes it for a new one
+            worker, unfit, record, why = await self.answer(part, failed)
+        except (CancelledError, asyncio.CancelledError):  # the scheduler was lost, or there are other workers
+            return part, None, "", []
+        except distributed.KilledWorker as end:
+            why = f"{end.allowed_failures + 1} workers ended that had "
+            if end.task == self.pack.key:
+                raise Refusal(f"{why}only the program and any --book-in: is their memory too small?") from None
+            return part, None, f"{why}it", 2 * [end.last_worker.address]
         except Exception as fault:
-            self.leave_out(worker, text_of(fault))
+            return part, None, str(fault).partition("\n")[0] or repr(fault), ["a worker"]
+        if unfit:
+            self.leave_out(worker, unfit)
+            self.unfit.add(worker)
+            self.workers = {one: threads for one, threads in self.workers.items() if one != worker}
+            return part, None, "", []
+        found, why = await asyncio.get_running_loop().run_in_executor(None, self.run.keep, part, record, why)
+        counts = self.counts(worker, part.number, bool(found), bool(failed))
+        return part, found, why if counts else "", [worker[0]]
 
-    async def solve(self, worker: Worker, part: Part) -> Answer:
-        text = self.run.text(part)
-        try:
-            task = self.client.submit(solve_part, worker.pack, part.number, text, workers=[worker.name], pure=False)
-            record, why = await task
-        except CancelledError:  # by Dask, when the scheduler was lost
-            return None, ""
-        except Exception as fault:
-            record, why = b"", text_of(fault)
-        return await asyncio.get_running_loop().run_in_executor(None, self.run.keep, part, record, why)
-
-    def send(self, worker: Worker, part: Part) -> Future[Answer]:
-        return self.in_dask(self.solve(worker, part))
-
-    def doubt(self, worker: Worker) -> None:
-        """Leaves a worker out, but never the last one."""
-        if worker.is_fit and sum(one.is_fit for one in self.workers.values()) > 1:
-            self.leave_out(worker, f"{MOST_FAILS} parts failed in a row")
+    def counts(self, worker: Worker, part: int, is_solved: bool, has_failed: bool) -> bool:
+        """Notes whether a worker has solved a part, which `has_failed` before. Returns whether that counts."""
+        if is_solved:
+            self.failed.pop(worker, None)
+        elif worker[0] not in self.chosen():
+            return False
+        elif has_failed and not self.failed[worker]:
+            for parts in self.failed.values():
+                parts.discard(part)  # which is to blame itself
+        else:
+            self.failed[worker].add(part)
+        for one, parts in self.failed.items():
+            if len(parts) >= MOST_FAILS and parts <= self.run.statuses.keys():
+                self.leave_out(one, f"{MOST_FAILS} parts failed in a row that others solve")
+        return True
 
     def leave_out(self, worker: Worker, why: str) -> None:
-        if not worker.ended:
-            say(f"{worker.name} is left out: {why}")
-        worker.is_fit = False
-        for future in [worker.test, *worker.parts]:
-            future.cancel()
+        if worker not in self.left_out:
+            say(f"{worker[0]} is left out: {why}")
+        self.left_out.add(worker)
 
     def look(self) -> None:
-        """Notes which workers there are. Refuses after LOST_SECONDS of silence."""
-        now = time.monotonic()
+        """Does what `Threads.look` does. Refuses after LOST_SECONDS of silence."""
         if self.asked.done():
-            if not self.asked.cancelled() and not self.asked.exception() and self.client.status == "running":
-                self.heard = now  # otherwise, Dask connects again
-                self.update(self.asked.result()["workers"])
-            self.asked = self.in_dask(self.client.scheduler.identity())
-        if (silent := now - self.heard) > LOST_SECONDS:
+            self.asked = self.in_dask(self.ask())
+        if (silent := time.monotonic() - self.heard) > LOST_SECONDS:
             raise Refusal(f"the scheduler {self.address} is lost; the same command goes on with what is solved")
         self.trouble = f"the scheduler has been silent for {silent:.0f} s" if silent > SILENT_SECONDS else ""
-
-    def update(self, found: Dict[str, Any]) -> None:
-        """Notes the workers `found`: {address: what the scheduler knows about the worker}."""
-        for address, worker in [*self.workers.items()]:
-            if found.get(address, {}).get("local_directory") != worker.start or worker.pack and worker.pack.cancelled():
-                worker.ended = "the worker ended"
-                self.leave_out(self.workers.pop(address), worker.ended)
-        for address in found.keys() - self.workers.keys():
-            worker = self.workers[address] = Worker(address, found[address])
-            worker.test = self.in_dask(self.test(worker))

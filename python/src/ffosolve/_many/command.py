@@ -1,5 +1,6 @@
 """Runs ffosolve-many: reads its command line, and then solves a list and prints the results, or merges books."""
 import argparse
+import contextlib
 import io
 import itertools
 import os
@@ -11,14 +12,13 @@ import sys
 from pathlib import Path
 from typing import Any, Dict, Iterable, List, Optional, Tuple
 
-from .._command_line import (DONE, MISSING, MISUSED, REMARKED, UNREADABLE, Name, Parser, Refusal, counted, is_same,
-                             path_of, print_all, refusing, regular, replace, say)
-from .._command_line import run as run_program
+from .._command_line import (DONE, MISSING, REMARKED, UNREADABLE, Name, Parser, Refusal, counted, is_same, misused,
+                             path_of, print_all, refusing, regular, replace, run as run_program, say)
 from .._text import BOOK_HEADER, shown
 from .books import book_of, merged
 from .engine import Threads, solve_parts
-from .folder import Run, begin, options_of
-from .solve import guarded, opened, without_folder, words_of
+from .folder import Run
+from .solve import GUARD, Task, opened, sha256, without_folder, words_of
 
 NAME = "ffosolve-many"
 NO_DISCS = b"-" * 64 + b" X;"  # refused with any options; the message has the limit of empty squares
@@ -71,15 +71,10 @@ OPTIONS = {
         ("--book-out", "FILE", "write all solved positions to FILE as a book"))}
 
 
-def misused(text: str) -> Refusal:
-    return Refusal(f"{text}. Try 'ffosolve-many --help'", MISUSED)
-
-
 class Once(argparse.Action):
     """An option that may be given only once. Its value is UTF-8, not empty; with `const`, an int from 1 to `const`."""
 
-    def __call__(self, parser: argparse.ArgumentParser, namespace: argparse.Namespace, value: Any,
-                 option_string: Optional[str] = None) -> None:
+    def __call__(self, parser: Any, namespace: Any, value: Any, option_string: Optional[str] = None) -> None:
         if getattr(namespace, self.dest) is not None:
             raise argparse.ArgumentError(self, "given twice")
         if not value or re.search("[\udc80-\udcff]", value):
@@ -114,12 +109,14 @@ def parse(words: List[str]) -> argparse.Namespace:
     return command
 
 
-def program_in(folder: str, name: str) -> Path:
-    """Returns the path of ffosolve or ffoscores, or of a script that runs it and, in a checkout, builds it first."""
-    path = Path(folder, name)
-    if not os.access(path, os.X_OK):
-        raise Refusal(f"{name} is missing: it has to be next to ffosolve-many, in {folder}", MISSING)
-    return path
+def task_of(command: argparse.Namespace, claims: Optional[bytes]) -> Task:
+    """Returns the options of a command as "options" and "speed" of a task. `claims` is the content of a --book-in."""
+    return {"options": {"--lines": command.lines or 1000, "--scoring": command.scoring or "winner",
+                        "--max-empties": command.max_empties, "--scores": "" if command.scores else None,
+                        "--complete": "" if command.complete else None,
+                        "--book-in": None if claims is None else f"of SHA-256 {sha256(claims)}"},
+            # The parts keep all processors busy, so none of them needs more than one thread.
+            "speed": {"--workers": command.workers or "0", "--table": command.table}}
 
 
 def builds_of(program: Path) -> List[bytes]:
@@ -135,10 +132,12 @@ def builds_of(program: Path) -> List[bytes]:
 def try_run(program: Path, *words: str, text: bytes = NO_DISCS, to: int = subprocess.PIPE) -> Tuple[int, bytes, str]:
     """Runs a program, which inherits a shell's /dev/fd/63, with a `text` as its standard input. Returns its status, its
     output unless that goes to the file `to`, and, in one line, its messages."""
-    if not shutil.which("setpriv"):
-        raise Refusal("setpriv is not on the path: apt-get install util-linux", MISSING)
+    if not os.access(program, os.X_OK):
+        raise Refusal(f"{program.name} is missing: it has to be next to ffosolve-many, in {program.parent}", MISSING)
+    if not (shutil.which("choom") and shutil.which("setpriv")):
+        raise Refusal("choom or setpriv is not on the path: apt-get install util-linux", MISSING)
     path = str(opened(program.parent) / program.name)
-    ran = subprocess.run(guarded(path, [*words]), close_fds=False, input=text, stdout=to, stderr=subprocess.PIPE)
+    ran = subprocess.run([*GUARD, path, *words], close_fds=False, input=text, stdout=to, stderr=subprocess.PIPE)
     said = without_folder(ran.stderr.decode(errors="replace"))
     lines = re.findall(r"^(?:ffo[a-z]+: |\s+)?(\S.*)", said, re.MULTILINE)
     return ran.returncode, ran.stdout, ": ".join(lines) or f"{program} ended with status {ran.returncode}"
@@ -159,7 +158,7 @@ def check_book_out(program: Path, name: str, source: Name, *options: str) -> Non
             raise misused(f"--book-out {shown(name)} is {what}: name another file")
     with open("/dev/full", "wb") as full:  # so that the program tests the file, and writes nothing
         _, _, errors = try_run(program, *options, f"--book-out={name}", os.devnull, to=full.fileno())
-    if errors != "cannot write standard output":
+    if errors != "cannot write standard output: no space left":
         raise Refusal(errors.replace(os.fsencode(name).decode(errors="replace"), shown(name)))
 
 
@@ -175,33 +174,35 @@ def limit_of(program: Path, options: List[str]) -> str:
 
 
 def run_of(command: argparse.Namespace, programs: str) -> Run:
-    """Checks a command from `parse`; sets its list, folder and some defaults. Returns its Run, begun or continued."""
+    """Checks a command from `parse`, and begins or continues its run."""
     if not command.words:
         raise misused("no list is named; for standard input use `-`, with a FOLDER before it")
     if len(command.words) > 2:
         raise misused(f"'{shown(command.words[2])}' is one word too many: name one FOLDER and one LIST")
-    *named, command.list = command.words
-    command.folder, path = Path(named[0] if named else f"{command.list}.parts"), path_of(command.list)
-    if command.folder.exists() and not command.folder.is_dir():
-        raise misused(f"'{shown(command.folder)}' is not a folder: name one FOLDER and one LIST")
-    if not named and (path.is_fifo() or path.parts[1:2] in (("dev",), ("proc",))):
-        raise misused(f"'{shown(command.list)}' has no folder of its own: name a FOLDER before it")
+    *named, word = command.words
+    folder, path, name = Path(named[0] if named else f"{word}.parts"), path_of(word), shown(word)
+    if not named and (path.is_fifo() or path.parts[1:2] in (("dev",), ("proc",)) or len(os.fsencode(path.name)) > 249):
+        raise misused(f"'{name}' has no folder of its own: name a FOLDER before it")
+    if folder.exists() and not folder.is_dir():
+        raise misused(f"'{shown(folder)}' is not a folder: name one FOLDER and one LIST")
     if is_same(path, 1):
-        raise misused(f"standard output is the list {shown(command.list)}: name another file")
-    source = regular(command.list)
+        raise misused(f"standard output is the list {name}: name another file")
+    source = regular(word)
     with source.open("rb") as file:
-        book = re.match(rf"{BOOK_HEADER}(discs|sign)\s".encode(), file.readline(99))
-    if book and not command.scoring:
-        scoring = book[1].decode()
-        raise misused(f"{shown(command.list)} is a book of the scoring {scoring}: use --scoring {scoring}")
-    command.lines, command.scoring = command.lines or 1000, command.scoring or "winner"
-    book_in = regular(command.book_in) if command.book_in else None
-    program = program_in(programs, "ffoscores" if command.scores else "ffosolve")
-    words = words_of(options_of(command, None), str(book_in) if book_in else None)
-    command.max_empties = limit_of(program, words)
+        header = re.match(rf"{BOOK_HEADER}(discs|sign)\s".encode(), file.readline(99))
+    if header and not command.scoring:
+        scoring = header[1].decode()
+        raise misused(f"{name} is a book of the scoring {scoring}: use --scoring {scoring}")
+    book = regular(command.book_in) if command.book_in else None
+    claims = book.read_bytes() if book else None
+    program, task = Path(programs, "ffoscores" if command.scores else "ffosolve"), task_of(command, claims)
+    words = words_of(task, str(book) if book else None)
+    task["options"]["--max-empties"] = limit_of(program, words)
     if command.book_out:
         check_book_out(program, command.book_out, path, *words)
-    return begin(command, source, lambda: builds_of(program), book_in)
+    run = Run(folder, task, source, name)
+    run.begin(builds_of(program), book, claims)
+    return run
 
 
 def print_cut(run: Run) -> int:
@@ -225,8 +226,9 @@ def solve_list(command: argparse.Namespace, programs: str) -> int:
         return print_cut(run)
     parts = counted(len(run.parts), "part")
     if not command.quiet:
-        say(f"{shown(command.list)}: {counted(run.count, 'line')} in {parts}, {len(run.statuses)} of them solved before"
-            f"; folder {shown(run.folder)}")
+        old = ", with the program that it was begun with, not the present one" if run.is_old else ""
+        say(f"{run.name}: {counted(run.count, 'line')} in {parts}, {len(run.statuses)} of them solved before; folder "
+            f"{shown(run.folder)}{old}")
     if run.unsolved():
         jobs = command.jobs or len(os.sched_getaffinity(0))
         solve_parts(run, Cluster(command.scheduler, run) if command.scheduler else Threads(run, jobs), command.quiet)
@@ -237,6 +239,9 @@ def solve_list(command: argparse.Namespace, programs: str) -> int:
     print_all(run.output())
     if command.book_out:
         replace(command.book_out, book_of(run))
+    with contextlib.suppress(OSError):  # such as in a folder that may not be written
+        for path in run.place.glob("results/*.new"):
+            path.unlink()  # solve.py was killed
     return max(run.statuses.values(), default=DONE)
 
 
@@ -244,7 +249,7 @@ def merge_books(command: argparse.Namespace, programs: str) -> int:
     """Merges the books that a command from `parse` names; prints the result or writes --book-out. Returns a status."""
     if not command.words:
         raise misused("--merge-books needs the name of a book")
-    program = program_in(programs, "ffosolve")
+    program = Path(programs, "ffosolve")
     if command.book_out:
         check_book_out(program, command.book_out, os.devnull)
     books = [(shown(name), regular(name).read_bytes()) for name in command.words]

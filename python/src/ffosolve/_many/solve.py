@@ -1,20 +1,24 @@
 """Solves parts of a list: on a thread of ffosolve-many, on a worker of a cluster, or as `python3 solve.py PARTS`.
 This file needs only Python 3.8 and util-linux, so it works on machines without the rest of the package."""
+import signal
+if __name__ == "__main__" and signal.getsignal(signal.SIGINT) is signal.default_int_handler:
+    signal.signal(signal.SIGINT, signal.SIG_DFL)  # without a traceback, even while modules are imported
 import functools
 import hashlib
 import itertools
 import json
 import os
 import re
-import signal
 import subprocess
 import sys
+import threading
 import time
 from pathlib import Path
-from typing import Any, Callable, Dict, Iterator, List, NamedTuple, Optional, Tuple
+from typing import Any, BinaryIO, Callable, Dict, Iterator, List, NamedTuple, Optional, Set, Tuple
 
 KNOWN = b"-OXXXXX-XXXXXXXOXXXXXXXXXXXXXXXXXXXOXXXXXXXXXXXXXXXXXXXXXXXXXXXX X; H1:+62; A1:+52;\n"
 KNOWN_SECONDS = 30  # in which a machine has to solve it; that takes 0.01, but a busy machine starts programs late
+GUARD = ("setpriv", "--pdeathsig", "KILL")  # before the path of a program, which is then killed when this process ends
 PASSED_ON = ("--max-empties", "--scoring", "--workers", "--table", "--book-in", "--complete")  # to the program
 
 # What a run's file `task` has. "options": {option that decides the results: value}, "" for an option without value and
@@ -42,11 +46,6 @@ def unsealed(about: object, text: bytes) -> bytes:
     return content if text == sealed(about, content) else b""
 
 
-def guarded(program: str, words: List[str]) -> List[str]:
-    """Returns a command that runs a program, which is killed when this process ends."""
-    return ["setpriv", "--pdeathsig", "KILL", program, *words]
-
-
 def words_of(task: Task, book_in: Optional[str]) -> List[str]:
     """Returns the arguments of the program, except --book-out. `book_in` is the path of a book."""
     given = {**task["speed"], **task["options"], "--book-in": book_in}
@@ -54,8 +53,7 @@ def words_of(task: Task, book_in: Optional[str]) -> List[str]:
 
 
 def record_of(task: Task, part: int, lines: str, solved: Solved) -> bytes:
-    """Returns a record: the results of a part, behind a digest which also covers the options that decide them, and the
-    part's number and lines. `lines` is the SHA-256 of these."""
+    """Returns a record: the results of a part, sealed with its options, its number and the SHA-256 of its `lines`."""
     head = b"%d %d %.3f\n" % (solved.status, len(solved.output), solved.seconds)
     return sealed([task["options"], part, lines], head + solved.output + solved.book)
 
@@ -74,15 +72,16 @@ def solve(task: Task, files: Files, program: str, part: int, text: bytes,
     """Solves the lines `text` of a part with the program of that path, and kills it once `is_wanted` returns false.
     Returns (record, "") or, if the program fails, (b"", the reason)."""
     # The program writes its book to the pipe of standard error, so that it needs no room on a disk.
-    has_book, most = task["options"]["--book-out"] is not None, task["options"]["--scores"] is not None
-    words = [*words_of(task, files.get("book-in")), *["--book-out=/dev/stderr"] * has_book]
+    has_book = task["options"]["--scores"] is None
+    words = [program, *words_of(task, files.get("book-in")), *["--book-out=/dev/stderr"] * has_book]
+    command = ["choom", "-n", "1000", "--", *GUARD, *words]  # out of memory, it is killed before this process
     start = time.monotonic()
     try:  # after a timeout, `communicate` loses the rest of the input, so the lines are a file in memory
         with open(os.memfd_create("part"), "w+b") as file:
             file.write(text)
             file.seek(0)
-            process = subprocess.Popen(guarded(program, words), start_new_session=True, stdin=file,
-                                       stdout=subprocess.PIPE, stderr=subprocess.PIPE)
+            process = subprocess.Popen(command, start_new_session=True, stdin=file, stdout=subprocess.PIPE,
+                                       stderr=subprocess.PIPE)
     except OSError as why:
         return b"", without_folder(f"{why.filename or 'part'}: {why.strerror}")
     with process:
@@ -94,17 +93,17 @@ def solve(task: Task, files: Files, program: str, part: int, text: bytes,
                 if not is_wanted():
                     process.kill()
     status = process.returncode
-    if not 0 <= status <= most:
+    if status not in ((0,) if has_book else (0, 1)):
         name = f"status {status}" if status >= 0 else f"killed by {signal.Signals(-status).name}"
-        return b"", without_folder((errors.decode(errors="replace").strip() or name).splitlines()[0])
+        said = re.sub(rb"^(% ffobook|[XO-]{64}) .*\n", b"", errors, flags=re.MULTILINE).decode(errors="replace").strip()
+        return b"", without_folder((said or name).splitlines()[0])
     book = errors[max(0, errors.find(b"% ffobook ")):] if has_book else b""
     return record_of(task, part, sha256(text), Solved(status, output, book, time.monotonic() - start)), ""
 
 
-def fit_program(task: Task, files: Files) -> Tuple[str, str]:
+def fit_program(task: Task, files: Files) -> str:
     """Returns the path of the first program in `files` that has a SHA-256 of `task` and solves KNOWN within
-    KNOWN_SECONDS, with the results that `task` knows, if any; and these results, output and book as one text. Raises
-    ChildProcessError if no program is fit."""
+    KNOWN_SECONDS, as `task` knows or will know. Raises ChildProcessError if none does."""
     why = "is missing"
     for _, program in sorted(file for file in files.items() if file[0] != "book-in"):
         end = time.monotonic() + KNOWN_SECONDS
@@ -113,15 +112,58 @@ def fit_program(task: Task, files: Files) -> Tuple[str, str]:
             continue
         record, fault = solve(task, files, program, 0, KNOWN, lambda: time.monotonic() < end)
         results = record.partition(b"\n")[2].partition(b"\n")[2].decode("latin-1")
-        if record and results == task.get("known", results):
-            return program, results
-        if record:
-            why = "solves a known line wrong"
-        elif time.monotonic() < end:
-            why = f"can't solve a known line: {fault}"
-        else:
+        if record and results == task.setdefault("known", results):
+            return program
+        why = "solves a known line wrong" if record else f"can't solve a known line: {fault}"
+        if time.monotonic() > end:
             why = f"needs more than {KNOWN_SECONDS} seconds for a known line"
     raise ChildProcessError(f"the program {why}")
+
+
+class Pack:
+    """A run's programs and --book-in, in the memory of a worker of a Dask cluster, which drops it when the client ends.
+    Workers pass it on to each other as built-in types, so they need no package of ours, and no certain Python: `source`
+    is the text of this module, and `contents` has those of `files` until these are written."""
+
+    def __init__(self, source: str, task: Task, contents: Dict[str, bytes], files: Files = {}) -> None:
+        self.source, self.task, self.contents, self.files = source, task, contents, {**files}
+        self.memory: List[BinaryIO] = []
+        self.program, self.fault, self.lock = "", "", threading.Lock()
+
+    def __reduce__(self) -> Tuple[Any, ...]:
+        """Returns a function and its arguments that make a copy on a machine without this module."""
+        contents = self.contents or {name: Path(path).read_bytes() for name, path in self.files.items()}
+        names = {"source": self.source, "names": {"__name__": "ffosolve"}, "task": self.task, "contents": contents}
+        return eval, ("exec(source, names) or names['Pack'](source, task, contents)", {}, names)
+
+    def __call__(self, number: int, text: bytes) -> Tuple[Tuple[str, str], str, bytes, str]:
+        """Solves a part until Dask takes it. Returns the worker (address, folder), its fault, and what `solve` does."""
+        from distributed import get_worker
+        worker, record, why = get_worker(), b"", ""
+        key, tasks = worker.get_current_task(), getattr(worker, "state", worker).tasks
+        self.test()
+        if not self.fault:
+            record, why = solve(self.task, self.files, self.program, number, text,
+                                lambda: getattr(tasks.get(key), "state", None) == "executing")
+        if why:
+            self.test(is_due=True)
+        return (worker.address, worker.local_directory), self.fault, record, why
+
+    def test(self, is_due: bool = False) -> None:
+        """Sets the program, or the fault of this machine, unless that is done and no test `is_due`."""
+        with self.lock:
+            if not is_due and (self.program or self.fault):
+                return
+            try:
+                for name, content in self.contents.items():
+                    self.memory.append(open(os.memfd_create("ffosolve"), "w+b"))
+                    self.files[name] = f"/proc/{os.getpid()}/fd/{self.memory[-1].fileno()}"
+                    self.memory[-1].write(content)
+                    self.memory[-1].flush()
+                self.contents = {}
+                self.program = fit_program(self.task, self.files)
+            except OSError as fault:
+                self.fault = str(fault)
 
 
 def content_of(path: Path) -> bytes:
@@ -149,45 +191,57 @@ def without_folder(message: str) -> str:
     return re.sub("/proc/[0-9]+/fd/[0-9]+/", "", message)
 
 
-def files_in(folder: Path) -> Files:
-    """Returns the programs and any book-in in the folder of a run."""
-    found = (path for pattern in ("program-?", "book-in") for path in opened(folder).glob(pattern))
-    return {path.name: str(path) for path in found if path.is_file()}
+def files_in(place: Path) -> Files:
+    """Returns the programs and any book-in in the folder of a run, which is `opened`."""
+    return {path.name: str(path) for path in [*place.glob("program-?"), place / "book-in"] if path.is_file()}
 
 
-def parts_in(words: List[str], count: int) -> List[range]:
+def parts_in(words: List[str], count: int) -> Set[int]:
     """Returns the parts that `words` name, such as 0000003 or 0-99. Raises ValueError for one that does not exist."""
     found = [re.fullmatch("([0-9]{1,7})(?:-([0-9]{1,7}))?", word) for word in words]
     ranges = [range(int(word[1]), min(count, int(word[2] or word[1]) + 1)) for word in found if word]
     if not words or len(ranges) < len(words) or not all(ranges):
         raise ValueError(f"name parts from 0 to {count - 1}, such as 0-{count - 1}: '{' '.join(words)}'")
-    return ranges
+    return {part for some in ranges for part in some}
+
+
+def solve_into(path: Path, mode: int, task: Task, files: Files, program: str, part: int, text: bytes) -> str:
+    """Solves a part unless the file `path` has its record. Returns "", or why it hasn't. A new file takes its place, or
+    that of a link. Makes room for the record first, so that no part is solved in vain."""
+    new = f"{path}.{os.urandom(4).hex()}.new"
+    try:
+        if path.is_file() and read_record(task, part, sha256(text), path.read_bytes()):
+            return ""
+        with open(os.open(new, os.O_WRONLY | os.O_CREAT | os.O_EXCL, 0o600), "wb") as file:
+            os.posix_fallocate(file.fileno(), 0, 4 * len(text) + 1000)
+            record, why = solve(task, files, program, part, text)
+            file.truncate(file.write(record))
+            os.fchmod(file.fileno(), mode)
+            os.fsync(file.fileno())
+        if record:
+            os.replace(new, path)
+    except OSError as fault:
+        why = f"{fault.filename2 or fault.filename or path}: {fault.strerror}"
+    finally:
+        Path(new).unlink(missing_ok=True)
+    return why
 
 
 def main(folder: Path, words: List[str]) -> Iterator[str]:
-    """Solves parts of the list in a run's folder, unless they are solved. Yields an error for each that fails. Makes
-    room for a part's record first, so that no part is solved in vain."""
-    task, files = read_task(folder), files_in(folder)
+    """Solves parts of the list in a run's folder, unless they are solved. Yields an error for each that fails."""
+    place = opened(folder)
+    task, files = read_task(place), files_in(place)
     if not task:
         raise ValueError(f"{folder / 'task'} is damaged: run ffosolve-many again")
-    parts, program = parts_in(words, task["parts"]), fit_program(task, files)[0]
-    with (folder / "list").open("rb") as source:
-        mode = os.fstat(source.fileno()).st_mode & 0o666
-        for part in range(1 + max(some[-1] for some in parts)):
+    parts, program = parts_in(words, task["parts"]), fit_program(task, files)
+    with (place / "list").open("rb") as source:
+        mode = os.fstat(source.fileno()).st_mode & 0o644
+        for part in range(1 + max(parts)):
             text = b"".join(itertools.islice(source, task["options"]["--lines"]))
-            if not any(part in some for some in parts):
-                continue
-            with open(os.open(folder / f"results/{part:07d}", os.O_RDWR | os.O_CREAT, mode), "r+b") as file:
-                if read_record(task, part, sha256(text), file.read()):
-                    continue
-                os.posix_fallocate(file.fileno(), 0, 4 * len(text) + 1000)
-                record, why = solve(task, files, program, part, text)
-                file.seek(0)
-                file.truncate(file.write(record))
-                file.flush()
-                os.fsync(file.fileno())
-            if why:
-                yield f"part {part:07d}: {why}"
+            if part in parts:
+                why = solve_into(place / f"results/{part:07d}", mode, task, files, program, part, text)
+                if why:
+                    yield f"part {part:07d}: {without_folder(why)}"
 
 
 if __name__ == "__main__":
@@ -195,5 +249,5 @@ if __name__ == "__main__":
         sys.exit(f"solve.py needs Python 3.8 or later, and this is {sys.version.split()[0]}")
     try:
         sys.exit("\n".join(main(Path(__file__).resolve().parent, sys.argv[1:])) or 0)
-    except (OSError, ValueError) as why:
-        sys.exit(without_folder(f"solve.py {' '.join(sys.argv[1:])}: {why}"))
+    except (OSError, ValueError, MemoryError) as why:
+        sys.exit(without_folder(f"solve.py {' '.join(sys.argv[1:])}: {str(why) or 'out of memory'}"))
