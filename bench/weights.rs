@@ -3,9 +3,9 @@
 //!     rustc -Copt-level=3 -Ctarget-cpu=native -o weights bench/weights.rs
 //!     ./weights 800000 >crates/endgame_search/src/weights.rt
 //!
-//! It takes a position of each of so many games, in 10 minutes of one processor. All have 10 to 13 empty squares, and
-//! none is of the FFO endgame test. Their values are exact, by the search in bench/peer.rs. The weights are the least
-//! squares fit of what the rest of the evaluation lacks to them.
+//! It plays this number of games, in 10 minutes of one processor, and takes a position of each, with 10 to 13 empty
+//! squares; none is of the FFO endgame test. The search in bench/peer.rs finds their exact values. The weights are the
+//! least squares fit of the differences between these and the rest of the evaluation.
 #[allow(dead_code)]
 #[path = "peer.rs"]
 mod peer;
@@ -20,7 +20,7 @@ const COMMENT: &str = "
 // By the state of four squares of an edge, the corner first, and of the four beside them: the sum of
 // 3^i for a disc of the mover on square i, and of twice that for one of the opponent.
 ";
-const SHRINK: f64 = 8.0; // a weight is as if it were 0 in so many positions more
+const SHRINK: f64 = 8.0; // a weight is fitted as if it were 0 in this number of further positions
 
 /// A sequence of numbers (xorshift64*).
 struct Numbers(u64);
@@ -34,7 +34,7 @@ impl Numbers {
     }
 }
 
-/// Plays a game until so many squares are empty and the side to move has a move. The first 6 to 30 moves and the last
+/// Plays a game until `empties` squares are empty and the side to move has a move. The first 6 to 30 moves and the last
 /// ones are random; the others leave the opponent about the least mobility. None if the game ends before.
 fn position(numbers: &mut Numbers, empties: u32) -> Option<Pos> {
     let (first, last, noise) = (30 + numbers.below(25), empties + numbers.below(5), 16 * (1 + numbers.below(40)));
@@ -57,7 +57,7 @@ fn position(numbers: &mut Numbers, empties: u32) -> Option<Pos> {
     (p.empties() == empties).then_some(p)
 }
 
-/// The states of so many positions, and what their values are above the rest of the evaluation.
+/// The states of `number` positions, and by how much their values exceed the rest of the evaluation.
 fn rows(lot: u64, number: u32) -> Vec<([usize; 8], f64)> {
     let mut numbers = Numbers(0x9e37_79b9_7f4a_7c15_u64.wrapping_mul(2 * lot + 1));
     let table = Table::new(65_536, Scoring::Winner);

@@ -3,22 +3,25 @@ use crate::MOST_ENTRIES;
 use std::fmt;
 
 /// Defines errors. A row has a status of the library, the variant, the name of the number in it, and the text. This
-/// text is also the first paragraph of the variant's documentation.
+/// text is also the first paragraph of the variant's documentation. The row after `own` is this crate's own.
 macro_rules! refusals {
     ($($(#[$about:meta])* $name:ident {
         $($(#[$doc:meta])* $status:literal $variant:ident $({ $at:ident })?: $text:literal,)*
+        $(own $own:ident { $($field:ident),* }: $says:literal)?
     })*) => {$(
         $(#[$about])*
         #[derive(Clone, Copy, PartialEq, Eq, Debug)]
         #[non_exhaustive]
         pub enum $name {
             $(#[doc = $text] $(#[doc = ""] #[$doc])* $variant $({ $at: usize })?,)*
+            $(#[doc = $says] $own { $($field: usize),* },)?
             /// A status that this crate does not know: the library is newer.
             Other { status: i32 },
         }
 
         impl $name {
             /// `Err` with the error for a status and the number that the library wrote; `Ok` for status 0.
+            #[allow(unused_variables)] // no row of `Error` has a number
             pub(crate) fn of_status(status: i32, at: usize) -> Result<(), $name> {
                 match status {
                     0 => Ok(()),
@@ -32,6 +35,7 @@ macro_rules! refusals {
             fn fmt(&self, f: &mut fmt::Formatter<'_>) -> fmt::Result {
                 match self {
                     $($name::$variant $({ $at })? => write!(f, $text),)*
+                    $($name::$own { $($field),* } => write!(f, $says),)?
                     $name::Other { status } => write!(f, "refused with status {status}"),
                 }
             }
@@ -47,12 +51,12 @@ refusals! {
         1 UnknownScoring: "no scoring has the number",
         2 TooManyEntries: "more than {MOST_ENTRIES} table entries",
         4 SharedSquare: "the masks share a square",
-        /// The index in a list, counted from 0, of the first such position.
-        5 TooManyEmpties { index }: "position at index {index}: more empty squares than the solver takes",
         6 NoMove: "illegal move",
         /// There is no memory for the table; never with 0 entries.
         7 NoMemory: "out of memory",
         12 UnknownSymmetry: "no symmetry has the number",
+        own TooManyEmpties { index, empties, most }:
+            "position at index {index}: {empties} empty squares are more than max_empties={most} of the Solver"
     }
     /// Why a line holds no position; columns are counted from 1, in bytes.
     ObfError {

@@ -9,6 +9,17 @@ pub enum Side {
     White,
 }
 
+impl Side {
+    /// The other colour.
+    #[must_use]
+    pub const fn other(self) -> Side {
+        match self {
+            Side::Black => Side::White,
+            Side::White => Side::Black,
+        }
+    }
+}
+
 /// What a line lists with a score: a move, a pass, or the end of the game. It prints as `H1`, `PS` or `--`.
 #[derive(Clone, Copy, PartialEq, Eq, Hash, Debug)]
 pub enum Listed {
@@ -30,8 +41,8 @@ impl fmt::Display for Listed {
 /// What a line of OBF text says.
 #[derive(Clone, PartialEq, Eq, Hash, Debug)]
 pub struct Line {
-    /// The position; its mover is the side to move.
     pub position: Position,
+    /// The side to move, as the position has it.
     pub side: Side,
     /// The moves that the line lists, in their order, each with its score from -64 to 64. They may be illegal, and the
     /// scores wrong.
@@ -65,7 +76,8 @@ impl Line {
             (what, found.score as i8)
         });
         let raw::Position { own, opp } = line.position;
-        Ok(Line { position: Position { own, opp }, side, listed: listed.collect() })
+        let position = Position::new(own, opp).expect("a line has one disc on a square").with_side(side);
+        Ok(Line { position, side, listed: listed.collect() })
     }
 }
 

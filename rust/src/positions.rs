@@ -1,31 +1,45 @@
 //! A position, and the rules of the game.
-use crate::{raw, Error, Line, ObfError, Square, Squares, Symmetry};
+use crate::{raw, Error, Line, ObfError, Side, Square, Squares, Symmetry};
 use std::fmt;
+use std::hash::{Hash, Hasher};
 
-/// The discs of the mover, which is the side to move, and those of the other side. No square has both. `{:?}` prints
-/// `Position(LINE)`, with its OBF line.
-#[repr(C)] // laid out as `raw::Position`
-#[derive(Clone, Copy, PartialEq, Eq, Hash)]
+/// The discs of the mover, which is the side to move, and those of the other side. No square has both. A position knows
+/// the mover's colour, but equals one of the other colour with the same masks, since both have the same answer. `{:?}`
+/// prints `Position(LINE)`, with its OBF line.
+#[derive(Clone, Copy)]
 pub struct Position {
-    pub(crate) own: u64,
-    pub(crate) opp: u64,
+    own: u64,
+    opp: u64,
+    side: Side,
 }
 
 impl Position {
     /// The position with the masks of the mover's discs and of the other side's. A1 is bit 0 of a mask, and H8 bit 63.
+    /// Black is to move.
     ///
     /// # Errors
     /// `SharedSquare` if the masks share a bit.
     pub const fn new(own: u64, opp: u64) -> Result<Position, Error> {
         match own & opp {
-            0 => Ok(Position { own, opp }),
+            0 => Ok(Position { own, opp, side: Side::Black }),
             _ => Err(Error::SharedSquare),
         }
     }
 
     /// The position in which a game begins.
     pub const fn start() -> Position {
-        Position { own: 0x0000_0008_1000_0000, opp: 0x0000_0010_0800_0000 }
+        Position { own: 0x0000_0008_1000_0000, opp: 0x0000_0010_0800_0000, side: Side::Black }
+    }
+
+    /// The position with the same masks in which the mover has this colour.
+    #[must_use]
+    pub const fn with_side(self, side: Side) -> Position {
+        Position { side, ..self }
+    }
+
+    /// The colour of the side to move.
+    pub const fn side(self) -> Side {
+        self.side
     }
 
     /// The position of a line of OBF text, which is read or refused as by `Line::from_obf`.
@@ -33,14 +47,18 @@ impl Position {
         Ok(Line::from_obf(text)?.position)
     }
 
-    /// The position as an OBF line in which the mover has X: 64 squares, and ` X;`.
+    /// The position as an OBF line: 64 squares, and ` X;` if Black is to move, or ` O;`.
     pub fn to_obf(self) -> String {
+        let (own, opp) = match self.side {
+            Side::Black => ('X', 'O'),
+            Side::White => ('O', 'X'),
+        };
         let letter = |square: u32| match (self.own >> square & 1, self.opp >> square & 1) {
-            (1, _) => 'X',
-            (_, 1) => 'O',
+            (1, _) => own,
+            (_, 1) => opp,
             _ => '-',
         };
-        (0..64).map(letter).chain(" X;".chars()).collect()
+        (0..64).map(letter).chain([' ', own, ';']).collect()
     }
 
     /// The mover's discs.
@@ -61,7 +79,7 @@ impl Position {
     /// The position after a pass, in which the other side is to move.
     #[must_use]
     pub const fn passed(self) -> Position {
-        Position { own: self.opp, opp: self.own }
+        Position { own: self.opp, opp: self.own, side: self.side.other() }
     }
 
     /// The legal moves.
@@ -91,7 +109,7 @@ impl Position {
         let mut after = raw::Position::default();
         // SAFETY: the pointer is to a position of this call's own.
         match unsafe { raw::ffosolve_play(self.raw(), square.number(), &mut after) } {
-            0 => Position::new(after.own, after.opp),
+            0 => Ok(Position { own: after.own, opp: after.opp, side: self.side.other() }),
             _ => Err(Error::NoMove),
         }
     }
@@ -100,7 +118,7 @@ impl Position {
     /// best moves are its best moves.
     #[must_use]
     pub fn image(self, symmetry: Symmetry) -> Position {
-        Position { own: self.own().image(symmetry).0, opp: self.opp().image(symmetry).0 }
+        Position { own: self.own().image(symmetry).0, opp: self.opp().image(symmetry).0, side: self.side }
     }
 
     /// The canonical position, which is the same for all eight images of a position, and which books hold; and the
@@ -111,11 +129,25 @@ impl Position {
         // SAFETY: the pointers are to a position and a number of this call's own.
         let status = unsafe { raw::ffosolve_canonical(self.raw(), &mut canonical, &mut symmetry) };
         debug_assert_eq!(status, 0, "the masks of a position share no square");
-        (Position { own: canonical.own, opp: canonical.opp }, Symmetry::ALL[symmetry as usize])
+        (Position { own: canonical.own, opp: canonical.opp, ..self }, Symmetry::ALL[symmetry as usize])
     }
 
     pub(crate) const fn raw(self) -> raw::Position {
         raw::Position { own: self.own, opp: self.opp }
+    }
+}
+
+impl PartialEq for Position {
+    fn eq(&self, other: &Position) -> bool {
+        self.raw() == other.raw()
+    }
+}
+
+impl Eq for Position {}
+
+impl Hash for Position {
+    fn hash<H: Hasher>(&self, state: &mut H) {
+        self.raw().hash(state);
     }
 }
 

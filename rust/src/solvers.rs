@@ -87,7 +87,8 @@ pub fn library_version() -> u32 {
 /// Solves positions under a scoring. Each call searches with new tables, and keeps nothing.
 ///
 /// # Errors
-/// Each call tests for `TooManyEmpties`, `TooManyEntries` and `NoMemory`, in this order.
+/// Each call tests for `TooManyEmpties` (of the first such position, whose index is counted from 0), `TooManyEntries`
+/// and `NoMemory`, in this order.
 #[derive(Clone, Copy, PartialEq, Eq, Hash, Debug)]
 pub struct Solver {
     scoring: Scoring,
@@ -169,12 +170,12 @@ impl Solver {
         self.call_all(raw::ffosolve_move_scores_all, unset, read, positions)
     }
 
-    /// The entries of a table for positions, or the refusal of the first that has too many empty squares, or of so many
-    /// entries.
+    /// The entries of a table for positions, or the refusal of the first that has too many empty squares, or of too
+    /// large a table.
     fn entries_for(&self, positions: &[Position]) -> Result<usize, Error> {
-        let empties = || positions.iter().map(|position| position.empties().len());
-        match empties().position(|count| count > self.max_empties) {
-            Some(index) => Err(Error::TooManyEmpties { index }),
+        let (empties, most) = (|| positions.iter().map(|position| position.empties().len()), self.max_empties);
+        match empties().enumerate().find(|(_, count)| *count > most) {
+            Some((index, empties)) => Err(Error::TooManyEmpties { index, empties, most }),
             None if self.entries > Some(MOST_ENTRIES) => Err(Error::TooManyEntries),
             None => Ok(self.entries.unwrap_or_else(|| table_entries(empties().max().unwrap_or(0)))),
         }
@@ -195,8 +196,9 @@ impl Solver {
         let mut parts: Vec<_> = parts.map(|part| (part, vec![unset; part.len()])).collect();
         let solve = |(part, found): &mut (&[Position], Vec<R>)| {
             let (entries, mut at, count) = (self.entries_for(part)?, 0, part.len());
-            let (scoring, from) = (self.scoring as u32, part.as_ptr().cast());
-            // SAFETY: both lists have `count` elements, positions are laid out as in C, and `found` is this call's own.
+            let masks: Vec<_> = part.iter().map(|position| position.raw()).collect();
+            let (scoring, from) = (self.scoring as u32, masks.as_ptr());
+            // SAFETY: both lists have `count` elements, and are this call's own.
             let status = unsafe { call(from, count, scoring, entries, found.as_mut_ptr(), count, &mut at) };
             Error::of_status(status, at)
         };

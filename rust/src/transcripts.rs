@@ -18,39 +18,83 @@ impl fmt::Display for TranscriptError {
 
 impl std::error::Error for TranscriptError {}
 
-/// The squares and passes of a transcript, in small letters, and other text in words of one or two characters.
-fn words_of(transcript: &str) -> Vec<String> {
-    let is_digit = |c: char| c.is_ascii_digit();
-    let text = transcript.split('%').next().unwrap_or("").to_ascii_lowercase();
-    let mut text = text.trim_start();
+/// What follows a move's number.
+const POINTS: [char; 3] = ['.', ')', ':'];
+
+fn is_blank(letter: char) -> bool {
+    letter.is_whitespace() || ('\u{1c}'..='\u{1f}').contains(&letter)
+}
+
+fn is_separator(letter: char) -> bool {
+    is_blank(letter) || letter == ','
+}
+
+/// A transcript in small letters, without headers in brackets before the moves, and without a comment. Dashes become
+/// hyphens.
+fn plain(transcript: &str) -> String {
+    let mut text = transcript.trim_start_matches(is_blank);
     while let Some((_, after)) = text.strip_prefix('[').and_then(|header| header.split_once(']')) {
-        text = after.trim_start();
+        text = after.trim_start_matches(is_blank);
     }
-    let mut parts: Vec<&str> = text.split([' ', '\t', '\r', '\n', ',']).collect();
-    parts.retain(|part| !part.is_empty());
-    if parts.last().map_or(false, |last| last.contains(is_digit) && !last.contains(char::is_alphabetic)) {
-        parts.pop(); // a result
+    let text = text.split('%').next().unwrap_or("").to_lowercase();
+    text.replace(['\u{2010}', '\u{2011}', '\u{2012}', '\u{2013}', '\u{2014}', '\u{2212}'], "-")
+}
+
+/// Whether a word is the result of a game, such as `33-31`, `(40:24)`, `1/2-1/2`, `+2` or `*`.
+fn is_result(word: &str) -> bool {
+    let is_number = |text: &str| (1..=2).contains(&text.len()) && text.bytes().all(|letter| letter.is_ascii_digit());
+    let word = word.strip_prefix(['(', '[']).unwrap_or(word);
+    let word = word.strip_suffix('.').unwrap_or(word);
+    let word = word.strip_suffix([')', ']']).unwrap_or(word);
+    let of_both = word.split_once(['-', ':']).map_or(false, |(one, other)| is_number(one) && is_number(other));
+    of_both || word == "1/2-1/2" || word == "*" || is_number(word.strip_prefix(['+', '-']).unwrap_or(word))
+}
+
+/// The length of what a text begins with, and whether that is a word for `words_of`. `is_apart` says whether a blank, a
+/// comma or nothing precedes the text.
+fn token(text: &str, is_apart: bool) -> (usize, bool) {
+    let length_before = |rest: &str| text.len() - rest.len();
+    let is_column = |letter: char| ('a'..='h').contains(&letter);
+    let row = text.strip_prefix(is_column).map_or("", |rest| rest.trim_start_matches(is_blank));
+    let hyphens = length_before(text.trim_start_matches('-'));
+    let digits = text.bytes().take(5).take_while(u8::is_ascii_digit).count();
+    let is_number = (1..=4).contains(&digits);
+    let after = &text[digits..];
+    let point = after.trim_start_matches(is_blank);
+    if row.starts_with(|digit| ('1'..='8').contains(&digit)) {
+        (length_before(row) + 1, true)
+    } else if text.starts_with("pass") {
+        (4, true)
+    } else if hyphens > 0 {
+        (hyphens, hyphens > 1)
+    } else if text.starts_with(is_separator) {
+        (length_before(text.trim_start_matches(is_separator)), false)
+    } else if is_number && point.starts_with(POINTS) {
+        (length_before(point.trim_start_matches(POINTS)), false)
+    } else if is_number && is_apart && after.chars().next().map_or(true, |next| is_separator(next) || is_column(next)) {
+        (digits, false)
+    } else {
+        (text.chars().take(2).take_while(|letter| !is_separator(*letter)).map(char::len_utf8).sum(), true)
     }
-    let mut words = Vec::new();
-    for part in parts {
-        let mut rest = part.trim_start_matches(is_digit);
-        while !rest.is_empty() {
-            let numbered = rest.split_once(['.', ')', ':']).filter(|(number, _)| number.chars().all(is_digit));
-            if let Some((_, after)) = numbered {
-                rest = after;
-                continue;
-            }
-            let length = match rest.len() - rest.trim_start_matches('-').len() {
-                0 if rest.starts_with("pass") => 4,
-                0 => rest.chars().take(2).map(char::len_utf8).sum(),
-                hyphens => hyphens,
-            };
-            let (word, after) = rest.split_at(length);
-            words.push(word.to_owned());
-            rest = after;
+}
+
+/// The words of a transcript, in small letters: squares without blanks inside, passes (several hyphens become `--`) and
+/// other text in words of one or two characters.
+fn words_of(transcript: &str) -> Vec<String> {
+    let text = plain(transcript);
+    let text = text.trim_end_matches(is_separator);
+    let result = text.rsplit(is_separator).next().filter(|last| is_result(last));
+    let (mut words, mut rest, mut is_apart) = (Vec::new(), text, true);
+    while !rest.is_empty() && !(is_apart && Some(rest) == result) {
+        let (length, is_word) = token(rest, is_apart);
+        let (word, after) = rest.split_at(length);
+        if is_word {
+            let word = if word.starts_with("--") { "--" } else { word };
+            words.push(word.chars().filter(|letter| !is_blank(*letter)).collect());
         }
+        is_apart = word.ends_with(is_separator);
+        rest = after;
     }
-    words.retain(|word| word != "-");
     words
 }
 
@@ -58,9 +102,9 @@ impl Position {
     /// The positions of a game that goes on from here: this position, and the one after each move of a transcript such
     /// as `f5d6c3`, but none after a pass.
     ///
-    /// Between moves may be blanks, commas, a hyphen, and numbers such as `1.`; at the beginning, headers in brackets
-    /// such as `[Black "Ann"]`; at the end, a result such as `33-31`. A pass is `--`, `ps`, `pa` or `pass`, and may be
-    /// left out. A `%` begins a comment. Games in GGF are not read.
+    /// Between moves may be blanks, commas, a hyphen or dash, and numbers such as `1.`; at the beginning, headers in
+    /// brackets such as `[Black "Ann"]`; at the end, a result such as `33-31` or, for an open one, `*`. A pass is `--`,
+    /// `ps`, `pa` or `pass`, and may be left out. A `%` begins a comment. Games in GGF are not read.
     ///
     /// # Errors
     /// The first word that is no legal move.
@@ -80,7 +124,7 @@ impl Position {
             if at.must_pass() {
                 at = at.passed();
             }
-            if may_pass && (matches!(&word[..], "pass" | "ps" | "pa") || word.starts_with("--")) {
+            if may_pass && matches!(&word[..], "pass" | "ps" | "pa" | "--") {
                 continue;
             }
             let after = word.parse().ok().and_then(|square: Square| at.play(square).ok());

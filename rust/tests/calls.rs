@@ -83,6 +83,19 @@ fn many_positions_have_the_answers_and_scores_of_each() {
 }
 
 #[test]
+fn the_mover_has_a_colour_that_no_comparison_sees() {
+    let at = Position::start().play_all("f5d6c3").expect("legal moves");
+    assert_eq!(at.to_obf(), "------------------X--------XX------OXX-----O-------------------- O;");
+    let line: Line = at.to_obf().parse().expect("a line");
+    let image = at.image(Symmetry::HalfTurn);
+    for position in [at, line.position, image, at.canonical().0, at.with_side(Side::Black).passed()] {
+        assert_eq!((position.side(), position.passed().side()), (Side::White, Side::Black));
+    }
+    assert_eq!((at, line.side), (at.with_side(Side::Black), Side::White));
+    assert_eq!(HashSet::from([at, at.with_side(Side::Black)]).len(), 1);
+}
+
+#[test]
 fn transcripts_are_played() {
     let (positions, moves) = first_game();
     let (start, last) = (Position::start(), positions[positions.len() - 1]);
@@ -155,24 +168,27 @@ fn masks_that_share_a_square_many_empty_squares_and_large_tables_are_refused() {
     assert_eq!(solver, solver.max_empties(DEFAULT_EMPTIES));
     assert_eq!(solver.max_empties(99), solver.max_empties(MOST_EMPTIES));
     let [of_20, of_21, of_60, of_61] = [20, 21, 60, 61].map(|empties| position(1, !1 << empties));
-    let many_empties = Err(Error::TooManyEmpties { index: 0 });
+    let many_empties = |empties, most| Err(Error::TooManyEmpties { index: 0, empties, most });
     for (solver, position, wanted) in [
         (solver, of_20, Ok(())),
-        (solver, of_21, many_empties),
+        (solver, of_21, many_empties(21, 20)),
         (solver.max_empties(21), of_21, Ok(())),
         (solver.max_empties(99), of_60, Ok(())),
-        (solver.max_empties(99), of_61, many_empties),
+        (solver.max_empties(99), of_61, many_empties(61, 60)),
         (solver.entries(MOST_ENTRIES), corners(), Ok(())),
         (large, corners(), Err(Error::TooManyEntries)),
-        (large, of_21, many_empties),
+        (large, of_21, many_empties(21, 20)),
     ] {
         assert_eq!(solver.solve(position).map(drop), wanted);
         assert_eq!(solver.confirm(position, ANSWER).map(drop), wanted);
         assert_eq!(solver.move_scores(position).map(drop), wanted);
     }
     let many = [vec![corners(); 300], vec![of_21; 2]].concat();
+    let refusal = Error::TooManyEmpties { index: 300, empties: 21, most: 20 };
+    let text = "position at index 300: 21 empty squares are more than max_empties=20 of the Solver";
+    assert_eq!(refusal.to_string(), text);
     for threads in [1, 2] {
-        assert_eq!(solver.threads(threads).solve_all(&many), Err(Error::TooManyEmpties { index: 300 }));
+        assert_eq!(solver.threads(threads).solve_all(&many), Err(refusal));
         for few in [&many[..0], &many[..300]] {
             assert_eq!(large.threads(threads).solve_all(few), Err(Error::TooManyEntries));
         }
@@ -184,8 +200,10 @@ fn positions_have_discs_and_sets_have_squares() {
     let two = position(1, 2);
     assert_eq!([two.own(), two.opp(), two.empties()], [Squares(1), Squares(2), Squares(!3)]);
     assert_eq!(two.passed(), position(2, 1));
-    let text = format!("XO{} X;", "-".repeat(62));
-    assert_eq!((two.to_obf(), format!("{two:?}")), (text.clone(), format!("Position({text})")));
+    for (at, discs, side) in [(two, "XO", "X"), (two.passed(), "XO", "O"), (two.with_side(Side::White), "OX", "O")] {
+        let text = format!("{discs}{} {side};", "-".repeat(62));
+        assert_eq!((at.to_obf(), format!("{at:?}")), (text.clone(), format!("Position({text})")));
+    }
     for (mask, len, text) in [(0x81, 2, "A1,H1"), (2, 1, "B1"), (0, 0, "")] {
         let set = Squares(mask);
         assert_eq!((set.mask(), set.len(), set.size_hint(), set.is_empty()), (mask, len, (len, Some(len)), len == 0));
@@ -252,4 +270,5 @@ fn versions_sizes_and_limits_are_those_of_the_header() {
     // SAFETY: the call takes a number.
     let limits = [0, 1, 2].map(|number| unsafe { raw::ffosolve_limit(number) });
     assert_eq!(limits, [MOST_ENTRIES, MOST_EMPTIES, 3]);
+    assert_eq!(Error::TooManyEntries.to_string(), format!("more than {} table entries", limits[0]));
 }
