@@ -12,16 +12,23 @@ from pathlib import Path
 import psutil
 import pytest
 
-pytest.register_assert_rewrite("tests.support", "tests.games", "tests.many")
+pytest_plugins = ["tests.support", "tests.games", "tests.many", "tests.prefix"]  # fixtures, and what else tests share
 
 ROOT = Path(__file__).parent
 PR_SET_CHILD_SUBREAPER = 36  # of prctl(2)
 
 
-def pytest_configure():
+def pytest_configure(config):
     """Makes this process the parent of programs whose parent ends. What would have to be proved is refused by
-    scripts/prove. The package for Python calls the library of the checkout. Variables of a git hook go, new files have
-    the usual modes, and the signals below interrupt the tests and end programs, as at a login."""
+    scripts/prove. The package for Python calls the library of the checkout, and scripts run with the Python of the
+    tests. Variables of a git hook go, new files have the usual modes, and the signals below interrupt the tests and end
+    programs, as at a login."""
+    if not hasattr(config, "workerinput"):  # workers have the variables of the first process
+        python = ROOT / "out/tests/python3"
+        python.parent.mkdir(parents=True, exist_ok=True)
+        python.write_text(f'#!/bin/sh\nexec "{sys.executable}" "$@"\n')
+        python.chmod(0o755)
+        os.environ["PATH"] = f"{python.parent}:{os.environ['PATH']}"
     os.environ["PROVE"] = "no"
     os.environ.setdefault("FFOSOLVE_LIBRARY", str(ROOT / "out/library/libffosolve.so"))
     for name in [name for name in os.environ if name.startswith("GIT_")]:

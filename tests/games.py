@@ -8,7 +8,7 @@ import struct
 import sys
 
 from bench import player
-from tests.support import ROOT, run, write
+from tests.support import ROOT, run, stored, write
 from ffosolve import Position
 
 PROGRAM = ROOT / "bin/ffosolve-games"
@@ -68,6 +68,20 @@ def squares_of(game):
 
 def transcript(game):
     return "".join(NAMES[square].lower() for square in game if square is not None)
+
+
+def transcript_rows():
+    """Returns the rows of the table tests/rows/transcripts.tsv. Each has a list of the squares that are played, then
+    the word that is refused, or "", and the transcript."""
+    rows = stored("tests/rows/transcripts.tsv").decode().removesuffix("\n").split("\n")[1:]
+    cells = (row.split("\t", 2) for row in rows)
+    return [(moves.split(), word, text) for moves, word, text in cells]
+
+
+def masks_after(moves):
+    """Returns the masks (own, opp) of the position after moves, given by the names of their squares."""
+    positions = positions_of([NAMES.index(move) for move in moves])
+    return positions[min(positions)][:2]
 
 
 def record(game, theoretical=33, real=None):

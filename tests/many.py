@@ -120,7 +120,7 @@ class Case:
         """Calls `many`. Asserts that no file changes, and that the error is one line, with advice if `status` is 2."""
         before = files()
         (line,) = self.many(*words, status=status, message=message, **how).splitlines()
-        advice = "(Try 'ffosolve-many --help'|use |name |merged)" if status == 2 else ""
+        advice = "(Try 'ffosolve-many --help'|For more information, try|use |name |merged)" if status == 2 else ""
         assert re.search(f"^ffosolve-many: .*{advice}", line)
         assert files() == before
 

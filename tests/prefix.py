@@ -1,8 +1,10 @@
-"""The library and its packages as users have them, installed under a prefix, and copies of the built checkout."""
+"""The library and its packages as users have them, installed under a prefix, copies of the built checkout, and what
+documents show."""
 import functools
 import os
 import re
 import shutil
+import subprocess
 import sys
 from pathlib import Path
 
@@ -20,6 +22,23 @@ C = ["cc", "-std=c11", *STRICT, "-O1"]
 CXX = ["c++", "-std=c++11", *STRICT, "-O1", "-x", "c++"]
 PIP = [sys.executable, *"-m pip --disable-pip-version-check install --quiet --no-index --no-build-isolation".split()]
 LONGEST = 300  # seconds that a command may take, since compilers and solvers are slow on a busy machine
+END = "\x01end\x01"
+# For each line of the file `asked`, shows all completions, and appends what the line is with the first one to the file
+# `completed`.
+ZSHRC = """
+autoload -Uz compinit; compinit -u -d $ZDOTDIR/dump
+zle-line-init() {
+    COLUMNS=2000
+    for line in ${(f)"$(<$ZDOTDIR/asked)"}; do
+        BUFFER=$line CURSOR=$#line
+        zle list-choices
+        zle menu-complete
+        print -r -- $BUFFER >>$ZDOTDIR/completed
+    done
+    exit
+}
+zle -N zle-line-init
+"""
 
 
 def names_of_files():
@@ -54,6 +73,44 @@ def path_without(tool, folder):
         for command in set(Path(place).glob("*")) - {Path(place, tool)}:
             (links / command.name).symlink_to(command)
     return ":".join(map(str, places))
+
+
+def blocks_of(text, language):
+    """Returns the lines of all blocks of code in `language`."""
+    return "".join(re.findall(rf"^```{language}\n(.*?)^```$", text, re.M | re.S))
+
+
+def stripped(text):
+    """Returns a list of a text's lines without blanks and CR at their ends, since documents don't show these."""
+    return [line.rstrip() for line in text.splitlines()]
+
+
+def print_what_is_shown(text, **how):
+    """Asserts that the commands in blocks `console` of a document print what it shows. A command begins with `$ `, and
+    its continuation lines with `> `. Below, the block shows what it prints on standard output and standard error. One
+    shell runs all commands, without input, and prints END after each. `how` is as for `run`."""
+    found = re.findall(r"^\$ (.*\n(?:> .*\n)*)((?:(?!\$ ).*\n)*)", blocks_of(text, "console"), re.M)
+    commands = [command.replace("\n> ", "\n") for command, _ in found]
+    end = f"}} </dev/null; status=$?; echo; echo '{END}'; (exit $status)\n"
+    words = ("timeout", 800, "bash", "-c", "".join(f"{{ {command}{end}" for command in commands))
+    ran = run(*words, timeout=860, stderr=subprocess.STDOUT, text=True, errors="replace", **how)
+    printed = ran.stdout.split(f"\n{END}\n")  # the last one comes after the last END
+    assert len(printed) == len(commands) + 1, f"the shell hung at: {commands[len(printed) - 1:][:1]}"
+    for command, (_, shown), output in zip(commands, found, printed):
+        assert stripped(output) == stripped(shown), command
+
+
+def completed_by_zsh(lines, before="", start=run):
+    """Returns what each of `lines` is with the first completion that zsh offers, if any, and what zsh shows. It runs
+    the line `before` on a terminal, since only its line editor completes words. `start` runs a command."""
+    own = Path(".zsh").absolute()
+    shutil.rmtree(own, ignore_errors=True)
+    write(own / "asked", "\n".join(lines))
+    write(own / ".zshrc", before + ZSHRC)
+    variables = ("PATH=/usr/bin:/bin", f"ZDOTDIR={own}", "TERM=dumb")
+    ran = start("env", "-i", *variables, "script", "-qec", "zsh -i", "/dev/null", text=True, timeout=LONGEST)
+    assert ran.returncode == 0
+    return [line.strip() for line in (own / "completed").read_text().splitlines()], ran.stdout
 
 
 class Prefix:
@@ -145,7 +202,7 @@ class Prefix:
 PREFIX = Prefix()
 
 
-@pytest.fixture(scope="module", autouse=True)
+@pytest.fixture(scope="module")
 def installed(shared_folder):
-    """Installs for the tests of each module that imports this."""
+    """Installs for the tests of a module, which use PREFIX."""
     PREFIX.install(shared_folder)

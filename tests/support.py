@@ -5,6 +5,7 @@ import resource
 import shutil
 import signal
 import subprocess
+import tempfile
 import time
 from pathlib import Path
 
@@ -165,3 +166,21 @@ def preload(folder, **variables):
         need("cc")
         run("cc", "-shared", "-fPIC", "-O1", "-o", library, ROOT / "tests/preload.c", "-ldl", check=True)
     return {**os.environ, "LD_PRELOAD": str(library), **variables}
+
+
+def outcome(*words, **how):
+    """Runs a program in a new folder. Returns (status, output, errors, {name: content} of the files that it left)."""
+    with tempfile.TemporaryDirectory() as folder:
+        ran = run(*words, cwd=folder, **how)
+        return ran.returncode, ran.stdout, ran.stderr, {path.name: path.read_bytes() for path in Path(folder).iterdir()}
+
+
+def outcomes(*words, **how):
+    """Runs a program again and again; in run n, the nth request for memory is refused. Returns a list of what `outcome`
+    returns for each run. The last run is the first one without a refused request."""
+    found, is_refused = [], True
+    while is_refused:
+        *ran, files = outcome(*words, env=preload(Path.cwd(), REFUSED=str(len(found) + 1)), **how)
+        is_refused = files.pop("refused", None) is not None
+        found.append((*ran, files))
+    return found

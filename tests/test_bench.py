@@ -1,24 +1,63 @@
 """The programs in bench/: their usage, and weights of the search; results of the FFO endgame test in docs/ffo.md."""
+import collections
 import hashlib
+import itertools
+import os
 import re
+import runpy
+import subprocess
+import sys
+from types import SimpleNamespace
+
+import pytest
 
 from tests.support import ROOT, need, run, stored
 
 
 def test_the_document_has_every_published_score_and_move():
-    page, lines = (stored(name).decode() for name in ("docs/ffo.md", "examples/ffo-40-51.obf"))
+    page, lines = (stored(name).decode() for name in ("docs/ffo.md", "examples/ffo-40-58.obf"))
     published = re.findall(r" [XO]; (.*); % (\d+)$", lines, re.M)
-    assert len(published) == 12
+    assert len(published) == 15
     for listed, number in published:
-        _, score, moves, verdict, *_ = re.search(rf"^\| {number} \| (.*)$", page, re.M)[1].split(" | ")
+        _, score, moves, *_ = re.search(rf"^\| {number} \| (.*)$", page, re.M)[1].split(" | ")
         claims = [claim.split(":") for claim in listed.split("; ")]
-        assert ({claim for _, claim in claims}, verdict) == ({score}, "agree")
+        assert {claim for _, claim in claims} == {score}
         assert {move for move, _ in claims} <= {*moves.split(", ")}
 
 
 def test_the_benchmark_prints_its_usage():
     ran = run(ROOT / "bench/run", "x", text=True)
     assert (ran.returncode, ran.stdout, "    bench/run counts " in ran.stderr) == (1, "", True)
+
+
+@pytest.mark.parametrize("words, of_ffosolve, row", (
+    ("3 x86-64-v3", (3, 2, 4), r"FFO 40, 0 entries \| x86-64-v3 \| 2.00 s \| 8.00 s \| 0.25"),
+    ("tables 18 18", (0.6, 0.9, 0.5, 0.4, 0.7), "18" + r" \| 0.2 s" * 6),
+))
+def test_the_least_times_count_and_a_ratio_is_proved_by_plain(monkeypatch, capsys, words, of_ffosolve, row):
+    """Nothing is run: the processor seconds are made up. Each list takes ffosolve those of `of_ffosolve` in turn, the
+    empty list 0.2, and the same search in plain Rust takes 9, 8 and 11."""
+    started, taken = [], collections.defaultdict(lambda: itertools.cycle(of_ffosolve))
+
+    def begin(words, **how):
+        started.append(words)
+        if "peer" in words[0]:
+            taken.setdefault(tuple(words), itertools.cycle((9, 8, 11)))
+        elif not os.path.getsize(words[-1]):
+            taken.setdefault(tuple(words), itertools.repeat(0.2))
+        return SimpleNamespace(pid=len(started) - 1, args=words)
+
+    def wait(pid, options):
+        seconds = next(taken[tuple(started[pid])])
+        return pid, 0, SimpleNamespace(ru_utime=seconds / 4, ru_stime=seconds * 3 / 4)
+
+    for place, name, act in ((subprocess, "Popen", begin), (subprocess, "run", lambda *words, **how: None),
+                             (os, "wait4", wait), (sys, "argv", ["bench/run", *words.split()]),
+                             (sys, "dont_write_bytecode", True)):
+        monkeypatch.setattr(place, name, act)
+    monkeypatch.syspath_prepend(ROOT / "bench")
+    runpy.run_path(str(ROOT / "bench/run"))
+    assert re.search(rf"(?m)^\| {row} \|$", capsys.readouterr().out)
 
 
 def test_a_small_run_of_bench_weights_prints_the_same_file_as_ever(folder):

@@ -10,7 +10,8 @@ from unittest import mock
 import pytest
 
 from tests.prefix import LEVELS, path_without
-from tests.support import NOBODY, ROOT, SECONDS, is_v3, need, processes_in, run, unshared, wait_until, write
+from tests.support import (
+    NOBODY, ROOT, SECONDS, is_v3, need, processes_in, run, stored, unshared, wait_until, write)
 
 # A fake rt. Writes its arguments, descriptors and standard input to files, and runs the shell code $ACTS. The program
 # that it builds prints what it was made of, its words, its folder and its input.
@@ -24,6 +25,7 @@ cat >>"$STARTS.read"
 echo start "$@" >>"$STARTS"
 printf '%s\n' 'rt: chose --jobs 4 for othello_rules' 'so far: 34 of 83 functions checked; the verdict comes last'
 eval "${ACTS:-}"
+echo 'rt: chose --jobs 4 for ffosolve'
 mkdir -p out
 [ "$1" != lib ] || exec cp "$KIT_FOLDER/libffosolve_c.a" out
 [ "$1" != test ] || exec touch out/crate_tests_tests
@@ -44,6 +46,11 @@ SPOIL = "echo 'rt: the kept work of ffosolve cannot be used: remove it'; exit 1\
 # A fake linker and assembler: copies its first input to its output.
 COPY = '#!/bin/sh\nwhile [ "$1" != -o ]; do shift; done\ncp "$3" "$2" && chmod +x "$2"\n'
 LEVEL = LEVELS[is_v3()]
+# What make says if the command `false` is to be the Python for the tests.
+MODULES = ("psutil", "pytest", "pytest-timeout", "pytest-xdist")
+INSTALL = f"apt-get install {' '.join(f'python3-{name}' for name in MODULES)}\n"
+NO_MODULES = "".join(f"false has no {name}; Debian's package python3-{name} has it for /usr/bin/python3\n"
+                     for name in MODULES)
 HOW = {"text": True, "cwd": "/"}
 
 
@@ -98,7 +105,7 @@ class Checkout:
         true, and types `keys`. Returns (output, status)."""
         how = {**HOW, "stdin": subprocess.PIPE, "env": {**os.environ, "ACTS": WAIT}}
         ran = self.start("script", "-qec", f"exec '{self.script}' w", "/dev/null", **how)
-        output = "".join(iter(ran.stdout.readline, "ffosolve: 0 min, crate 1 of 2, othello_rules\n"))
+        output = "".join(iter(ran.stdout.readline, "ffosolve: 0 min, 0 of 2 crates proved, now othello_rules\n"))
         go and Path("starts.go").touch()
         return output + ran.communicate(keys, timeout=SECONDS)[0], ran.returncode
 
@@ -123,7 +130,8 @@ def test_the_first_use_of_each_program_builds_it_and_later_ones_only_run_it(fold
     """Runs ffosolve by its path, ffosolve and ffoscores through symlinks, and `sh ffosolve` in the folder bin/."""
     printed = checkout.started(checkout.use("one", "a b"), 1, "<one><a b>", builds=1)
     assert all(line.startswith("ffosolve: ") for line in printed.splitlines()), printed
-    for words in ("minutes", "GB", str(checkout.log), "ffosolve: 0 min, crate 1 of 2, othello_rules\n"):
+    for words in ("minutes", "GB", str(checkout.log), "ffosolve: 0 min, 0 of 2 crates proved, now othello_rules\n"
+                  "ffosolve: 0 min, 1 of 2 crates proved, now ffosolve\n"):
         assert printed.count(words) == 1, printed
     assert not ("34 of 83" in printed or "\r" in printed), printed
     assert "functions checked" in checkout.log.read_text()
@@ -227,22 +235,29 @@ def test_a_missing_tool_is_reported_and_so_is_another_kit_which_is_tried(folder,
     assert "make" in ran.stderr
     no_rt = "rt (rattle-kit-13b or rattle-kit-13f) is not on the path"
     no_ld = "ld is missing; Debian's package binutils has it\n"
-    no_module = "false has no module {}; Debian's package {} has it for PYTHON=/usr/bin/python3\n"
-    install = "apt-get install binutils python3-psutil python3-pytest python3-pytest-xdist python3-pytest-timeout\n"
-    modules = zip(("psutil", "pytest", "xdist", "pytest_timeout"), install.split()[3:])
-    no_tools = "".join((no_ld, *(no_module.format(*names) for names in modules), install))
     without_ld = f"PATH={checkout.tools}:{path_without('ld', folder)}"
     for error, *words in (*((no_rt, target, "PATH=/usr/bin:/bin") for target in ("look", "check", "all")),
-                          (no_tools, "check", "PYTHON=false", without_ld),
+                          (f"{no_ld}{NO_MODULES}{INSTALL.replace('install', 'install binutils')}", "check",
+                           "PYTHON=false", without_ld),
                           (f"{no_ld}apt-get install binutils\n", "all", "PYTHON=false", without_ld)):
         ran = checkout.make(*words)
         assert (ran.returncode, ran.stdout) == (2, ""), ran
         assert ran.stderr.startswith(error), ran
+    assert {*INSTALL.split()} <= {*stored("README.md").decode().split()}
     assert checkout.builds() == 0
     for builds, kit in enumerate(("rattle-kit-13b", "rattle-kit-13f", "rattle-kit-14a", "rattle-kit-13"), 1):
         printed = checkout.after(f"echo {builds} >src/main.rt", builds, builds, KIT=kit)
         warning = f"rt is {kit} logic 0123; this checkout was proved with rattle-kit-13b and 13f; trying anyway"
         assert (f"ffosolve: {warning}\n" in printed) == (builds > 2), printed
+
+
+@pytest.mark.parametrize("status, given, wanted", (
+    (0, {}, "python3"), (1, {}, "/usr/bin/python3"), (0, {"PYTHON": "another"}, "another")))
+def test_the_python_of_tests_is_the_first_that_has_their_modules(checkout, status, given, wanted):
+    """Asked whether it has the modules, the python3 that is first on the path ends with `status`."""
+    write(checkout.tools / "python3", f"#!/bin/sh\nexit {status}\n")
+    ran = run("make", "-C", checkout.root, "-n", "check", env={**os.environ, **given}, **HOW)
+    assert re.findall(r"^exec env .* (\S+) -m pytest ", ran.stdout, re.M) == [wanted], ran
 
 
 def test_a_failed_build_reports_its_first_error_and_runs_no_older_program(checkout):
@@ -348,7 +363,7 @@ def test_each_level_is_proved_once_and_a_new_version_only_links_the_library_agai
         run("ar", "rcs", checkout.kit / name, "one.o", check=True)
     for level in LEVELS:
         ran = checkout.make(f"CPU={level}")
-        assert (ran.returncode, ran.stderr.count(": 0 min, crate 1 of 2, othello_rules\n")) == (0, 3), ran
+        assert (ran.returncode, ran.stderr.count(": 0 min, 0 of 2 crates proved, now othello_rules\n")) == (0, 3), ran
         assert f"start run --cpu={level}\nstart lib --cpu={level}\n" in checkout.starts.read_text()
     python = write(checkout.tools / "python", '#!/bin/sh\n[ "$1" = -c ] || echo "$2" "<$MAKEFLAGS$MFLAGS$MAKELEVEL>"\n')
     assert checkout.make("-j9", "check", f"PYTHON={python}").stdout == "pytest <>\n"
@@ -374,14 +389,14 @@ def test_each_level_is_proved_once_and_a_new_version_only_links_the_library_agai
 
 
 def test_look_prints_the_report_and_that_nothing_is_proved_or_why_there_is_no_report(folder, checkout):
-    write(checkout.root / "crates/ffosolve/stdin", "")
     ended = "echo 'checked: ended status=3' >&2\necho 'run=ended status=3' >&2\nexit 3\n"
     write(checkout.rt, f'#!/bin/sh\nshift\necho "$@" >"$STARTS"\necho report\n{ended}')
     positions = write(folder / "a list", "")
-    for words, given in ((), ""), ((f"LIST={positions}",), f"--data list.obf={positions} -- list.obf"):
+    first = write(checkout.root / "examples/first.obf", "")
+    for words, list_ in ((), first), ((f"LIST={positions}",), positions):
         said = checkout.make("look", *words).stdout
         assert said == "report\nnothing is proved yet: bin/ffosolve proves the program, and then runs it\n"
-        assert checkout.starts.read_text() == f"{given}\n"
+        assert checkout.starts.read_text() == f"--data list.obf={list_} -- list.obf\n"
     assert "no such list" in checkout.make("look", "LIST=no such list").stderr
     write(checkout.rt, "#!/bin/sh\necho 'rt: no answer' >&2\nexit 6\n")
     ran = checkout.make("look")

@@ -2,6 +2,7 @@
 import email
 import inspect
 import os
+import random
 import re
 import shlex
 import shutil
@@ -12,9 +13,11 @@ import zipfile
 import pytest
 
 import ffosolve
-from tests.prefix import CXX, PIP, PREFIX, VERSION, C, installed  # noqa: F401 - a fixture
-from tests.support import ROOT, built, lack, need, preload, run, stored
+from tests.games import NAMES, masks_after, random_games, squares_of, transcript_rows
+from tests.prefix import CXX, PIP, PREFIX, VERSION, C
+from tests.support import ROOT, built, ends, lack, need, preload, run, stored
 
+pytestmark = pytest.mark.usefixtures("installed")
 PAGE = "docs/check-evaluation.md"  # its program reads a list of positions, and their scores
 SMALL, LARGE = 9, 10  # how many positions of examples/masks.txt an example solves; only the last has 20 empty squares
 CMAKE = """cmake_minimum_required(VERSION 3.16)
@@ -56,6 +59,20 @@ fn main() {
         solver.threads(2).solve_all(&[many, few, few]).expect("answers");
         let parts = [vec![few, many], vec![few; 8], vec![many; 3]].concat();
         assert_eq!(solver.threads(2).solve_all(&parts), Err(Error::NoMemory));
+    }
+}
+"""
+
+# Reads transcripts, each before a NUL byte. Prints the masks of the last position, or the number and the word of the
+# refused move.
+PLAYED_IN_RUST = """use std::io::{stdin, BufRead};
+fn main() {
+    for text in stdin().lock().split(0) {
+        let text = String::from_utf8(text.expect("a text")).expect("UTF-8");
+        match ffosolve::Position::start().positions(&text) {
+            Ok(positions) => positions.last().map_or((), |last| println!("{} {}", last.own().0, last.opp().0)),
+            Err(error) => println!("{} {}", error.number, error.word),
+        }
     }
 }
 """
@@ -126,6 +143,18 @@ def test_examples_in_c_and_cxx_are_built_by_cmake():
     assert VERSION in ran.stderr
 
 
+@pytest.mark.parametrize("compiler", [C, CXX], ids=["C", "C++"])
+def test_the_example_with_a_limit_of_time_stops_a_call(compiler):
+    """The last position is that at the start of a game. Without its process, nothing holds the standard output open."""
+    program = PREFIX.compile(compiler, "limited", [PREFIX.shipped / "examples/c/limited.c"])
+    for words, wanted in (
+        ("60 fffffff7ffff7f7c 800008002", (0, "+62\n", "")), ("60 3 2", (1, "the masks share a square\n", "")),
+        ("1 0000000810000000 0000001008000000", (1, "not solved in 1 s\n", "")),
+        *((wrong, (2, "", "usage: limited SECONDS OWN OPP\n")) for wrong in ("0 1 2", "1 2", "1 2 x", "x 1 2")),
+    ):
+        ends(wanted, program, *words.split())
+
+
 def test_the_example_in_python_runs():
     script = [PREFIX.site and sys.executable, PREFIX.shipped / "examples/python/answers.py"]
     answers_of(*script)
@@ -159,11 +188,13 @@ def test_each_program_of_the_documents_prints_what_is_shown(language, names):
     assert PREFIX.make(*command_of(language, block)).stdout == wanted
 
 
-def test_the_packages_own_tests_pass():
+def test_the_packages_own_tests_pass_where_it_is_installed():
+    """Runs those that need the installed files: examples of the help, types, processes and the library. The others test
+    the package of the checkout."""
     assert (PREFIX.site / "ffosolve/py.typed").exists()
-    pytest.importorskip("pytest")
-    words = (sys.executable, "-m", "pytest", "-q", "-p", "no:cacheprovider", PREFIX.work / "python/tests")
-    assert re.search(r"(?m)^[1-9]\d* passed", PREFIX.make(*words, timeout=800).stdout)  # on a busy machine
+    some = "examples_of_the_help or mypy_sees or kept_and_used_again or limits_and_versions"
+    words = (sys.executable, "-m", "pytest", "-q", "-p", "no:cacheprovider", PREFIX.work / "python/tests", "-k", some)
+    assert re.search(r"(?m)^4 passed", PREFIX.make(*words).stdout)
 
 
 def test_pip_installs_the_packages_program():
@@ -253,6 +284,29 @@ def test_the_library_gets_the_scoring_the_table_and_the_claim_that_were_asked_fo
     ran = PREFIX.make(program, env=preload(PREFIX.work, COUNTED="1"))
     wanted = [*asked(0, 0, 4096, 65536), *asked(2, 5, 5, 5)]  # by default the tables that ffosolve.h suggests
     assert (sorted(ran.stdout.splitlines()), ran.stderr) == (sorted(wanted), "thread " * 4)
+
+
+def test_rust_reads_transcripts_as_the_table_says_and_others_as_python():
+    rng, games = random.Random(8), random_games(500, seed=8)
+    odd = ["", ",", "-", " - ", "\u2013", "--", "pass", "1.", " 12 ", "2001 ", " 3)", "%", "*", "x", " 33-31",
+           " (40:24).", "[+4]", " +2", "[2]", "\x1c", "\u2003", "5", "\u0661"]
+    wanted = [(text, f"{len(moves) + 1} {word}" if word else "{} {}".format(*masks_after(moves)))
+              for moves, word, text in transcript_rows()]
+    count = len(wanted)
+    for game in games:
+        words = [rng.choice((str, str.upper, " ".join))(NAMES[square].lower()) for square in squares_of(game)]
+        parts = [it for word in words[:rng.randrange(60)] for it in (rng.choice([*odd, *[" "] * 400]), word)]
+        text = "".join([*parts, rng.choice(odd)])
+        try:
+            wanted.append((text, "{} {}".format(*ffosolve.Solver().positions(text)[-1])))
+        except ffosolve.GameRefused as why:
+            wanted.append((text, str(why.move)))
+    assert 100 < sum(" " in line for _, line in wanted[count:]) < 400
+    program = PREFIX.rust_client("played", PLAYED_IN_RUST)
+    printed = PREFIX.make(program, text="".join(f"{text}\0" for text, _ in wanted)).stdout.splitlines()
+    assert len(printed) == len(wanted)
+    for at, ((text, line), found) in enumerate(zip(wanted, printed)):
+        assert (found if at < count or " " in line else found.split(" ")[0]) == line, text
 
 
 def test_a_folder_without_the_library_is_refused_and_pkg_config_asked_only_if_none_is_named():

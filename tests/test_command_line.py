@@ -1,107 +1,108 @@
-"""ffosolve and ffoscores: --help, --version, --progress, refused words, and a full or closed output."""
+"""ffosolve and ffoscores: --help, --version, --progress, refused words, and a full or closed output. Of all four
+programs: the exit statuses."""
 import re
 
 import pytest
 
-from tests.support import ROOT, SECONDS, built, ends, positions, run, stored, write
+from tests.support import MOST_BYTES, ROOT, SECONDS, built, ends, positions, run, stored, write
 from ffosolve import MOST_ENTRIES
 
 LARGE = MOST_ENTRIES + 1
 PROGRAMS = ("ffosolve", "ffoscores")
-NAMES = "\n  [possible values: winner, discs, sign]"
 PROGRESS = re.compile(rb"ffosolve: solved (\d+) of (\d+) in (\d+) s\r?\n")
 
-
-def usage(option="[OPTIONS]"):
-    return f"\n\nUsage: {{name}} {option}{' ' * bool(option)}[FILES]..."
-
-
-def unknown(word, option="[OPTIONS]", similar=None):
-    tip = f"a similar argument exists: '{similar}'" if similar else f"to pass '{word}' as a value, use '-- {word}'"
-    return f"unexpected argument '{word}' found\n\n  tip: {tip}{usage(option)}"
-
-
-# (command line, error in the words of the crate clap)
+# (command line, refused word)
 REFUSED = [
-    ("--best", unknown("--best")),
-    ("-x", unknown("-x")),
-    ("-xh", unknown("-x")),
-    ("--TABLE", unknown("--TABLE")),
-    ("--tabel", unknown("--tabel", "--table <N>", "--table")),
-    ("--max", unknown("--max", "--max-empties <N>", "--max-empties")),
-    ("--helpp", unknown("--helpp", "--help", "--help")),
-    ("a --best", unknown("--best", "")),
-    ("--table x --best", unknown("--best", "--table <N>")),
-    ("--help=3", "unexpected value '3' for '--help' found; no more were expected" + usage("--help")),
-    ("--version=1", "unexpected value '1' for '--version' found; no more were expected" + usage("--version")),
-    ("--table", "a value is required for '--table <N>' but none was supplied"),
-    ("--table -- 5", "a value is required for '--table <N>' but none was supplied"),
-    ("--max-empties", "a value is required for '--max-empties <N>' but none was supplied"),
-    ("--scoring", "a value is required for '--scoring <NAME>' but none was supplied" + NAMES),
-    ("--scoring=", "a value is required for '--scoring <NAME>' but none was supplied" + NAMES),
-    ("--scoring best", "invalid value 'best' for '--scoring <NAME>'" + NAMES),
-    ("--scoring=sig", f"invalid value 'sig' for '--scoring <NAME>'{NAMES}\n\n  tip: a similar value exists: 'sign'"),
-    ("--table=", "invalid value '' for '--table <N>': cannot parse integer from empty string"),
-    ("--table x", "invalid value 'x' for '--table <N>': invalid digit found in string"),
-    ("--table x --help", "invalid value 'x' for '--table <N>': invalid digit found in string"),
-    ("--table=-3", f"invalid value '-3' for '--table <N>': -3 is not in 0..={MOST_ENTRIES}"),
-    (f"--table {LARGE}", f"invalid value '{LARGE}' for '--table <N>': {LARGE} is not in 0..={MOST_ENTRIES}"),
-    ("--max-empties=61", "invalid value '61' for '--max-empties <N>': 61 is not in 0..=60"),
-    ("--workers 65", "invalid value '65' for '--workers <N>': 65 is not in 0..=64"),
-    ("--table 5 --table 6", "the argument '--table <N>' cannot be used multiple times" + usage()),
-    ("--complete=1", "unexpected value '1' for '--complete' found; no more were expected" + usage("--complete")),
-    ("--complete --complete", "the argument '--complete' cannot be used multiple times" + usage()),
-    ("--scoring discs --scoring best", "the argument '--scoring <NAME>' cannot be used multiple times" + usage()),
+    ("--best", "--best"), ("-x", "-x"), ("-xh", "-x"), ("--TABLE", "--TABLE"), ("--tabel", "--tabel"),
+    ("--max", "--max"), ("--helpp", "--helpp"), ("a --best", "--best"), ("--table x --best", "--best"),
+    ("--help=3", "3"), ("--version=1", "1"), ("--complete=1", "1"), ("--table", "--table"), ("--table -- 5", "--table"),
+    ("--max-empties", "--max-empties"), ("--scoring", "--scoring"), ("--scoring=", "--scoring"),
+    ("--scoring best", "best"), ("--scoring=sig", "sig"), ("--table=", ""), ("--table x", "x"),
+    ("--table x --help", "x"), ("--table=-3", "-3"), (f"--table {LARGE}", f"{LARGE}"), ("--max-empties=61", "61"),
+    ("--workers 65", "65"), ("--table 5 --table 6", "--table"), ("--complete --complete", "--complete"),
+    ("--scoring discs --scoring best", "--scoring"),
 ]
 REFUSED_BY_ONE = {
-    "ffosolve": [
-        ("--book-in", "a value is required for '--book-in <FILE>' but none was supplied"),
-        ("--book-out --help", "a value is required for '--book-out <FILE>' but none was supplied"),
-        ("--progress=1", "unexpected value '1' for '--progress' found; no more were expected" + usage("--progress")),
-    ],
-    "ffoscores": [(f"{word} 2", unknown(word)) for word in ("--book-in", "--book-out", "--progress")],
+    "ffosolve": [("--book-in", "--book-in"), ("--book-out --help", "--book-out"), ("--progress=1", "1")],
+    "ffoscores": [(f"{word} 2", word) for word in ("--book-in", "--book-out", "--progress")],
 }
 
 
 @pytest.fixture
-def says(folder, start):
-    """A function that asserts how a program ends (`ends`), with an input that stays empty and open: one that reads it
-    does not end."""
-    pipe = start("sleep", SECONDS).stdout
-    return lambda wanted, name, *words: ends(wanted, built(name), *words, stdin=pipe)
+def pipe(start):
+    """An input that stays empty and open: a program that reads it does not end."""
+    return start("sleep", SECONDS).stdout
 
 
 @pytest.mark.parametrize("name", PROGRAMS)
-def test_a_wrong_command_line_is_refused_with_the_reason(says, name):
-    for line, why in REFUSED + REFUSED_BY_ONE[name]:
-        error = f"error: {why.format(name=name)}\n\nFor more information, try '--help'.\n"
-        says((2, "", error), name, *line.split())
-    says((2, "", f"{name}: cannot read the command line\n"), name, b"\xff.obf")
+def test_a_wrong_command_line_is_refused_and_the_word_is_named(pipe, name):
+    for line, word in REFUSED + REFUSED_BY_ONE[name]:
+        ran = run(built(name), *line.split(), stdin=pipe, text=True)
+        assert (ran.returncode, ran.stdout) == (2, ""), line
+        assert re.search(f"'{re.escape(word)}[' ]", ran.stderr.split("\n")[0]), (line, ran.stderr)
+    ends((2, "", f"{name}: cannot read the command line\n"), built(name), b"\xff.obf", stdin=pipe)
 
 
 @pytest.mark.parametrize("name", PROGRAMS)
-def test_help_is_printed_whatever_follows_and_names_the_limits(says, name):
+def test_help_is_printed_whatever_follows_and_names_the_limits(pipe, name):
     text = run(built(name), "--help", text=True).stdout
     assert f"\n\nUsage: {name} [OPTIONS] [FILES]...\n" in text
     for line in ("--help", "-h", "-hx", "--help --best", "none.obf -h"):
-        says((0, text, ""), name, *line.split())
+        ends((0, text, ""), built(name), *line.split(), stdin=pipe)
     text = " ".join(text.split())
     assert re.findall(r"--(\S+) <N> [^<]*?\b0 to (\d+)", text) == [("max-empties", "60"), ("workers", "64")]
     assert set(re.findall(r"(?:files, at most|more than) (\d+)", text)) == {"64"}
     assert set(re.findall(r"(\d+) MiB", text)) == {"1"}
 
 
+@pytest.mark.parametrize("name, what, words", (
+    ("ffosolve", "all reports were printed", "right"),
+    ("ffosolve", "--help", "--help"),
+    ("ffosolve", "more than 64 files", "right " * 65),
+    ("ffosolve", "a file larger than 1 MiB", "large"),
+    ("ffosolve", "the command line is refused", "--helpp"),
+    ("ffosolve", "a file or a stream can't be read", "none.obf"),
+    ("ffosolve", "the book of --book-in is refused", "--book-in wrong right"),
+    ("ffosolve", "--book-out would overwrite another file", "--book-out wrong right"),
+    ("ffoscores", "no line is refused and there is no remark", "right"),
+    ("ffoscores", "--version", "--version"),
+    ("ffoscores", "a line is refused", "wrong"),
+    ("ffoscores", "the command line is refused", "--helpp"),
+    ("ffoscores", "more than 64 files", "right " * 65),
+    ("ffoscores", "a file that can't be read", "none.obf"),
+    ("ffoscores", "is larger than 1 MiB", "large"),
+    ("ffosolve-many", "done", "--quiet right"),
+    ("ffosolve-many", "there is a remark or a refused line", "--quiet --scores wrong"),
+    ("ffosolve-many", "the command line is refused", "--best"),
+    ("ffosolve-many", "a file can't be read", "none.obf"),
+    ("ffosolve-games", "done", "--empties=9 right"),
+    ("ffosolve-games", "a game is refused", "--empties=9 wrong"),
+    ("ffosolve-games", "the command line is refused", "--best"),
+    ("ffosolve-games", "--empties is missing", "wrong"),
+    ("ffosolve-games", "a file can't be read", "none.obf"),
+))
+def test_help_has_the_status_of_each_end(folder, name, what, words):
+    write("right", b"")
+    write("wrong", b"?\n")
+    write("large", b" " * (MOST_BYTES + 1))
+    program = built(name) if name in PROGRAMS else ROOT / "bin" / name
+    listed = re.split(r"\n(?:Exit )?status:\n", run(program, "--help", text=True).stdout)[1].partition("\n\n")[0]
+    rows = [" ".join(row.split()) for row in re.split(r"\n(?=  \d)", listed)]
+    assert [int(row[0]) for row in rows if what in row] == [run(program, *words.split()).returncode]
+
+
 @pytest.mark.parametrize("name", PROGRAMS)
-def test_version_is_that_of_the_file_version(says, name):
+def test_version_is_that_of_the_file_version(pipe, name):
     for line in ("--version", "-V", "-Vx", "--table 5 --version", "--max-empties=60 --workers=64 --version"):
-        says((0, f"{name} {stored('VERSION').decode()}", ""), name, *line.split())
+        ends((0, f"{name} {stored('VERSION').decode()}", ""), built(name), *line.split(), stdin=pipe)
 
 
 @pytest.mark.parametrize("name, list_", zip(PROGRAMS, ("/dev/null", ROOT / "examples/kinds.obf")))
 def test_a_full_or_closed_output_is_reported_even_for_an_empty_report(folder, name, list_):
     for word in ("--help", "--version", list_):
         for output in (">/dev/full", ">&-"):
-            wanted = (3, "", f"{name}: cannot write standard output\n")
+            why = f"{name}: no space left\n" if output == ">/dev/full" else ""
+            wanted = (3, "", f"{name}: cannot write standard output\n{why}")
             ends(wanted, "sh", "-c", f'exec "$0" "$1" {output}', built(name), word)
 
 

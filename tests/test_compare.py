@@ -1,5 +1,6 @@
 """`ffosolve-games compare` prints wrong theoretical scores; --fix writes corrected copies of WTHOR files.
 A theoretical score is what a WTHOR file claims for perfect play from a position of a game."""
+import contextlib
 import os
 import re
 import shutil
@@ -12,10 +13,10 @@ from unittest import mock
 import pytest
 
 from bench import player
-from tests.games import PROGRAM, book_of, discs_of_black, games, positions_of, random_games, record, wthor
-from tests.support import ROOT, SECONDS, built, limited, run, stored, wait_until, write
-from ffosolve import read_games
-from ffosolve._theoretical_scores import corrected
+from tests.games import NAMES, PROGRAM, book_of, discs_of_black, games, positions_of, random_games, record, wthor
+from tests.support import NOBODY, ROOT, SECONDS, built, limited, run, stored, wait_until, write
+from ffosolve import ReadingWarning, read_games
+from ffosolve._games import corrected
 
 pytestmark = pytest.mark.usefixtures("folder")
 EMPTIES = 5
@@ -85,6 +86,29 @@ def test_scores_are_discs_of_black_and_the_winner_gets_the_empty_squares(empties
     games(*COMPARE, status=1, out=out + counts(len(played), len(played)), err=err)
 
 
+# Games that are over with many empty squares, and their real scores.
+SHORT = {"e6f4e3f6g5d6e7f5c5": 64, "d3c5d6e3f5g5c4c3e6e7": 0, "f5d6c5f6d3g5h5h4g7e7f8b5a5c3b2h6d8f7b4a3": 59,
+         "d3c5c6e3f5g5f3c2c4g3e2c3e6b5b4e1g2d7d6h1f6a4c7e7e8b7": 1}
+
+
+def test_a_game_that_is_over_before_its_position_has_the_score_of_its_end(alone):
+    """Without other games, ffosolve-many is not needed. A list has no position of such a game."""
+    played = [[NAMES.index(text[at:at + 2].upper()) for at in range(0, len(text), 2)] for text in SHORT]
+    wrong, right = ([record(it, 30 if is_wrong else real) for it, real in zip(played, SHORT.values())]
+                    for is_wrong in (True, False))
+    write("it.wtb", wthor(wrong, empties=30))
+    out = "".join(difference(number, real, 30 - real) for number, real in enumerate(SHORT.values(), 1))
+    ran = alone("check", "it.wtb", "--fix=new.wtb")
+    assert (ran.returncode, ran.stdout) == (1, out + counts(4, 4)), ran.stderr
+    assert Path("new.wtb").read_bytes() == wthor(right, empties=30)
+    assert alone("check", "new.wtb").stdout == counts(4, 0)
+    write("it.wtb", wthor(right + EXACT_RECORDS, empties=EMPTIES))
+    games(*COMPARE, out=counts(4 + COUNT, 0))
+    ends = zip((51, 50, 40, 34), (9, 10, 20, 26), range(1, 5))
+    games("new.wtb", err="".join(f"new.wtb, game {number}, move {moves}: it ends here, with {left} empty squares; "
+                                 "30 are asked for\n" for left, moves, number in ends))
+
+
 @pytest.mark.parametrize("content, book, out", (
     (WHOLE, BOOK, both() + counts()),
     (WHOLE, BOOK.replace("\n", "\r\n"), both() + counts()),
@@ -94,7 +118,7 @@ def test_scores_are_discs_of_black_and_the_winner_gets_the_empty_squares(empties
     (wthor([EXACT_RECORDS[0]] * 10_000 + [record(PLAYED[0], EXACT[0] + 1)], empties=EMPTIES), BOOK,
      difference(10_001, EXACT[0], 1) + counts(10_001, 1)),
 ), ids="abcdef")
-def test_wrong_scores_are_told_and_all_are_counted(content, book, out):
+def test_wrong_scores_are_reported_and_all_are_counted(content, book, out):
     """From two of the books, the positions of some games are missing. The last file has 10,001 games."""
     write("it.wtb", content)
     write("book", book)
@@ -177,25 +201,36 @@ def names(size, *texts):
     return wthor([], another=len(texts)) + b"".join(text.encode("latin-1").ljust(size, b"\0") for text in texts)
 
 
-def test_players_tournament_and_year_are_told():
-    """In the records of wrong scores, the tournament has the number 7, Black 300, and White 301, all counted from 0."""
+def test_year_players_and_tournament_are_reported():
+    """In the records of wrong scores, the tournament has the number 7, Black 300, and White 301, all counted from 0.
+    Where there are several files of names, one of them has to have the name WTHOR."""
     whole = wthor([it if at in (2, 5) else bytes(6) + it[6:] for at, it in enumerate(RECORDS)], empties=EMPTIES)
     players, tournaments = [*["?"] * 300, "Ann Smith", "Andr\u00e9 \x01\u00a0B."], [*["?"] * 7, "Rome"]
-    for name, content, title in (
-        ("it.wtb", whole, " (2001)"),
-        ("folder.jou/it", b"", " (2001)"),
-        ("WTHOR.JOU", names(20, *players), " (2001, Ann Smith - Andr\u00e9 B.)"),
-        ("WTHOR.TRN", names(26, *tournaments), " (2001, Ann Smith - Andr\u00e9 B., Rome)"),
-        ("it.wtb", whole[:10] + b"\0\0" + whole[12:], " (Ann Smith - Andr\u00e9 B., Rome)"),
-        ("WTHOR.JOU", names(20, *players[:-1]), " (Rome)"),
-        ("WTHOR.TRN", names(26, *tournaments)[:-30], ""),
-        ("WTHOR.TRN", b"", ""),
-        ("WTHOR.JOU", names(20, *players), " (Ann Smith - Andr\u00e9 B.)"),
-        ("other.jou", names(20, *players), ""),
+    both_players, rome = ("Ann Smith", "Andr\u00e9 B."), "Rome"
+    several = "names are left out, since the folder {} has OTHER.JOU and wthor 2.jou: name the right one WTHOR.JOU"
+    for name, content, year, sides, tournament in (
+        ("it.wtb", whole, 2001, None, None),
+        ("folder.jou/it", b"", 2001, None, None),
+        ("OTHER.JOU", names(20, *players), 2001, both_players, None),
+        ("WTHOR.TRN", names(26, *tournaments), 2001, both_players, rome),
+        ("it.wtb", whole[:10] + b"\0\0" + whole[12:], None, both_players, rome),
+        ("OTHER.JOU", names(20, *players[:-1]), None, None, rome),
+        ("OTHER.JOU", names(20, *players[:-1], ""), None, None, rome),
+        ("WTHOR.TRN", names(26, *tournaments)[:-30], None, None, None),
+        ("WTHOR.TRN", b"", None, None, None),
+        ("wthor 2.jou", b"", None, None, several),
+        ("Wthor.Jou", names(20, *players), None, both_players, None),
     ):
         write(f"in/{name}", content)
-        games("compare", "book", "in/it.wtb", status=1, out=both(name="in/it.wtb", title=title) + counts())
-        games("compare", "../book", "it.wtb", status=1, out=both(title=title) + counts(), cwd="in")
+        err, place = (tournament, None) if tournament == several else ("", tournament)
+        about = ", ".join(filter(None, (year and str(year), sides and " - ".join(sides), place)))
+        title = f" ({about})" if about else ""
+        games("compare", "book", "in/it.wtb", status=1, out=both(name="in/it.wtb", title=title) + counts(),
+              err=err.format("in"))
+        games("compare", "../book", "it.wtb", status=1, out=both(title=title) + counts(), cwd="in", err=err.format("."))
+        with pytest.warns(ReadingWarning, match=several.format("in")) if err else contextlib.nullcontext():
+            game = [*read_games("in/it.wtb")][2]
+        assert (game.year, game.players, game.tournament) == (year, sides, place)
 
 
 def test_the_scores_that_are_wrong_are_changed_and_no_other_byte():
@@ -321,12 +356,18 @@ def test_an_interrupted_run_leaves_no_file_under_the_name(start, number):
 
 
 CHECK = ("check", "it.wtb", "--quiet")
-FOLDER = "it.wtb.check/list.obf.parts"
+FOLDER = "it.wtb.check/check.obf.parts"
 FAILED = "ffosolve-games: ffosolve-many has not solved all, so no score is compared"
 
 
 def parts():
     return len(list(Path(FOLDER, "results").glob("[0-9]" * 7)))
+
+
+def results():
+    """Returns {path: (inode, time)} for the results of all parts in the current folder."""
+    found = {str(path): path.stat() for path in Path().rglob("results/*")}
+    return {name: (about.st_ino, about.st_mtime_ns) for name, about in found.items()}
 
 
 def test_check_solves_compares_and_fixes():
@@ -343,10 +384,44 @@ def test_check_solves_compares_and_fixes():
               "new/other.wtb: theoretical scores changed 1 of 1, not compared 0")
     assert Path("new/it.wtb").read_bytes() == wthor(EXACT_RECORDS + EXACT_RECORDS[2:3], empties=EMPTIES)
     assert Path("new/other.wtb").read_bytes() == wthor([record(PLAYED[1], exact)], empties=6)
-    assert (COUNT, parts()) == (14, 3)  # each position once
+    assert (COUNT, parts(), len(results())) == (14, 3, 4)  # each position once
     write("it.wtb", RIGHT)  # other scores of positions that are solved
-    games("compare", "it.wtb.check/list.book", "it.wtb", out=counts(differ=0))
+    games("compare", "it.wtb.check/check.book", "it.wtb", out=counts(differ=0))
     games(*CHECK, "--max-empties=4", "--folder=other", status=1, out=counts(0, 0, COUNT))
+    assert not os.path.exists("other")
+
+
+@pytest.mark.parametrize("folder_named", ((), ("--folder=all",)))
+def test_each_check_goes_on_with_what_is_solved(folder_named):
+    """Game 1 of the file for 5 empty squares begins with an illegal move, until that is mended. The lists' parts have
+    10 lines, so the mended game gets a part of its own."""
+    broken = RECORDS[0][:8] + b"\1" + RECORDS[0][9:]
+    write("it.wtb", wthor([broken, *RECORDS[1:]], empties=EMPTIES))
+    write("other.wtb", wthor([record(it, discs_of_black(positions_of(it)[6])) for it in PLAYED[:9]], empties=6))
+    illegal, nine = "it.wtb, game 1, move 1: 1 is not a square", counts(9, 0)
+    games("check", "--quiet", *folder_named, "other.wtb", out=nine)
+    games(*CHECK, *folder_named, "other.wtb", status=1, out=both() + counts(COUNT + 8), err=illegal)
+    before = results()
+    for names, out, err in ((("it.wtb",), both() + counts(COUNT - 1), illegal),
+                            (("other.wtb", "./it.wtb"), both(name="./it.wtb") + counts(COUNT + 8), f"./{illegal}"),
+                            (("other.wtb", "other.wtb"), counts(18, 0), "")):
+        games("check", "--quiet", *folder_named, *names, out=out, err=err, status=int("it" in out))
+        assert results() == before
+    write("it.wtb", WHOLE)
+    games(*CHECK, *folder_named, status=1, out=both() + counts())
+    after = results()
+    assert (len(before), len(after)) == (3, 4) and before.items() <= after.items()
+    write("it.wtb", wthor(RECORDS[:2], empties=EMPTIES))
+    games(*CHECK, *folder_named, out=counts(2, 0))
+    assert results() == after
+
+
+def test_another_number_of_empty_squares_goes_on_in_the_same_folder():
+    for empties, added in ((5, 2), (6, 2), (5, 0), (6, 0)):
+        write("it.wtb", wthor([record(it, discs_of_black(positions_of(it)[empties])) for it in PLAYED], empties=0))
+        before = parts()
+        games(*CHECK, f"--empties={empties}", out=counts(differ=0))
+        assert parts() == before + added
 
 
 @pytest.fixture
@@ -377,15 +452,15 @@ def test_a_second_check_in_one_folder_is_refused(start, slow_check):
     wait_until(parts)
     os.killpg(first.pid, signal.SIGSTOP)
     ran = run(*words, text=True)
-    assert (ran.returncode, ran.stdout) == (3, "")
-    assert ran.stderr.splitlines() == [f"ffosolve-many: another run works in {FOLDER}", FAILED]
     os.killpg(first.pid, signal.SIGCONT)
+    assert (ran.returncode, ran.stdout) == (3, "")
+    assert ran.stderr == "ffosolve-games: another check works in it.wtb.check\n"
     assert first.communicate(timeout=SECONDS)[0].decode() == printed
 
 
 def test_check_can_be_cut_for_another_scheduler():
     ran = run(sys.executable, PROGRAM, *CHECK, "--lines=4", "--cut", text=True)
-    assert (ran.returncode, parts()) == (0, 0) and "python3 it.wtb.check/list.obf.parts/solve.py" in ran.stdout
+    assert (ran.returncode, parts()) == (0, 0) and "python3 it.wtb.check/check.obf.parts/solve.py" in ran.stdout
     for part in range((COUNT + 3) // 4):
         run(sys.executable, f"{FOLDER}/solve.py", f"{part:07d}", check=True)
     games(*CHECK, "--lines=4", status=1, out=both() + counts())
@@ -401,9 +476,48 @@ def test_check_refuses_before_it_solves():
     ):
         games(*CHECK, word, status=3, err=err)
     assert sorted(os.listdir()) == ["book", "it.wtb"]
-    games(*CHECK, status=3, err="cannot write it.wtb.check/list.obf: File too large",
-          preexec_fn=limited(RLIMIT_FSIZE=100))
+    os.mkdir("closed", mode=0o555)
+    games(*CHECK, "--fix=closed", status=3, **NOBODY,
+          err="cannot write closed/it.wtb: its folder is missing, or may not be written")
+    write("other.wtb", WHOLE)
+    write("other.wtb.check", "")
+    games(*CHECK, "other.wtb", status=3, err="cannot make other.wtb.check: File exists")
     assert os.listdir("it.wtb.check") == []
+    write("it.wtb.check/list.obf", "of an earlier version")
+    before = contents()
+    other = "it.wtb.check has files that are not a check's, or those of an earlier version, such as list.obf"
+    games(*CHECK, status=2, err=f"{other}: name a new or an empty folder with --folder")
+    assert contents() == before
+
+
+def test_in_a_folder_that_others_own_or_may_write_only_the_book_is_read():
+    why = "is not a folder that you own and nobody else may write: name another with --folder"
+    os.mkdir("all")
+    os.chmod("all", 0o775)
+    games(*CHECK, "--folder=all", status=2, err=f"all lacks {COUNT} positions, and {why}")
+    games(*CHECK, status=1, out=both() + counts())
+    before = contents()
+    games(*CHECK, status=1, out=both() + counts(), **NOBODY)
+    os.chmod("it.wtb.check", 0o757)
+    for how in ({}, NOBODY):
+        write("it.wtb", WHOLE)
+        games(*CHECK, status=1, out=both() + counts(), **how)
+        assert contents() == before
+        write("it.wtb", wthor([*RECORDS, record(random_games(1, seed=6)[0])], empties=EMPTIES))
+        games(*CHECK, status=2, err=f"it.wtb.check lacks 1 position, and {why}", **how)
+        assert contents() == {**before, "it.wtb": Path("it.wtb").read_bytes()}
+
+
+def test_a_list_that_was_cut_off_is_written_again():
+    """At the first limit, a line is not whole; then one is whole, but the other lines are missing."""
+    for size in (100, 150):
+        games(*CHECK, status=3, err="cannot write it.wtb.check/check.obf: File too large",
+              preexec_fn=limited(RLIMIT_FSIZE=size))
+        assert os.listdir("it.wtb.check") == ["check.obf"]
+    write("it.wtb", wthor(RECORDS[:1], empties=EMPTIES))
+    games(*CHECK, out=counts(1, 0))
+    write("it.wtb", WHOLE)
+    games(*CHECK, status=1, out=both() + counts())
 
 
 @pytest.fixture
@@ -416,22 +530,22 @@ def alone(folder):
     return lambda *words: run(sys.executable, "bin/ffosolve-games", *words, text=True, env=environment)
 
 
-OPTIONS = ("--max-empties=4", "--lines=x", "--jobs=7", "--scheduler=h1:8786", "--cut", "--quiet", "--workers=2",
-           "--table=0", "--book-in=a b")
+OPTIONS = ("--jobs=x", "--scheduler=h1:8786", "--cut", "--quiet", "--workers=2", "--table=0", "--book-in=a b")
 
 
 @pytest.mark.parametrize("words, given, folder_named", (
-    ((), "--max-empties=5 --lines=10", "it.wtb.check"),
-    (("--folder", "a", "22.wtb"), "--max-empties=22 --lines=10", "a"),
-    (("--lines=20", "--quiet"), "--max-empties=5 --lines=20 --quiet", "it.wtb.check"),
-    (OPTIONS, " ".join(OPTIONS), "it.wtb.check"),
+    ((), "--max-empties=60 --lines=10", "it.wtb.check"),
+    (("--folder", "a", "22.wtb"), "--max-empties=60 --lines=10", "a"),
+    (("--max-empties=21", "22.wtb", "--lines=20", "--quiet"), "--max-empties=60 --lines=20 --quiet", "it.wtb.check"),
+    (OPTIONS, " ".join(("--max-empties=60 --lines=10", *OPTIONS)), "it.wtb.check"),
 ))
 def test_ffosolve_many_gets_the_options(alone, words, given, folder_named):
     write("22.wtb", wthor([record(PLAYED[0])], empties=22))
-    write("bin/ffosolve-many", '#!/bin/sh\necho "$*" >words\necho output\nexit 3\n')
+    write("bin/ffosolve-many", '#!/bin/sh\necho "$*" >>words\necho output\nexit 3\n')
     write("tools/ffosolve-many", "#!/bin/sh\n")  # is not run, since one is next to ffosolve-games
     ran = alone("check", "it.wtb", *words)
-    assert Path("words").read_text() == f"{given} --book-out={folder_named}/list.book -- {folder_named}/list.obf\n"
+    assert Path("words").read_text() == f"{given} --book-out={folder_named}/check.book -- {folder_named}/check.obf\n"
+    assert "22.wtb.check" not in os.listdir()
     assert ran.stdout == "output\n" * ("--cut" in words)
 
 

@@ -1,11 +1,10 @@
-"""The crates' own tests, proved and with refused memory, and unproved by `rt try`, with all runtime checks."""
+"""Runs the crates' tests three ways: proved; with refused memory; and unproved, by `rt try`, with runtime checks."""
 import re
 
 import pytest
 
 from tests.prefix import LEVELS
-from tests.support import ROOT, build, is_v3, need, run
-from tests.test_out_of_memory import outcomes
+from tests.support import ROOT, build, is_v3, need, outcomes, run
 
 # Parts of the names of the tests that are run here. Others go on after a refused request, or need two threads.
 TESTS = (

@@ -11,13 +11,13 @@ from types import SimpleNamespace
 
 import pytest
 
-from tests.prefix import FIRST, FIRST_OBF, LEVELS, VERSION, copied_checkout, files_below, path_without
+from tests.prefix import (
+    FIRST, FIRST_OBF, LEVELS, VERSION, completed_by_zsh, copied_checkout, files_below, path_without,
+    print_what_is_shown)
 from tests.support import ROOT, ends, is_v3, lack, need, run, stored, unshared, write
-from tests.test_install import completed_by_zsh
 
 COMMIT = "GIT_COMMITTER_DATE='1700000000 +0000' git -c user.name=a -c user.email=a@b commit -q -m one"
 COMMIT_ALL = f"git init -q; git add -A; {COMMIT}"
-SCRIPTS = ["ffosolve-many", "ffosolve-games"]
 PACKAGES = ["ffosolve", "libffosolve-dev", "libffosolve1", "python3-ffosolve"]
 # A Python program: solves the position in its argument, and prints versions, best moves, and the files that it loaded.
 SOLVE = """
@@ -104,17 +104,25 @@ def test_archive_has_what_make_install_installs_except_readme(dist):
     stage, documents = dist.unpacked.parent / "stage", "share/doc/ffosolve/"
     run("make", "-s", "-C", dist.first, "install", "PREFIX=/p", f"DESTDIR={stage}", check=True)
     assert files_below(stage / "p") - files_below(dist.unpacked) == {f"{documents}README.md"}
-    for name in ("docs", "CHANGELOG.md", "crates/othello_rules/specs", "examples"):
+    for name in ("docs/install.md", "CHANGELOG.md", "crates/othello_rules/specs", "examples"):
         place = dist.unpacked / name if name == "examples" else dist.unpacked / documents / name
         ends((0, "", ""), "diff", "-r", dist.first / name, place)
 
 
 def test_scripts_and_package_say_the_version_of_the_build(dist):
     for place, package in ((dist.first, "python/src"), (dist.unpacked, "share/doc/ffosolve/python/src")):
-        for name in SCRIPTS:
+        for name in ("ffosolve-many", "ffosolve-games"):
             ends((0, f"{name} {dist.version}\n", ""), place / "bin" / name, "--version")
         printed = run(sys.executable, "-Bc", "import ffosolve; print(ffosolve.__version__)", cwd=place / package)
         assert printed.stdout.decode() == f"{dist.version}\n"
+
+
+@pytest.mark.parametrize("place", ("copy", "copy/python/src", "copy/lib/src"))
+def test_a_mere_copy_of_the_package_has_no_known_version(folder, place):
+    write("copy/VERSION" if place.endswith("lib/src") else "VERSION", "7.7.7\n")  # of another project
+    shutil.copytree(ROOT / "python/src/ffosolve", Path(place, "ffosolve"))
+    said = run(sys.executable, "-Bc", "import ffosolve; help(ffosolve)", cwd=place, check=True).stdout.decode()
+    assert "\nVERSION\n    0+unknown\n" in said
 
 
 def test_checksums_are_of_all_files(dist):
@@ -147,25 +155,34 @@ def test_no_program_has_a_path_of_the_build(dist):
 
 def test_files_that_texts_name_are_there(dist):
     """Documents, sources and manual pages may also name a reader's own files, in FOLDER/ or work/. Those in docs/ may
-    name tests, benchmarks and proofs, which only the checkout has, but not in commands that they show."""
+    name tests, benchmarks, proofs and packaging, which only the checkout has, but not in commands that they show."""
     named = re.compile(r"(?<![\w/<}.-])((?:[\w-]+[\w.-]*/)+[\w-]+\.(?:md|py|rs|c|h|toml|txt|obf|antt|a|so))\b")
     files = files_below(dist.unpacked)
     for path in [dist.unpacked / name for name in files]:
         if path.suffix not in (".md", ".py", ".c", ".rs", ".h", ".toml", ".pc") and path.parent.name != "man1":
             continue
         text = path.read_text()
-        elsewhere = ("FOLDER/", "work/") + ("tests/", "bench/", "proofs/") * (path.parent.name == "docs")
+        elsewhere = ("FOLDER/", "work/") + ("tests/", "bench/", "packaging/", "proofs/") * (path.parent.name == "docs")
         for name in named.findall(text):
             is_there = any(f"/{file}".endswith(f"/{name.lstrip('./')}") for file in files)
             assert is_there or name.startswith(elsewhere), (path, name)
         if path.suffix == ".md":
-            words = re.findall(r"[\w./-]+", " ".join(re.findall(r"^(?:\$ |bin/).*$", text, re.M)))
+            words = re.findall(r"[\w./-]+", " ".join(re.findall(r"^(?:\$ |ffos).*$", text, re.M)))
             assert [word for word in words if (ROOT / word).is_file() and not (dist.unpacked / word).is_file()] == []
 
 
 def test_the_commands_of_readme_print_what_it_shows(dist):
     how = {"cwd": dist.unpacked, "env": dist.without_rt, "text": True, "timeout": 300}
     shows(dist.unpacked / "README.md", 1, lambda *words: run(*words, **how))
+
+
+def test_the_commands_of_the_documents_run_on_the_path(dist, folder):
+    """Only install.md is about a checkout, too, whose programs are in bin/."""
+    os.symlink(dist.unpacked / "examples", "examples")
+    env = {**dist.without_rt, "PATH": f"{dist.unpacked}/bin:{dist.without_rt['PATH']}"}
+    for path in (dist.unpacked / "share/doc/ffosolve/docs").glob("*.md"):
+        assert ("bin/ffos" in path.read_text()) == (path.name == "install.md")
+        print_what_is_shown(path.read_text(), env=env)
 
 
 def test_ffosolve_many_has_the_programs_of_both_levels(dist, folder):
@@ -175,17 +192,19 @@ def test_ffosolve_many_has_the_programs_of_both_levels(dist, folder):
     assert programs == [path.read_bytes() for path in wanted]
 
 
-def test_the_program_for_the_level_that_the_loader_reports_is_started(dist, folder):
-    start = folder / "top/bin/ffosolve"
+def test_the_program_for_the_level_that_the_loader_reports_replaces_its_starter(dist, folder, start):
+    """So a signal to the starter ends the program."""
+    starter = folder / "top/bin/ffosolve"
     text = (dist.unpacked / "bin/ffosolve").read_text()
-    write(start, text.replace("/lib64/ld-linux-x86-64.so.2", str(folder / "loader")))
+    write(starter, text.replace("/lib64/ld-linux-x86-64.so.2", str(folder / "loader")))
     for level in LEVELS:
-        write(folder / f"top/lib/ffosolve/ffosolve-{level}", f'#!/bin/sh\necho {level} "$#" "$@"\nexit 3\n')
-    os.symlink(start, "linked")
+        write(folder / f"top/lib/ffosolve/ffosolve-{level}", f'#!/bin/sh\necho {level} $$ "$#" "$@"\nexit 3\n')
+    os.symlink(starter, "linked")
     for line, level in (("  x86-64-v3 (supported, searched)", LEVELS[1]), ("  x86-64-v3", LEVELS[0])):
         write("loader", f"#!/bin/sh\necho '{line}'\n")
-        for words in (start, "./linked"):
-            ends((3, f"{level} 1 a b\n", ""), words, "a b")
+        for place in (starter, "./linked"):
+            started = start(place, "a b", text=True)
+            assert (started.communicate(), started.returncode) == ((f"{level} {started.pid} 1 a b\n", ""), 3)
 
 
 def needs_libc_alone(path):
@@ -258,15 +277,26 @@ def test_an_empty_environment_needs_only_the_wheel(dist, wheel, folder):
     assert {*folder.glob("empty/**/*")} == before
 
 
-def test_without_git_and_at_the_release_the_version_is_plain(folder):
+def test_at_the_release_the_version_is_plain_and_of_a_shallow_clone_it_names_the_commit(folder):
     pytest.importorskip("hatchling")
     checkout = copied_checkout(folder / "plain")
-    wheel = checkout / f"out/ffosolve-{VERSION}-py3-none-manylinux_2_34_x86_64.whl"
-    for prepare in ("true", COMMIT_ALL):
-        run("sh", "-euc", prepare, cwd=checkout, check=True)
-        ran = make("wheel", checkout)
-        assert (ran.returncode, ran.stdout) == (0, f"made: {wheel}\n"), ran
-        wheel.unlink()
+    run("sh", "-euc", COMMIT_ALL, cwd=checkout, check=True)
+    made("wheel", checkout, f"ffosolve-{VERSION}-py3-none-manylinux_2_34_x86_64.whl")
+    run("git", "clone", "-q", "--depth=1", f"file://{checkout}", "shallow", check=True)
+    head = run("git", "rev-parse", "HEAD", cwd=checkout, text=True).stdout
+    ends((0, f"{VERSION}+g{head[:7]}\n", ""), sys.executable, "shallow/python/src/ffosolve/_version.py")
+
+
+@pytest.mark.parametrize("target", ("dist", "wheel", "deb"))
+def test_without_a_commit_no_package_is_made(folder, target):
+    """There is no git, no repository but that of a folder above, or no commit."""
+    run("sh", "-euc", f"mkdir copy; touch one; {COMMIT_ALL}", check=True)
+    run("cp", "-r", *(ROOT / name for name in ("Makefile", "packaging", "VERSION", "python")), "copy", check=True)
+    for before, environment in (("true", {"PATH": path_without("git", folder)}), ("true", {}), ("git init -q", {})):
+        run("sh", "-euc", before, cwd="copy", check=True)
+        ran = make(target, "copy", env={**os.environ, **environment})
+        assert (ran.returncode, ran.stdout) == (2, ""), ran
+        assert "a package needs a git commit, which it names\n" in ran.stderr, ran
 
 
 def test_a_change_that_is_not_committed_is_refused(dist):
@@ -320,6 +350,8 @@ def test_they_have_what_the_archive_has_and_run_when_unpacked(dist, packages, fo
     for name in files_below(dist.unpacked / "share/ffosolve/python/src"):
         wanted.add(f"lib/python3/dist-packages/{name}")
     wanted |= {f"{documents}/{name}" for name in ("README.md", "PROVED")}
+    wanted |= {f"share/doc/libffosolve-dev/{name}" for name in ("library.md", *(
+        f"examples/{name}" for name in files_below(dist.first / "examples")))}
     wanted |= {f"share/doc/{name}/{file}" for name in PACKAGES for file in ("copyright", "changelog.gz")}
     found = {name for name in files_below("root/usr") if ".dist-info/" not in name}
     assert found == wanted
@@ -378,9 +410,10 @@ def test_apt_installs_them_and_removes_all_of_them(dist, packages, folder):
     assert is_used(system.run, dist.version, PYTHON).startswith("/usr/lib/x86_64-linux-gnu/")
     run("dpkg-deb", "-x", packages["ffosolve"], "root", check=True)
     shows(folder / "root/usr/share/doc/ffosolve/README.md", 0, system.run)
+    assert system.make("pkg-config", "--cflags", "--libs", "ffosolve").split() == ["-lffosolve"]
     # Shells find the completions by themselves.
-    assert completed_by_zsh(["ffosolve --sco", "ffosolve-games che"], start=system.run) == [
-        "ffosolve --scoring", "ffosolve-games check"]
+    assert completed_by_zsh(["ffosolve --sco", "ffosolve-games che"], start=system.run)[0] == [
+        "ffosolve --scoring=", "ffosolve-games check"]
     loads = ". /usr/share/bash-completion/bash_completion; _completion_loader ffosolve-many; complete -p ffosolve-many"
     assert system.run("bash", "-c", loads).stdout == "complete -F _ffosolve ffosolve-many\n"
     assert system.make("fish", "-c", "complete -C 'ffoscores --sco'").startswith("--scoring\t")

@@ -1,35 +1,24 @@
-"""The commands in the documents print what is shown there, and the files and definitions that documents name exist.
+"""The commands in the documents print what is shown there, and the files, definitions and numbers that documents name
+are those of the checkout.
 
-In a fenced block `console`, a command begins with `$ `, and its continuation lines with `> `. Below, the block shows
-what the command prints on standard output and standard error. All commands of a document run in one folder, with links
-to the checkout's files. A block `sh` is not run, since it is for another machine or takes long. Git has to ignore all
-files that either kind of block makes.
+All commands of a document in blocks `console` run in one folder, with links to the checkout's files. A block `sh` is
+not run, since it is for another machine or takes long. Git has to ignore all files that either kind of block makes.
 """
 import os
 import re
-import subprocess
+import shutil
 
 import pytest
 
-from tests.support import ROOT, built, ends, need, run, stored
+from tests.prefix import blocks_of, print_what_is_shown
+from tests.support import MOST_BYTES, ROOT, built, copy_many, ends, need, run, stored, write
 
 DOCUMENTS = ["README.md", "CONTRIBUTING.md", *sorted(f"docs/{path.name}" for path in ROOT.glob("docs/*.md"))]
 TEXTS = {name: stored(name).decode() for name in DOCUMENTS}
-END = "\x01end\x01"
-LONGEST = 800  # seconds that the commands of a document may take, since some solve hard positions
 MADE = re.compile(r"(?: -o |[^<>&\d]>|bin/ffosolve-many (?:--scheduler \S+ )?)([\w./-]+)")  # in a block `sh`
 # A line that declares NAME as a definition, field, function, constant, type or variant.
 DECLARES = (r"(?m)^ *(?:(?:[\w()]+ )*(?:NAME *:|(?:record|data|fn|const|struct|enum|trait|type) NAME\b)|NAME[,({]|"
             r"pub use [^;]*\bNAME\b)")
-
-
-def blocks_of(text, language):
-    return "".join(re.findall(rf"^```{language}\n(.*?)^```$", text, re.M | re.S))
-
-
-def stripped(text):
-    """Returns a list of a text's lines without blanks and CR at their ends, since documents don't show these."""
-    return [line.rstrip() for line in text.splitlines()]
 
 
 def ignored(names):
@@ -39,24 +28,69 @@ def ignored(names):
 
 @pytest.mark.parametrize("name", TEXTS)
 def test_commands_print_what_is_shown_and_leave_only_ignored_files(folder, name):
-    """One shell runs all commands of a document, without input, and prints END after each."""
     need("git")
     built()
     for linked in set(os.listdir(ROOT)).difference(ignored(os.listdir(ROOT))):
         if not linked.startswith("."):
             os.symlink(ROOT / linked, linked)
-    found = re.findall(r"^\$ (.*\n(?:> .*\n)*)((?:(?!\$ ).*\n)*)", blocks_of(TEXTS[name], "console"), re.M)
-    commands = [command.replace("\n> ", "\n") for command, _ in found]
-    end = f"}} </dev/null; status=$?; echo; echo '{END}'; (exit $status)\n"
-    words = ("timeout", LONGEST, "bash", "-c", "".join(f"{{ {command}{end}" for command in commands))
-    ran = run(*words, timeout=LONGEST + 60, stderr=subprocess.STDOUT, text=True, errors="replace")
-    printed = ran.stdout.split(f"\n{END}\n")  # the last one comes after the last END
-    assert len(printed) == len(commands) + 1, f"the shell hung at: {commands[len(printed) - 1:][:1]}"
-    for command, (_, shown), output in zip(commands, found, printed):
-        assert stripped(output) == stripped(shown), command
+    print_what_is_shown(TEXTS[name])
     left = [made for made in os.listdir() if not os.path.islink(made)]
     left += [made for made in MADE.findall(blocks_of(TEXTS[name], "sh")) if not made.startswith("/")]
     assert set(left) == set(ignored(left))
+
+
+def test_make_takes_each_command_line_of_the_documents():
+    """Runs these lines so that make only prints what it would do."""
+    need("make")
+    texts = [(text, blocks_of(text, "(?:console|sh)")) for text in TEXTS.values()]
+    lines = {" ".join(line.split()) for text, block in texts for line in (
+        *re.findall(r"`(make\b[^`]*)`", text), *re.findall(r"^(?:\$ )?(make\b.*)$", block, re.M))}
+    assert len(lines) > 15
+    for line in lines:
+        ran = run("sh", "-c", line, cwd=ROOT, env={**os.environ, "MAKEFLAGS": "n"}, text=True)
+        assert (ran.returncode, ran.stderr) == (0, ""), line
+
+
+def test_a_ratio_in_a_table_is_the_quotient_of_its_row():
+    """Times have two decimals, so each may be 0.005 s more or less."""
+    rows = re.findall(r"^\| .* \| (\S+) s \| (\S+) s \| (\S+) \|$", TEXTS["docs/performance.md"], re.M)
+    assert len(rows) > 5
+    for row in rows:
+        one, other, ratio = map(float, row)
+        assert (one - 0.005) / (other + 0.005) - 0.005 <= ratio <= (one + 0.005) / (other - 0.005) + 0.005, row
+
+
+def test_the_guide_has_the_limits_of_files():
+    """Its other limits are in --help, or written by `make constants`."""
+    guide = " ".join(TEXTS["docs/user-guide.md"].split())
+    assert {int(number.replace(",", "")) for number in re.findall("([0-9,]{5,}) bytes", guide)} == {MOST_BYTES}
+    assert {*re.findall("(?:at most|more than) ([0-9]+) files", guide)} == {"64"}
+
+
+def test_the_header_suggests_the_tables_that_the_packages_choose():
+    """Their own tests have these sizes."""
+    text = " ".join(stored("include/ffosolve.h.in").decode().split())
+    assert "An entry takes 32 bytes; " in text
+    assert "Suitable sizes are 0 up to 10 empty squares, 4096 up to 14, 65536 up to 22 and 1000000 from 23 on. " in text
+
+
+def test_the_numbers_in_the_help_of_ffosolve_many_are_those_that_are_taken(folder):
+    """An option of ffosolve is given to ffosolve, which reads an empty list. For the others the list is missing, and
+    that is refused with another status than a number."""
+    many = copy_many("copy")
+    shutil.copy(built(), many.parent)
+    text = " ".join(run(many, "--help", text=True).stdout.split())
+    ranges = re.findall(r"(--[a-z-]+) N [^-]*?([0-9]+) to ([0-9]+)", text)
+    assert {option for option, *_ in ranges} == {"--jobs", "--lines", "--max-empties", "--workers"}
+    for option, least, most in ranges:
+        words = [many, "missing"] if option in ("--jobs", "--lines") else [built(), "/dev/null"]
+        for number, is_taken in ((int(least) - 1, False), (least, True), (most, True), (int(most) + 1, False)):
+            assert (run(*words, f"{option}={number}").returncode != 2) == is_taken, (option, number)
+    lines = int(re.search(r"--lines N [^-]*\[default: ([0-9]+)\]", text)[1])
+    for more, parts in enumerate(("1 part", "2 parts")):
+        write("list", "\n" * (lines + more))
+        printed = run(many, "--cut", f"work{more}", "list", text=True, check=True).stdout
+        assert printed.startswith(f"{parts}, "), printed
 
 
 def test_stored_reports_are_what_ffosolve_prints():

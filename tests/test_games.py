@@ -14,7 +14,8 @@ import pytest
 
 from bench import player
 from tests.games import (AT, GAME, GAME_RECORD, NAMES, PROGRAM, SQUARE_BYTES, discs_of_black, games, line_of,
-                         positions_of, random_games, reads, real_score, record, squares_of, transcript, wthor)
+                         masks_after, positions_of, random_games, reads, real_score, record, squares_of, transcript,
+                         transcript_rows, wthor)
 from tests.support import run, write
 import ffosolve
 from ffosolve import Solver
@@ -48,7 +49,7 @@ def test_positions_are_those_of_the_plain_player(name, count, numbers):
         games(name, f"--empties={empties}", out=out, err=err)
 
 
-GGF = "(;GM[Othello]PC[GGS/os]DT[2003.12.15_13:24:03.MST]PB[a1\\]]PW[B[b]RB[2197.01]TI[05:00//02:00]TY[8]RE[+2]{}{};)"
+GGF = "(;GM[Othello]PC[GGS/os]DT[2003.12.15_13:24:03.MST]PB[\\]W[a1]PW[B[b]RB[2197.01]TI[05:00//02:00]TY[8]RE[+2]{}{};)"
 GGF_BOARD = "BO[8 --------  --------  --------  ---O*---  ---*O---  --------  --------  -------- *]"
 
 
@@ -70,12 +71,10 @@ FIRST = f"is not a legal move for Black in {player.line(*F5D6[60])}"
 REFUSED = (  # transcript, move, reason
     ("f5d6d5", 3, f"D5 {AFTER}"), ("f5d6psc3", 3, f"a pass {AFTER}"),
     ("1. f5 2. d5 3. c3", 2, f"D5 is not a legal move for White in {player.line(*F5[59])}"),
-    ("e4", 1, f"E4 {FIRST}"), ("pass", 1, f"a pass {FIRST}"),
+    ("pass", 1, f"a pass {FIRST}"),
     *((transcript(GAME + [square]), len(GAME) + 1, f"{NAMES[square]} {OVER}") for square in (GAME[0], GAME[-1])),
     *((text, move, f"'{word}' is not a square") for text, move, word in (
-        ("F5 D6 C5 z9", 4, "z9"), ("f5d6c", 3, "c"), ("f5d6i1c3", 3, "i1"), ("f5a9", 2, "a9"),
-        ("f5d6c3d3c4f4c5b3c2\ufffd", 10, "\ufffd"), ("f5d6c33d3", 4, "3d"), ("f5d6c33-31", 4, "3-"),
-        ("f5 d6 33-31 c3", 3, "33"), ("f5 d6 100-3", 3, "10"), ("f5 [d6] c3", 2, "[d"))),
+        ("F5 D6 C5 z9", 4, "z9"), ("f5d6i1c3", 3, "i1"), ("f5d6c3d3c4f4c5b3c2\ufffd", 10, "\ufffd"))),
     ("(;GM[Othello]B[f5]B[d6];)", 2, f"a pass is not a legal move for White in {player.line(*F5[59])}"),
     (f"2 {ggf(GAME)}{ggf(GAME)}", None, "a line has one game, but this has several in GGF"),
     ("(;GM[Othello]PC[GGS/os])", None, "it begins like a game in GGF, but does not end with `;)`"),
@@ -161,7 +160,7 @@ def test_wrong_scores_of_records_are_reported_and_the_line_is_printed(
     # A pipe is not opened again for the year: its writer has ended.
     os.mkfifo("pipe")
     start("sh", "-c", "exec cat it.wtb >pipe")
-    out, err = (text.replace("it.wtb", "pipe").replace(" (2001)", "") for text in (out, err))
+    out, err = (text.replace("it.wtb", "pipe") for text in (out, err))
     games(f"--empties={empties}", "pipe", out=out, err=err)
 
 
@@ -184,7 +183,7 @@ def test_a_file_of_another_kind_is_refused(content, why):
 
 
 @pytest.mark.parametrize("content", (b"PK\3\4\n\0\r\0", b"PK\3\4\24\0\r\0", gzip.compress(b"f5", mtime=0)))
-def test_an_archive_is_told_as_what_it_is(content):
+def test_an_archive_is_reported_as_what_it_is(content):
     """Of the first archive, the first line has no NUL byte."""
     for words, name in (("check", "it"), ("check", "it.wtb"), ("compare book", "it.zip"), ("--empties=20", "it.gz")):
         err = f"cannot read {name}: it is an archive (.zip or .gz), so unpack it first"
@@ -248,10 +247,23 @@ def test_transcripts_are_read_in_each_form():
             texts.append(rng.choice((" ", "-", "", ", ")).join(name or word for name in with_passes))
         texts += ['[Event "Open 33-31"] [Black "Ann"]\t' + texts[0], " [2001] " + texts[1]]
         for text in texts:
-            text += rng.choice(("", " 33-31", " (40:24)", ", 1-0", " 1/2-1/2", " +2", " -12", " [+4]", " 0", "\r\n",
-                                "  % f5"))
+            text += rng.choice(("", " 33-31", " (40:24)", ", 1-0", " 1/2-1/2", " +2", " -12", " [+4]", " 0", " *",
+                                "\r\n", "  % f5"))
             assert ffosolve.Game.of_text(text).squares == [name.upper() for name in names], text
             has_positions(text, game)
+
+
+@pytest.mark.parametrize("moves, word, text", transcript_rows())
+def test_transcripts_are_read_as_the_table_says(moves, word, text):
+    game = ffosolve.Game.of_text(text)
+    assert game.squares[:len(moves)] == moves
+    if not word:
+        assert (len(game.squares), Solver().positions(game)[-1]) == (len(moves), masks_after(moves))
+        return
+    with pytest.raises(ffosolve.GameRefused) as refused:
+        Solver().positions(game)
+    named = "a pass" if word in ("--", "pass", "ps", "pa") else word.upper() if word.upper() in NAMES else repr(word)
+    assert (refused.value.move, refused.value.reason.split(" is not ")[0]) == (len(moves) + 1, named)
 
 
 def test_games_in_ggf_are_read():
@@ -286,15 +298,17 @@ def test_texts_and_wthor_files_are_read_by_path_and_from_files_of_each_kind(fold
 
 
 def test_the_example_of_read_games_finds_wrong_theoretical_scores():
+    """The last game is over after nine moves."""
     found = [game for game in PLAYED if 6 in positions_of(game)][:20]
-    exact = [discs_of_black(positions_of(game)[6]) for game in found]
-    published = [it ^ (at in (3, 11)) for at, it in enumerate(exact)]
+    exact = [discs_of_black(positions_of(game)[6]) for game in found] + [64]
+    found.append([NAMES.index(square) for square in "E6 F4 E3 F6 G5 D6 E7 F5 C5".split()])
+    published = [it ^ (at in (3, 11, 20)) for at, it in enumerate(exact)]
     write("WTH_2001.wtb", wthor(list(map(record, found, published)), empties=6))
     code = textwrap.dedent(inspect.getdoc(ffosolve.read_games).split(":\n\n")[1])
     printed = io.StringIO()
     with contextlib.redirect_stdout(printed):
         exec(code, {"Solver": Solver, "read_games": ffosolve.read_games})
-    assert printed.getvalue() == f"4 {published[3]}\n12 {published[11]}\n"
+    assert printed.getvalue() == f"4 {published[3]}\n12 {published[11]}\n21 65\n"
 
 
 @pytest.mark.parametrize("count, why", ((2, "the file ends"), (0, "the file goes on")))

@@ -96,6 +96,9 @@ BY_NAME = "takes WTHOR files by their names, not standard input"
     ("compare text it.wtb --real", "--real goes with --fix"),
     ("compare text it.wtb --jobs=2", f"--jobs goes with check, {FIRST}"),
     ("it.wtb --folder=new", f"--folder goes with check, {FIRST}"),
+    *((f"it.wtb {it}=1", f"{it} goes with check, {FIRST}") for it in ("--max-empties", "--lines")),
+    ("check it.wtb --max-empties=61", "--max-empties: takes a number from 0 to 60, not '61'"),
+    *((f"check it.wtb --lines={it}", f"--lines: takes a number from 1 to 10000, not '{it}'") for it in ("0", "10001")),
     ("check", "check takes WTHOR files"),
     ("check it.wtb --cut --fix new.wtb", "--fix does not go with --cut"),
 ))

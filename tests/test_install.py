@@ -1,6 +1,7 @@
 """make install, uninstall and library in a built copy of the checkout; make constants; manual pages, completions."""
 import os
 import re
+import shlex
 import shutil
 import stat
 from pathlib import Path
@@ -9,7 +10,8 @@ from unittest import mock
 import pytest
 
 from tests.prefix import (
-    FIRST, FIRST_OBF, LEVELS, LONGEST, NUMBER, VERSION, copied_checkout, files_below, names_of_files, path_without)
+    FIRST, FIRST_OBF, LEVELS, LONGEST, NUMBER, VERSION, completed_by_zsh, copied_checkout, files_below, names_of_files,
+    path_without)
 from tests.support import NOBODY, ROOT, ends, is_v3, lack, need, run, stored, write
 
 PREFIX = "/opt/a prefix"
@@ -53,6 +55,13 @@ def place(checkout, folder):
         yield Place(checkout, folder / "stage")
 
 
+@pytest.fixture(scope="module")
+def root(checkout, shared_folder):
+    """The folder of a prefix, one for all tests that change nothing there."""
+    run("make", "-s", "-C", checkout, "install", f"PREFIX={shared_folder}/a prefix", check=True)
+    return shared_folder / "a prefix"
+
+
 def refused(ran, words):
     """Asserts that make failed without output, and that the first of one or two error lines contains `words`."""
     assert (ran.returncode, ran.stdout) == (2, ""), ran
@@ -85,18 +94,21 @@ def test_everything_is_installed_for_everybody(place):
     (f"{PREFIX}/bin", f"{PREFIX}/lib", f"{PREFIX}/include"), (f"{PREFIX}/b/b", f"{PREFIX}/lib/here", f"{PREFIX}/i"),
 ))
 def test_in_other_folders_everything_is_found(place, bins, libs, include):
-    """The scripts find package and library, and the files for pkg-config and CMake name the folder of the header."""
+    """The scripts find package and library without the documents, too, and the files for pkg-config and CMake name the
+    folder of the header. pkg-config names no folder of the system."""
     need("pkg-config")
     place.install(f"BINDIR={bins}", "MANDIR=/m", f"LIBDIR={libs}", f"INCLUDEDIR={include}")
+    flags = [f"-{letter}{folder}" for letter, folder in zip("IL", (include, libs)) if not folder.startswith("/usr/")]
     bins, libs, include = (Path(f"{place.stage}{folder}") for folder in (bins, libs, include))
     for name in (bins / "ffosolve", libs / "libffosolve.a", include / "ffosolve.h", place.stage / "m/man1/ffosolve.1"):
         assert name.is_file()
-    assert run(bins / "ffosolve-many", "--help").returncode == 0
+    shutil.rmtree(place.root / "share/doc")
+    ends((0, FIRST, ""), bins / "ffosolve-many", "--quiet", "work", FIRST_OBF)
     ran = run(bins / "ffosolve-games", "--empties=59", input=b"f5")
     assert (ran.returncode, ran.stdout[64:]) == (0, b" O; % -, game 1\n"), ran
     os.environ["PKG_CONFIG_PATH"] = f"{libs}/pkgconfig"
-    ran = run("pkg-config", "--cflags", "ffosolve", text=True)
-    assert os.path.samefile(ran.stdout.strip()[2:].replace("\\ ", " "), include), ran
+    ran = run("pkg-config", "--cflags", "--libs", "ffosolve", text=True)
+    assert shlex.split(ran.stdout) == [*flags, "-lffosolve"], ran
     named = re.search('_libraries}(/.*)"', (libs / "cmake/ffosolve/ffosolve-config.cmake").read_text())[1]
     assert os.path.samefile(f"{libs}{named}", include)
 
@@ -219,40 +231,30 @@ def test_libffosolve_a_is_for_the_lower_level(place):
             assert (ran.returncode == 0, ran.stdout.splitlines()[:4] == wanted) == (is_for, is_for), ran
 
 
-def test_the_loader_picks_the_library_of_the_best_level(place):
+def test_the_loader_picks_the_library_of_the_best_level(root, monkeypatch):
     need("qemu-x86_64", "readelf")
-    place.install()
     for level, lib in zip(LEVELS, ("lib", "lib/glibc-hwcaps/x86-64-v3")):
-        library = place.root / lib / "libffosolve.so"
+        library = root / lib / "libffosolve.so"
         assert re.search(rf"ISA needed: .*{level}\n", run("readelf", "-n", library, text=True).stdout)
-    os.environ["LD_LIBRARY_PATH"] = str(place.root / "lib")
+    monkeypatch.setenv("LD_LIBRARY_PATH", str(root / "lib"))
     list_libraries = ("/lib64/ld-linux-x86-64.so.2", "--preload", "libffosolve.so.1", "--list", "/usr/bin/true")
     for words, lib in ((), "lib/glibc-hwcaps/x86-64-v3" if is_v3() else "lib"), (LESSER, "lib"):
         ran = run(*words, *list_libraries, text=True)
-        assert f"libffosolve.so.1 => {place.root}/{lib}/libffosolve.so.1 " in ran.stdout, ran
+        assert f"libffosolve.so.1 => {root}/{lib}/libffosolve.so.1 " in ran.stdout, ran
 
 
-def test_ffosolve_many_runs_without_the_documents(place):
-    place.install()
-    shutil.rmtree(place.root / "share/doc")
-    os.environ["PATH"] = f"{place.root}/bin:/usr/bin:/bin"
-    ends((0, FIRST, ""), "ffosolve-many", "--quiet", "work", FIRST_OBF)
-
-
-def test_programs_pages_library_and_texts_have_the_version_of_the_file_version(place):
-    place.install()
+def test_programs_pages_library_and_texts_have_the_version_of_the_file_version(root):
     assert re.search(r"\A\d+\.\d+\.\d+\Z", VERSION)
     for name in COMMANDS:
-        ends((0, f"{name} {VERSION}\n", ""), place.root / "bin" / name, "--version")
-        page = (place.root / f"share/man/man1/{name}.1").read_text()
+        ends((0, f"{name} {VERSION}\n", ""), root / "bin" / name, "--version")
+        page = (root / f"share/man/man1/{name}.1").read_text()
         assert page.startswith(f'.TH {name.upper()} 1 "" "ffosolve {VERSION}"'), page[:99]
-    for place, text in (
-        (place.root / "include/ffosolve.h", f'_VERSION_TEXT "{VERSION}"\n#define FFOSOLVE_VERSION {NUMBER}\n'),
-        (place.root / "lib/cmake/ffosolve/ffosolve-config-version.cmake", f'set(PACKAGE_VERSION "{VERSION}")\n'),
-        (ROOT / "rust/Cargo.toml", f'\nversion = "{VERSION}"\n'),
+    for path, text in (
+        (root / "include/ffosolve.h", f'_VERSION_TEXT "{VERSION}"\n#define FFOSOLVE_VERSION {NUMBER}\n'),
+        (root / "lib/cmake/ffosolve/ffosolve-config-version.cmake", f'set(PACKAGE_VERSION "{VERSION}")\n'),
         (ROOT / "CHANGELOG.md", f"\n## [{VERSION}] - "),
     ):
-        assert text in place.read_text(), place
+        assert text in path.read_text(), path
 
 
 def test_make_constants_writes_what_files_repeat(place):
@@ -267,12 +269,12 @@ def test_make_constants_writes_what_files_repeat(place):
         ("VERSION", (VERSION, "1.12.3"), (f"{NUMBER:_}", "11_203")),
         (table, (entries, "1_234_567"), (entries.replace("_", ","), "1,234,567")),
         (settings, *((form.format(empties), form.format(7)) for form in (
-            "u8 = {}", '"{}"', "0 to 60 | {} |", "EMPTIES: usize = {}", "max_empties: int = {}",
+            "u8 = {}", '"{}"', "0 to 60 [default: {}]", "EMPTIES: usize = {}", "max_empties: int = {}",
             " empties, limit {}", "takes positions with up to {} "))),
         (settings, *((form.format(workers), form.format(9)) for form in (
-            "WORKERS: u8 = {}", 'TEXT: &str = "{}"', "beyond one in all) | {} |"))),
+            "WORKERS: u8 = {}", 'TEXT: &str = "{}"', "same [default: {}]"))),
         (settings, (f"u32 = {size}", "u32 = 123_456"), (size.replace("_", '') + '"', '123456"'),
-         (f"bytes each | {size.replace('_', ',')} |", "bytes each | 123,456 |")),
+         (f"each [default: {size.replace('_', '')}]", "each [default: 123456]")),
     ):
         for name in ("Makefile", "packaging/packages.mk", "VERSION", table, settings, *others):
             write(name, stored(name))
@@ -296,37 +298,6 @@ $(complete -p "${0##*/}" | cut -d " " -f 3) "$0" "${!#}" "${COMP_WORDS[COMP_CWOR
 printf "%s\n" "${COMPREPLY[@]}"
 """
 FISH = "fish", "-N", "-c", 'source $SHARE/fish/vendor_completions.d/(basename $argv[1]).fish; complete -C "$argv"'
-# Completes each line of the file `asked`, and appends the result to the file `completed`.
-ZSHRC = """
-autoload -Uz compinit; compinit -u -d $ZDOTDIR/dump
-zle-line-init() {
-    for line in ${(f)"$(<$ZDOTDIR/asked)"}; do
-        BUFFER=$line CURSOR=$#line
-        zle menu-complete
-        print -r -- $BUFFER >>$ZDOTDIR/completed
-    done
-    exit
-}
-zle -N zle-line-init
-"""
-
-
-def completed_by_zsh(lines, before="", start=run):
-    """Returns what each of `lines` is with the first completion that zsh offers, if any. It runs the line `before` on a
-    terminal, since only its line editor completes words. `start` runs a command."""
-    own = Path(".zsh").absolute()
-    write(own / "asked", "\n".join(lines))
-    write(own / ".zshrc", before + ZSHRC)
-    variables = ("PATH=/usr/bin:/bin", f"ZDOTDIR={own}", "TERM=dumb")
-    assert start("env", "-i", *variables, "script", "-qec", "zsh -i", "/dev/null", timeout=LONGEST).returncode == 0
-    return [line.strip() for line in (own / "completed").read_text().splitlines()]
-
-
-@pytest.fixture(scope="module")
-def root(checkout, shared_folder):
-    """The folder of a prefix, which is one for all tests of manual pages and completions."""
-    run("make", "-s", "-C", checkout, "install", f"PREFIX={shared_folder}/a prefix", check=True)
-    return shared_folder / "a prefix"
 
 
 @pytest.fixture
@@ -386,17 +357,22 @@ def offered(*words):
 @pytest.mark.parametrize("shell, words, wanted", (
     (BASH, ["--scoring", "=", "d"], "discs"), (FISH, ["--scoring=d"], "--scoring=discs")), ids=("bash", "fish"))
 def test_a_shell_completes_options_values_files_and_commands(texts, shell, words, wanted):
+    """Fish also describes each option in all words of the help."""
     if shell is BASH and not Path("/usr/share/bash-completion/bash_completion").exists():
         lack("bash_completion (Debian: bash-completion)")
     files = sorted(path.name for path in Path().glob("fi*"))
     for name in (*COMMANDS, "bin/ffosolve"):
-        assert [*offered(*shell, name, "--")] == [*options_of(texts, Path(name).name)]
+        options, described = options_of(texts, Path(name).name), offered(*shell, name, "--")
+        assert described == (options if shell is FISH else dict.fromkeys(options, ""))
         assert [*offered(*shell, name, "fi")] == files
+        assert [*offered(*shell, name, "--table", "")] == []
     assert [*offered(*shell, "ffosolve", *words)] == [wanted]
     assert [*offered(*shell, "ffosolve", "--sco")] == ["--scoring"]
     assert [*offered(*shell, "ffosolve", "--book-in", "fi")] == files
+    assert [*offered(*shell, "ffosolve", "--complete", "fi")] == files
     for name in ("ffosolve", "ffoscores", "ffosolve-many"):
-        assert [*offered(*shell, name, "--scoring", "")] == ["discs", "sign", "winner"]
+        values, = re.findall(r"--scoring .*\[possible values: (.*)\]", help_of(texts, name))
+        assert [*offered(*shell, name, "--scoring", "")] == sorted(values.split(", ")) == ["discs", "sign", "winner"]
         assert [*offered(*shell, name, "--scoring", "d")] == ["discs"]
     assert {*offered(*shell, "ffosolve-games", "c")} - {"c", "c/"} == {"check", "compare"}
     assert {*offered(*shell, "ffosolve-games", "compare", "c")} <= {"c", "c/"}
@@ -404,20 +380,22 @@ def test_a_shell_completes_options_values_files_and_commands(texts, shell, words
     assert {*offered(*shell, "ffosolve-many", "c")} <= {"c", "c/"}
 
 
-def test_fish_describes_each_option_in_all_words_of_the_help(texts):
-    for name in COMMANDS:
-        assert offered(*FISH, name, "--") == options_of(texts, name)
-
-
-def test_zsh_completes_options_values_files_and_commands(texts):
+def test_zsh_completes_options_values_files_and_commands_and_describes_options_in_all_words_of_the_help(texts):
     need("zsh")
-    lines = {"ffosolve --sco": "ffosolve --scoring", "ffosolve --scoring=d": "ffosolve --scoring=discs",
-             "ffosolve --": "ffosolve --book-in", "ffoscores --": "ffoscores --complete",
-             "ffoscores --scoring w": "ffoscores --scoring winner", "bin/ffosolve --sco": "bin/ffosolve --scoring",
+    lines = {"ffosolve --sco": "ffosolve --scoring=", "ffosolve --scoring=d": "ffosolve --scoring=discs",
+             "ffosolve --": "ffosolve --book-in=", "ffoscores --": "ffoscores --complete",
+             "ffoscores --scoring w": "ffoscores --scoring winner", "bin/ffosolve --sco": "bin/ffosolve --scoring=",
              "ffosolve --book-in fir": "ffosolve --book-in first.book", "ffosolve kinds.o": "ffosolve kinds.obf",
+             "ffosolve --complete kinds.o": "ffosolve --complete kinds.obf", "ffosolve --table k": "ffosolve --table k",
              "ffosolve-games com": "ffosolve-games compare", "ffosolve-games che": "ffosolve-games check",
              "ffosolve-games compare com": "ffosolve-games compare com", "ffosolve-many com": "ffosolve-many com",
              "ffosolve-games compare --re": "ffosolve-games compare --real",
-             **{f"{name} {option}": f"{name} {option}" for name in COMMANDS for option in options_of(texts, name)}}
+             "ffosolve-many --jobs k": "ffosolve-many --jobs k", "ffosolve-games --lines k": "ffosolve-games --lines k"}
     before = f"fpath=('{texts}/share/zsh/site-functions' $fpath)"
-    assert completed_by_zsh(lines, before=before) == list(lines.values())
+    assert completed_by_zsh(lines, before=before)[0] == list(lines.values())
+    for name in COMMANDS:
+        shown = completed_by_zsh([f"{name} --"], before=before)[1]
+        described = dict(re.findall(r"^(--\S+) +-- (.*?)\s*$", shown, re.M))
+        options = options_of(texts, name)
+        assert described == {option: text for option, text in options.items() if text}
+        assert {*options} <= {*re.findall(r"--[a-z-]+", shown)}

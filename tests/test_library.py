@@ -12,9 +12,10 @@ import pytest
 import ffosolve
 from ffosolve._refusals import REFUSALS, OtherRefusal
 from tests.games import random_positions
-from tests.prefix import CXX, LONGEST, NUMBER, PREFIX, STRICT, TESTS, VERSION, C, installed  # noqa: F401 - a fixture
+from tests.prefix import CXX, LONGEST, NUMBER, PREFIX, STRICT, TESTS, VERSION, C
 from tests.support import built, limited, need, preload, run, stored, worked_rows
 
+pytestmark = pytest.mark.usefixtures("installed")
 COMPILERS = [*itertools.product(("cc", "clang"), ("c90", "c99", "c11", "c17", "c2x"), ("c",)),
              *itertools.product(("c++", "clang++"), ("c++11", "c++14", "c++17", "c++20"), ("cpp",))]
 PROGRAM = """#include "ffosolve.h"
@@ -114,7 +115,6 @@ def test_a_status_has_one_name_number_and_text_in_each_language():
     source = "".join(f"int {name}(void) {{ static int status; return ++status; }}\n" for name in PREFIX.calls)
     program = PREFIX.rust_client_of("statuses", STATUSES_IN_RUST, source)
     of_calls = {number: REFUSALS[number].reason for number in (1, 2, 4, 6, 7, 12)}
-    of_calls[5] = "position at index 0: more empty squares than the solver takes"
     of_lines = {number: REFUSALS[number]().reason for number in (7, 8, 9, 10, 11)}
     for number, in_rust in enumerate(PREFIX.make(program).stdout.splitlines(), 1):
         other = OtherRefusal(number).reason
@@ -246,6 +246,7 @@ def text():
     return b"\n".join(lines)
 
 
+@pytest.mark.filterwarnings("ignore::ffosolve.ReadingWarning")
 def test_python_and_c_read_worked_and_odd_lines_alike(text):
     worked = {number: cell.decode() for number, cell in enumerate(COLUMNS["read"], 1) if cell}
     for lines, wanted in ((b"\n".join(LINES), worked), (text, read(text, row))):
@@ -255,6 +256,7 @@ def test_python_and_c_read_worked_and_odd_lines_alike(text):
         assert {number: words for number, words in enumerate(printed, 1) if words != "8"} == read(lines, in_c)
 
 
+@pytest.mark.filterwarnings("ignore::ffosolve.ReadingWarning")
 def test_the_report_of_odd_lines_is_what_python_finds(text):
     ran = run(built(), "--max-empties=20", input=text, check=True, timeout=LONGEST)
     report = ran.stdout.decode().splitlines()[1:-1]

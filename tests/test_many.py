@@ -1,6 +1,7 @@
 """ffosolve-many prints what one run of ffosolve or ffoscores prints; its command line, merged books and progress."""
 import os
 import re
+import subprocess
 import sys
 import time
 import types
@@ -12,10 +13,8 @@ import pytest
 from ffosolve import _command_line
 from ffosolve._many import books, engine, folder
 from tests.many import ACTING, BOARD, WORDS, files
-from tests.support import (NOBODY, ROOT, SECONDS, cannot_write, ends, limited, positions, run, stored, worked_rows,
-                           write)
-
-pytest_plugins = ["tests.many"]
+from tests.support import (NOBODY, ROOT, SECONDS, cannot_write, ends, limited, positions, run, stored, wait_until,
+                           worked_rows, write)
 
 
 def test_report_and_book_are_those_of_one_run(case):
@@ -28,12 +27,9 @@ def test_report_and_book_are_those_of_one_run(case):
     case.many("work", "list.obf", message=": 1 line in 1 part, 0 of them")
 
 
-def test_a_checkout_has_the_program_that_its_wrapper_runs(case):
+def test_the_program_is_found_in_a_checkout_and_through_a_link_and_names_may_have_blanks_or_not_be_utf_8(case):
     case.many("work", "list.obf", by=ROOT / "bin/ffosolve-many")
     assert stored("out/ffosolve") in [path.read_bytes() for path in Path("work").glob("program-*")]
-
-
-def test_the_program_is_found_through_a_link_and_names_may_have_blanks_or_not_be_utf_8(case):
     os.symlink(case.ACTS, "link")
     for name, *place in ("a  list;$x'.obf", "a folder ;'$y"), (os.fsdecode(b"\xff.obf"),):
         os.rename("list.obf", name)
@@ -52,7 +48,8 @@ def test_options_stand_anywhere_and_reach_the_program_of_each_part(case):
         case.many(*mode, f"work {words}", "--lines=20", "list.obf", *words.split(), "--jobs", 2, output=output,
                   by=case.ACTS, places={"WORDS": f"{case.folder}/words"})
         # The program is run for a line that it refuses, with its limit; then for a known line and three parts.
-        runs = [f"{given.removeprefix(limit)} /dev/stdin", *[given] * 4]
+        book = "" if mode else " --book-out=/dev/stderr"
+        runs = [f"{given.removeprefix(limit)} /dev/stdin", *[given + book] * 4]
         assert Path("words").read_text().splitlines() == runs
         Path("words").unlink()
     case.write_list(case.SMALL, "--scoring=sign")
@@ -69,17 +66,14 @@ def test_the_limit_of_empty_squares_is_by_default_that_of_the_program(case):
     case.refused(2, "work was begun with --max-empties 3: use another folder", *WORDS)
 
 
-def test_a_program_may_be_late_to_read_a_large_part(case):
-    case.write_list(case.SMALL * 17)
-    case.many("list.obf", by=case.install("late", script='#!/bin/sh\nsleep 1\nexec "@real@" "$@"\n'))
-
-
 def test_lines_of_each_kind_and_none_at_all_are_solved(case):
     kinds, blank = stored("examples/kinds.obf"), b"\r\n \t\n\t % X\n% no end of the last line\n\r\r\n \r\n"
     whole, best = kinds + blank + kinds.rstrip(b"\n"), b"\n".join(worked_rows("ffosolve/best")[0])
     for text, lines, *words in (whole, 4), (whole, 1000), (b"", 4), (best, 4, "--complete"):
         case.write_list(text, *words)
         case.many("--lines", lines, *words, f"work {len(text)} {lines}", "list.obf", "--book-out", "joined.book")
+    case.write_list(case.SMALL * 17)  # a large part, which the program may read late
+    case.many("list.obf", by=case.install("late", script='#!/bin/sh\nsleep 1\nexec "@real@" "$@"\n'))
 
 
 def test_scores_and_status_are_those_of_one_run(case):
@@ -127,6 +121,8 @@ def test_a_book_goes_through_a_link_or_into_a_pipe_and_a_file_keeps_its_permissi
     case.many(*WORDS[:-1], "pipe")
     assert Path("pipe").is_fifo()
     assert reader.communicate(timeout=SECONDS)[0] == Path("one.book").read_bytes()
+    case.folder.chmod(0o777)
+    ends((0, None, b""), case.MANY, "--quiet", *WORDS[:-1], os.devnull, stdout=subprocess.DEVNULL, **NOBODY)
 
 
 def test_a_book_that_cannot_be_written_keeps_its_old_content(case):
@@ -135,11 +131,8 @@ def test_a_book_that_cannot_be_written_keeps_its_old_content(case):
     case.many(*WORDS, status=3, output=case.one, preexec_fn=limited(RLIMIT_FSIZE=1000),
               message="ffosolve-many: cannot write joined.book: File too large\n")
     assert Path("joined.book").read_text() == "% ffobook 2 winner\n"
-
-
-def test_a_book_that_may_not_be_written_is_not_replaced(case):
     case.folder.chmod(0o777)
-    write("joined.book", "% ffobook 2 winner\n", 0o444)
+    os.chmod("joined.book", 0o444)
     case.refused(3, "cannot write joined.book: permission denied\n", *WORDS, **NOBODY)
     Path("joined.book").unlink()
     printed = "    print_all(run.output())\n"  # at the same time, the book is made
@@ -152,7 +145,7 @@ def test_a_book_that_may_not_be_written_is_not_replaced(case):
 
 def test_progress_rises_in_a_log_and_on_a_terminal(case):
     by = case.install("often", ("engine", "(1 if is_terminal else 60)", "(0.1 if is_terminal else 0.3)"),
-                      ("engine", "due = now + (1 if progress.running else 0.2)", "due = now + 0.1"), script=ACTING)
+                      ("engine", "due = now + (1 if sent else 0.2)", "due = now + 0.1"), script=ACTING)
     for place, shell in (("log", ("sh", "-c")), ("terminal", ("script", "/dev/null", "-qec"))):
         command = f"'{by}' --jobs=2 --lines=6 {place} list.obf >report"
         ran = run(*shell, command, env={**os.environ, "PAUSE": "0.3", "SHELL": "/bin/sh"})
@@ -161,7 +154,7 @@ def test_progress_rises_in_a_log_and_on_a_terminal(case):
         counts = [*map(int, re.findall(r"\d+%, .*?(?:1|no) machine at work, parts (\d+) of 10", lines))]
         is_one_line = "\033" in lines and lines.count("\n") == 1  # the first, then one that changes
         assert (counts, is_one_line) == (sorted(counts), place == "terminal")
-        assert len(set(counts)) > 2, lines
+        assert len(set(counts)) > 2 and "%, 0:00:0" in lines, lines
     assert case.many("--quiet", "--lines=6", "list.obf", by=by, places={"PAUSE": "0.3"}) == ""
 
 
@@ -173,6 +166,9 @@ def test_output_that_fails_is_reported_and_closed_or_full_errors_do_no_harm(case
     case.many("list.obf", message=", 1 of them solved before")
     for place, streams in enumerate(("<&- 2>&-", "2>/dev/full", "2>&-")):
         case.many("-c", f'exec "{case.MANY}" {place} list.obf {streams}', by="sh")
+    ran = case.start("sh", "-c", 'exec "$0" work list.obf <&- 2>&-', case.ACTS, env={**os.environ, "PAUSE": "45"})
+    wait_until(lambda: Path("work/task").exists())
+    assert {os.readlink(f"/proc/{ran.pid}/fd/{number}") for number in (0, 2)} == {os.devnull}
 
 
 @pytest.mark.parametrize("count, limits, who", [("2. of 300", {"RLIMIT_NOFILE": 256}, {}),
@@ -193,6 +189,8 @@ REFUSED = [
     (3, "cannot write /proc/work: No such file or directory", "/proc/work", "list.obf"),
     (2, "'-x' is not an option; a file of that name is ./-x", "-x"),
     (2, "'-' has no folder of its own: name a FOLDER before it", "-"),
+    (2, "'pipe' has no folder of its own: name a FOLDER before it", "pipe"),
+    (2, "' has no folder of its own: name a FOLDER before it", "x" * 250),
     (3, "cannot read .: Is a directory", "."),
     (2, "'--line' is not an option", "--line", "5", "list.obf"),
     (2, "'-rf *' is not an option", "-rf *", "list.obf"),
@@ -209,8 +207,8 @@ REFUSED = [
     (2, "--cut is not an option of --scheduler", "list.obf", "--scheduler=tcp://h1:8786", "--cut"),
     (2, "--book-out out is standard output", "list.obf", "--book-out", "out"),
     (2, "--book-out ./list.obf is the list", "list.obf", "--book-out", "./list.obf"),
-    (3, "cannot write none/book", "list.obf", "--book-out", "none/book"),
-    (3, "cannot write /proc/book", "list.obf", "--book-out", "/proc/book"),
+    (3, "cannot write none/book: no such file or folder", "list.obf", "--book-out", "none/book"),
+    (3, "cannot write /proc/book: no such file or folder", "list.obf", "--book-out", "/proc/book"),
     (3, "cannot write .: it is a folder", "list.obf", "--book-out", "."),
     (3, "link is not a book and would be overwritten", "list.obf", "--book-out", "link"),
     (2, r"--book-out: $'not\xff' is empty or not UTF-8", "list.obf", "--book-out", b"not\xff"),
@@ -224,6 +222,13 @@ REFUSED = [
     (2, "--merge-books needs the name of a book", "--merge-books"),
     (2, "--lines is not an option of --merge-books", "--merge-books", "--lines=5", "one.book"),
     (3, "cannot read none.book: No such file or directory", "--merge-books", "one.book", "none.book"),
+    # in the words of the program
+    (2, "'61'", "work", "list.obf", "--max-empties", "61"),
+    (2, "'x'", "work", "list.obf", "--workers=x"),
+    (2, "'99999999'", "work", "list.obf", "--table=99999999"),
+    (2, "'a;b' for '--scoring <NAME>': [possible values: winner, discs, sign]: For more information, ",
+     "work", "list.obf", "--scoring", "a;b"),
+    (3, "book line 1: bad square", "work", "list.obf", "--book-in=bad.book"),
 ]
 
 
@@ -231,8 +236,10 @@ REFUSED = [
 def test_wrong_command_lines_are_refused(case, status, message, words):
     for name in ("two.obf", "kept", b"not\xff"):
         write(os.fsdecode(name), case.SMALL)
+    write("bad.book", b"?\n")
     os.symlink("kept", "link")
     os.symlink("/proc/self/fd/1", "out")
+    os.mkfifo("pipe")
     case.refused(status, message, *words)
 
 
@@ -256,14 +263,14 @@ def test_files_that_may_not_be_read_or_written_are_named(case):
     case.many("open/work", "list.obf", by=many, status=3, message=f"cannot read {build}: Permission denied\n", **NOBODY)
 
 
-def test_what_the_program_refuses_is_refused_in_its_words(case):
-    write("bad.book", b"?\n")
-    scorings = "'a;b' for '--scoring <NAME>': [possible values: winner, discs, sign]: For more information, "
-    for status, message, *words in ((2, "'61'", "--max-empties", 61), (2, scorings, "--scoring", "a;b"),
-                                    (2, "'x'", "--workers=x"), (2, "'99999999'", "--table=99999999"),
-                                    (3, "book line 1: bad square", "--book-in=bad.book")):
-        case.many("work", "list.obf", *words, status=status, message=message)
-        assert not Path("work").exists()
+def test_the_program_of_the_highest_level_that_works_here_solves_the_parts(case):
+    by = case.install("levels")
+    for level, works in ((2, True), (3, True), (4, False)):
+        end = f'exec "{by.parent}/ffosolve" "$@"' if works else "kill -s ILL $$"
+        script = f'#!/bin/sh\necho {level} >>"{case.folder}/ran"\n{end}\n'
+        write(by.parent.parent / f"lib/ffosolve/ffosolve-x86-64-v{level}", script)
+    case.many("--jobs=1", *WORDS, by=by)
+    assert Path("ran").read_text().split() == ["4", *"3" * 4]
 
 
 def test_help_and_version_are_printed_whatever_else_is_given(case):
@@ -288,7 +295,7 @@ def test_missing_or_wrong_programs_and_tools_are_named(case):
         by.with_name(name).unlink()
         case.refused(4, f"{name} is missing: it has to be next to ffosolve-many", *words, "list.obf", by=by)
     places = {"PATH": os.environ["PATH"].partition(":")[0]}  # which has only Python
-    case.refused(4, "setpriv is not on the path: apt-get install util-linux", "work", "list.obf", places=places)
+    case.refused(4, "choom or setpriv is not on the path: apt-get install ", "work", "list.obf", places=places)
 
 
 def test_output_onto_the_list_or_the_book_is_refused(case):
@@ -312,6 +319,11 @@ def test_merged_books_are_the_book_of_all(case):
     case.many("b.book", "a.book", "a.book", "--merge-books", "--book-out", "a.book", output=b"")
     case.same_book("a.book")
     assert run(case.MANY.with_name("ffosolve"), "--book-in=a.book", "list.obf").stdout == case.one
+    write("mine.book", b"% my own\n\n " + BOARD[::-1].lower() + b"\tb; h8:+52; a8:62 % why\r\n")  # in another spelling
+    first = ROOT / "examples/first.book"
+    case.many("--merge-books", "mine.book", first, output=first.read_bytes())
+    by = case.install("misprinting", ("command", "book\", whole)", "book\", whole + b'no entry\\n')"))
+    case.many("--merge-books", "one.book", by=by, status=3, message="the merged book: book line 62: bad square")
 
 
 def test_more_books_than_may_be_open_are_merged_and_the_program_runs_once(case):
@@ -324,17 +336,6 @@ def test_more_books_than_may_be_open_are_merged_and_the_program_runs_once(case):
     assert Path("words").read_text().count("--book-in=") == 1
     other = header + b"% X\n" + entries[30][:64] + entries[30][64:].translate(bytes.maketrans(b"+-", b"-+"))
     case.refused(3, "30.book line 2 and - line 3 disagree: ", "--merge-books", *names, "-", input=other, **few)
-
-
-def test_a_book_in_another_spelling_is_merged(case):
-    write("mine.book", b"% my own\n\n " + BOARD[::-1].lower() + b"\tb; h8:+52; a8:62 % why\r\n")
-    first = ROOT / "examples/first.book"
-    case.many("--merge-books", "mine.book", first, output=first.read_bytes())
-
-
-def test_the_merged_book_is_checked_before_it_is_written(case):
-    by = case.install("misprinting", ("command", "book\", whole)", "book\", whole + b'no entry\\n')"))
-    case.many("--merge-books", "one.book", by=by, status=3, message="the merged book: book line 62: bad square")
 
 
 def test_books_that_cannot_be_merged_are_named(case):
@@ -372,7 +373,8 @@ def test_an_entry_of_a_book_has_the_greatest_score_of_its_line_and_the_moves_wit
 TOOK = (0.010, 0.278, 0.010, 0.223, 0.028, 0.331, 0.060, 0.105, 0.138, 1.174, 0.240, 0.010, 0.173, 0.014, 0.264,
         0.031, 0.364, 0.055, 0.342, 0.058, 0.181, 0.220, 0.007, 0.177, 0.009, 0.164, 0.016, 0.148, 0.026, 0.172,
         0.156, 0.481, 0.305, 0.008, 0.222, 0.007, 0.472, 0.008, 0.220, 0.029, 0.158, 0.201, 0.105, 0.263)
-FULL = b"X" * 64 + b" X\n"  # a line of weight 1
+# Each a list in parts, with the seconds that each part took: 100 easy lines in a part, then hard ones; and vice versa.
+EASY, HARD = [(positions(100, 2, 2), 0.008)] * 200, [(positions(1, 18, 18), 0.20)] * 40
 
 
 @pytest.fixture
@@ -383,40 +385,44 @@ def clock(monkeypatch):
     return clock
 
 
-def progress(texts, lines=1):
-    """Returns an engine.Progress (what is left to do) for parts of a list, `texts`, each taken as `lines` lines."""
+def progress(weights, lines=1):
+    """Returns an engine.Progress (what is left to do) for parts with these weights, each of `lines` lines."""
     one = folder.Run.__new__(folder.Run)
-    one.statuses, one.count = {}, len(texts) * lines
-    weights = [folder.weight_of(folder.FRONT.findall(text), 20) for text in texts]
+    one.statuses, one.count = {}, len(weights) * lines
     one.parts = [folder.Part(number, 0, 0, 1 + number * lines, lines, 0, "", weight)
                  for number, weight in enumerate(weights)]
-    return engine.Progress(one)
+    return engine.Progress(one, types.SimpleNamespace(running={}, trouble=""))
 
 
-def at_work(one, hosts):
-    """Sets which parts are at work, and on which hosts, of two threads: {part: host}."""
-    machines = {host: engine.Machine(host, host, 2) for host in hosts.values()}
-    one.running = {number: one.running.get(number, (one.run.parts[number], machines[host], time.monotonic()))
-                   for number, host in hosts.items()}
+def at_work(one, hosts, ended={}):
+    """Sets which parts are at work: {part: its host, of two threads}; and which have ended: {part: seconds}."""
+    one.run.statuses.update(dict.fromkeys(ended, 0))
+    one.done += sum(one.run.parts[number].weight for number in ended)
+    one.seconds += sum(ended.values())
+    running = one.engine.running
+    one.engine.running = {number: running.get(number, (host, time.monotonic())) for number, host in hosts.items()}
+    one.engine.threads = 2 * len({*hosts.values()})
 
 
-def test_the_time_left_is_known_within_a_factor_of_two_from_a_tenth_of_the_work_on(clock):
+@pytest.mark.parametrize("order", ["mixed", "easy first", "hard first"])
+def test_the_time_left_is_known_within_a_factor_of_two_from_a_tenth_of_the_work_on(clock, order):
     lines, ends = positions(264, 8, 18, 3).splitlines(keepends=True), []
-    one = progress([b"".join(lines[at:at + 6]) for at in range(0, 264, 6)], 6)
-    waiting, running, whole = list(range(44)), {}, one.work
-    while one.parts:
+    mixed = zip([b"".join(lines[at:at + 6]) for at in range(0, 264, 6)], TOOK)
+    texts, took = zip(*(mixed if order == "mixed" else EASY + HARD if order == "easy first" else HARD + EASY))
+    one = progress([folder.weight_of(folder.FRONT.findall(text), 20) for text in texts], 6)
+    waiting, running, whole = list(range(len(took))), {}, sum(part.weight for part in one.run.parts)
+    while one.run.unsolved():
         while waiting and len(running) < 2:
             running[waiting.pop(0)] = clock.now
         at_work(one, dict.fromkeys(running, "here"))
-        clock.now, number = min((since + TOOK[number], number) for number, since in running.items())
+        clock.now, number = min((since + took[number], number) for number, since in running.items())
         del running[number]
-        one.end(one.run.parts[number], TOOK[number])
-        at_work(one, dict.fromkeys(running, "here"))
+        at_work(one, dict.fromkeys(running, "here"), {number: took[number]})
         if one.done < whole / 10:
-            assert "left" not in one.text("")
-        elif one.parts:
+            assert "left" not in one.text()
+        elif one.run.unsolved():
             ends.append(clock.now + one.left())
-            assert re.search(r"^[0-9]+%, 0:[0-9:]+ left, ", one.text(""))
+            assert re.search(r"^[0-9]+%, 0:[0-9:]+ left, ", one.text())
     assert len(ends) > 30
     for end in ends:
         assert 0.5 < end / clock.now < 2, (end, clock.now)
@@ -428,32 +434,32 @@ LOST = [(0, {}, {0: "h1", 1: "h2"}), (100, {0: 100}, {1: "h2", 2: "h1"}), (190, 
 
 @pytest.mark.parametrize("parts, lines, times, text", [
     # The last two parts would take 150 seconds if two machines could share a part.
-    ([FULL, FULL, 10 * FULL, FULL], 1, [(0, {}, {0: "h1", 2: "h2"}), (30, {0: 30, 3: 30}, {1: "h1", 2: "h2"})],
+    ([1, 1, 10, 1], 1, [(0, {}, {0: "h1", 2: "h2"}), (30, {0: 30, 3: 30}, {1: "h1", 2: "h2"})],
      "50%, 0:04:30 left, 2 machines at work, parts 2 of 4"),
-    (10 * [FULL], 1, [(0, {}, {0: "h1", 1: "h1"}), (10, {0: 10, 1: 10}, dict.fromkeys(range(2, 8), "h1"))],
+    (10 * [1], 1, [(0, {}, {0: "h1", 1: "h1"}), (10, {0: 10, 1: 10}, dict.fromkeys(range(2, 8), "h1"))],
      "20%, 0:00:40 left, 1 machine at work, parts 2 of 10"),  # two at a time: four were sent ahead
-    (4 * [FULL], 1, LOST[:2], "25%, 0:01:40 left, 2 machines at work, parts 1 of 4"),
-    (4 * [FULL], 1, LOST[:3], "25%, 0:03:30 left, 1 machine at work, parts 1 of 4"),  # a part waits again
-    (4 * [FULL], 1, LOST, "25%, no machine at work, parts 1 of 4"),
-    (4 * [FULL], 3, [*LOST[:1], (720, {}, LOST[0][2])],
+    (4 * [1], 1, [(0, {}, {0: "h1"}), (10, {0: 10}, {0: "h1", 1: "h1"})],
+     "25%, 0:00:30 left, 1 machine at work, parts 1 of 4"),  # a part has been solved since it was seen at work
+    (4 * [1], 1, LOST[:2], "25%, 0:01:40 left, 2 machines at work, parts 1 of 4"),
+    (4 * [1], 1, LOST[:3], "25%, 0:03:30 left, 1 machine at work, parts 1 of 4"),  # a part waits again
+    (4 * [1], 1, LOST, "25%, no machine at work, parts 1 of 4"),
+    (4 * [1], 3, [*LOST[:1], (720, {}, LOST[0][2])],
      "0%, 2 machines at work, parts 0 of 4; part 0000000 (lines 1 to 3) has been running for 0:12:00 on h1"),
-    (1200 * [FULL], 200, [(0, {}, {659: "h1"}), (55.4, dict.fromkeys(range(659), 55.4), {659: "h1"})],
+    (1200 * [1], 200, [(0, {}, {659: "h1"}), (55.4, dict.fromkeys(range(659), 55.4), {659: "h1"})],
      "54%, 8:18:36 left, 1 machine at work, parts 659 of 1200"),
 ])
 def test_progress_shows_the_time_left_the_machines_and_a_part_that_runs_long(clock, parts, lines, times, text):
     one = progress(parts, lines)
     for clock.now, ended, hosts in times:
-        for number, seconds in ended.items():
-            one.end(one.run.parts[number], seconds)
-        at_work(one, hosts)
-    assert one.text("") == text
+        at_work(one, hosts, ended)
+    assert one.text() == text
 
 
 def test_work_grows_with_the_empty_squares_of_both_spellings():
     growth = folder.GROWTH
     for empty in (b"-", b"."):
         text = (BOARD + b" X\n\n% -----\n" + b"-" * 30 + b"X" * 34 + b" X\n").replace(b"-", empty)
-        assert folder.weight_of(folder.FRONT.findall(text), 20) == growth ** 2 + 1
+        assert folder.weight_of(folder.FRONT.findall(text), 20) == folder.PART + 2 * folder.LINE + growth ** 2
     for empties, seconds in ((6, 0.83 / 0.0083), (8, 7.6 / 0.0083)):  # 20 and 22 empty squares against 14
         assert 0.5 < growth ** empties / seconds < 2
 
@@ -464,4 +470,6 @@ def test_the_line_fits_a_terminal():
         size = mock.patch.object(os, "get_terminal_size", return_value=os.terminal_size((columns, 24)))
         with size, mock.patch.object(_command_line, "name", "it"), mock.patch.object(os, "write") as written:
             _command_line.show(whole)
-        written.assert_called_once_with(2, f"\r\033[Kit: {line}".encode())
+            written.assert_called_once_with(2, f"\r\033[Kit: {line}".encode())
+            _command_line.say("a message")  # which takes the place of the line
+        assert [call[0][1] for call in written.call_args_list[1:]] == [b"\r\033[K", b"it: a message\n"]

@@ -1,34 +1,29 @@
 """ffosolve-many on a Dask cluster of this machine prints what one run of ffosolve or ffoscores does, or an error."""
+import asyncio
 import contextlib
 import os
+import pickle
+import pickletools
 import random
 import re
 import shutil
 import signal
 import socket
 import sys
-from concurrent.futures import Future
+from collections import defaultdict
 from pathlib import Path
 from unittest import mock
 
 import psutil
 import pytest
 
-from ffosolve._many import engine
+from ffosolve._command_line import Refusal
+from ffosolve._many import solve
 from tests import many
 from tests.many import ACTING, INTERRUPTED
-from tests.support import SECONDS, limited, need, processes_in, run, wait_until, write
+from tests.support import SECONDS, limited, need, processes_in, run, stored, wait_until, write
 
-pytest_plugins = ["tests.many"]
 WORDS = ("--lines=4", "--book-in=one.book", *many.WORDS[1:])  # 15 parts
-# Runs Dask's module that the argument after -m names, and claims to be another Python.
-OTHER_PYTHON = """if True:
-    import runpy, sys, distributed.versions as versions
-    known = versions.get_system_info
-    versions.get_system_info = lambda: {**dict(known()), "python": "3.7.1.final.0"}
-    del sys.argv[:2]
-    runpy.run_module(sys.argv[0], run_name="__main__")
-"""
 # A server of Dask's that prints its address, and never answers what it is.
 SILENT = """if True:
     import asyncio, distributed.core
@@ -60,24 +55,24 @@ class Cluster:
                                   ("engine", "(1 if is_terminal else 60)", "1"), script=ACTING)
 
     def daemon(self, name, *command, **places):
-        """Starts Dask's scheduler or a worker with `places` added to the environment; it logs to NAME.log. The
-        scheduler removes workers that are silent for 5 seconds."""
+        """Starts Dask's scheduler or a worker with `places` added to the environment; it logs to NAME.log. By default,
+        the scheduler removes workers that are silent for 5 seconds."""
         settings = {"DASK_DISTRIBUTED__SCHEDULER__WORKER_TTL": "5s", "DASK_DISTRIBUTED__COMM__TIMEOUTS__CONNECT": "3s"}
         with open(f"{name}.log", "wb") as log:
             self.daemons[name] = self.case.start(*command, "--no-dashboard", stdout=log, stderr=log,
                                                  start_new_session=True, env={**os.environ, **settings, **places})
 
-    def start_scheduler(self, *options, before=()):
+    def start_scheduler(self, *options, **places):
         write("scheduler.json", "")
-        self.daemon("scheduler", self.python, *before, "-m", "distributed.cli.dask_scheduler", "--host=127.0.0.1",
-                    f"--port={self.port}", "--scheduler-file=scheduler.json", *options)
+        self.daemon("scheduler", self.python, "-m", "distributed.cli.dask_scheduler", "--host=127.0.0.1",
+                    f"--port={self.port}", "--scheduler-file=scheduler.json", *options, **places)
         wait_until(lambda: "}" in Path("scheduler.json").read_text()[-2:])
         self.port = re.search(r'://127.0.0.1:(\d+)"', Path("scheduler.json").read_text())[1]
 
-    def start_workers(self, *names, options=(), before=(), **places):
+    def start_workers(self, *names, options=(), **places):
         """Starts workers of one thread, and waits until they are registered. A shell starts each again when it ends."""
         for name in names:
-            command = ("sh", "-c", 'while :; do "$@"; sleep 0.1; done', "sh", self.python, *before, "-m",
+            command = ("sh", "-c", 'while :; do "$@"; sleep 0.1; done', "sh", self.python, "-m",
                        "distributed.cli.dask_worker")
             self.daemon(name, *command, f"127.0.0.1:{self.port}", "--nthreads=1", f"--local-directory=workers/{name}",
                         *options, **places)
@@ -87,18 +82,24 @@ class Cluster:
         for name in names:
             os.killpg(self.daemons[name].pid, number)
 
-    def begin(self, *words):
-        """Starts ffosolve-many on the cluster, with its standard error in the file `messages`. Returns its process."""
+    def begin(self, solved=0):
+        """Starts ffosolve-many on the cluster, with its standard error in the file `messages`. Returns its process once
+        `solved` parts are solved."""
         with open("messages", "wb") as log:
-            return self.case.start(self.hasty, "--scheduler=scheduler.json", *(words or WORDS), stderr=log)
+            ran = self.case.start(self.hasty, "--scheduler=scheduler.json", *WORDS, stderr=log)
+        wait_until(lambda: self.case.parts_solved() >= solved)
+        return ran
 
-    def ended(self, ran):
+    def ended(self, ran, status=0):
         """Waits for the end of a run that `begin` started. Asserts that its report and its book are those of one run of
-        ffosolve, and that nothing of it is left on the workers. Returns the run's messages."""
+        ffosolve or, unless its `status` is 0, that it prints nothing; and that nothing of it is left on the workers,
+        unless the scheduler is lost. Returns the run's messages."""
         output, _ = ran.communicate(timeout=3 * SECONDS)
-        assert (ran.returncode, output) == (0, self.case.one), messages()
-        self.case.same_book()
-        self.leaves_nothing()
+        assert (ran.returncode, output) == (status, b"" if status else self.case.one), messages()
+        if status == 0:
+            self.case.same_book()
+        if status != 3:
+            self.leaves_nothing()
         return messages()
 
     def leaves_nothing(self):
@@ -136,8 +137,13 @@ def cluster(case, many_python):
 
 
 def test_report_book_and_scores_are_those_of_one_run(cluster, case):
-    cluster.start_workers("worker1", "worker2")
-    cluster.ended(cluster.begin())
+    """A worker solves as many parts at once as it has threads, and may lose its folder."""
+    cluster.start_workers("worker1", options=["--nthreads=3"], PAUSE="1")
+    cluster.start_workers("worker2", PAUSE="1")
+    ran = cluster.begin()
+    wait_until(lambda: len(cluster.programs("worker1")) == 3)
+    shutil.rmtree("workers")
+    assert "failed" not in cluster.ended(ran)
     shutil.rmtree("work")
     case.many("--scheduler", f"tcp://127.0.0.1:{cluster.port}", *WORDS)
     scores = run(case.MANY.with_name("ffoscores"), "list.obf").stdout
@@ -149,55 +155,55 @@ def test_report_book_and_scores_are_those_of_one_run(cluster, case):
 def test_workers_are_waited_for_and_may_be_killed_or_fall_silent_or_join_late(cluster):
     ran = cluster.begin()
     wait_until(lambda: "0%, no machine at work, parts 0 of 15" in messages())
-    cluster.start_workers("worker1", "worker2", "worker3", PAUSE="1")
+    cluster.start_workers("worker1", "worker2", "worker3", PAUSE="3")
     wait_until(lambda: cluster.case.parts_solved() and cluster.programs("worker1") and cluster.programs("worker2"))
     cluster.signal(signal.SIGKILL, "worker1")
     cluster.signal(signal.SIGSTOP, "worker2")
     cluster.start_workers("worker1", PAUSE="0.1")
     wait_until(lambda: cluster.programs("worker1"))
     cluster.signal(signal.SIGKILL, "worker2")
-    cluster.ended(ran)
+    assert "failed" not in cluster.ended(ran)
 
 
-def test_all_workers_may_be_silent_for_longer_than_the_scheduler_waits(cluster, case):
+def test_all_workers_may_be_silent_for_longer_than_the_scheduler_waits(cluster):
     cluster.start_workers("worker1", "worker2", PAUSE="1")
-    ran = cluster.begin()
-    wait_until(lambda: case.parts_solved() >= 2)
+    ran = cluster.begin(solved=2)
     cluster.signal(signal.SIGSTOP, "worker1", "worker2")
     wait_until(lambda: "%, no machine at work, parts " in messages())
     cluster.signal(signal.SIGCONT, "worker1", "worker2")
     cluster.ended(ran)
 
 
-def test_a_worker_solves_as_many_parts_at_once_as_it_has_threads(cluster):
-    cluster.start_workers("worker1", options=["--nthreads=3"], PAUSE="5")
-    ran = cluster.begin()
-    wait_until(lambda: len(cluster.programs()) == 3)
-    cluster.ended(ran)
-
-
-def test_a_worker_that_is_not_fit_gets_no_part_until_it_is_started_again(cluster):
+def test_a_worker_that_is_not_fit_gets_no_part_until_it_is_started_again(cluster, case):
+    """Then it is the only fit one, which may be replaced."""
     cluster.start_workers("worker1", SPOIL_KNOWN="lambda text: text.replace(b'+', b'-')", options=["--worker-port=0"])
     cluster.start_workers("worker2", SPOIL_KNOWN="lambda text: time.sleep(60)")
-    cluster.start_workers("worker3", before=["-c", OTHER_PYTHON], options=["--no-nanny"])
     ran = cluster.begin()
-    wait_until(lambda: messages().count(" is left out: ") == 3)
-    for why in ("the program solves a known line wrong", "the program needs more than 5 seconds for a known line",
-                r"it has Python 3\.7, and ffosolve-many 3\.\d+"):
+    wait_until(lambda: messages().count(" is left out: ") == 2)
+    for why in ("the program solves a known line wrong", "the program needs more than 5 seconds for a known line"):
         assert re.search(rf"\n.*: (tcp://127\.0\.0\.1:\d+) is left out: {why}\n", messages())
     port = re.search(r":(\d+) is left out: the program solves", messages())[1]
     cluster.signal(signal.SIGKILL, "worker1")
-    cluster.start_workers("worker1", options=[f"--worker-port={port}"])
-    cluster.ended(ran)
-    assert "failed" not in messages()
-
-
-def test_a_worker_may_lose_its_folder(cluster, case):
-    cluster.start_workers("worker1", PAUSE="0.2")
-    ran = cluster.begin()
+    cluster.start_workers("worker1", options=[f"--worker-port={port}"], PAUSE="0.5")
     wait_until(lambda: case.parts_solved() >= 2)
-    shutil.rmtree("workers")
+    cluster.signal(signal.SIGKILL, "worker1")
+    cluster.start_workers("worker3")
     assert "failed" not in cluster.ended(ran)
+
+
+@pytest.mark.parametrize("others", [(), ("worker1",)])
+def test_a_silent_worker_keeps_none_that_joins_from_work(cluster, case, others):
+    cluster.signal(signal.SIGKILL, "scheduler")
+    cluster.start_scheduler(DASK_DISTRIBUTED__SCHEDULER__WORKER_TTL="300s")
+    cluster.start_workers("worker2", PAUSE="0.5")
+    cluster.start_workers(*others, SPOIL_KNOWN="lambda text: b''")
+    ran = cluster.begin(solved=2)
+    wait_until(lambda: messages().count(" is left out: ") == len(others) and cluster.programs("worker2"))
+    cluster.signal(signal.SIGSTOP, "worker2")  # which alone has the program
+    cluster.start_workers("worker3")
+    wait_until(lambda: case.parts_solved() == 14)
+    cluster.signal(signal.SIGCONT, "worker2")
+    cluster.ended(ran)
 
 
 def test_a_worker_that_fails_three_parts_in_a_row_is_left_out_but_not_the_last_one(cluster):
@@ -205,86 +211,83 @@ def test_a_worker_that_fails_three_parts_in_a_row_is_left_out_but_not_the_last_o
     cluster.start_workers("worker2", PAUSE="1")
     told = cluster.ended(cluster.begin())
     assert len(re.findall(r" failed part 00000\d\d \(lines \d+ to \d+\): its results are not complete\n", told)) == 3
-    assert told.count(" is left out: 3 parts failed in a row\n") == 1
+    assert told.count(" is left out: 3 parts failed in a row that others solve\n") == 1
     shutil.rmtree("work")
     cluster.signal(signal.SIGKILL, "worker2")
     wait_until(lambda: "Remove worker" in Path("scheduler.log").read_text())
-    ran = cluster.begin()
-    assert (ran.communicate(timeout=SECONDS)[0], ran.returncode) == (b"", 1), messages()
-    assert "not solved: 15 of 15 parts: part 0000000 (lines 1 to 4), " in messages()
-    assert messages().count("failed part 0000000 ") == 3
+    told = cluster.ended(cluster.begin(), 1)
+    assert "not solved: 15 of 15 parts: part 0000000 (lines 1 to 4), " in told
+    assert told.count("failed part 0000000 ") == 3
 
 
 def test_a_worker_that_fails_now_and_then_is_not_left_out(cluster, case):
     count = f"open('{case.folder}/count', 'a').write('.'), os.path.getsize('{case.folder}/count')"
     cluster.start_workers("worker1", SPOIL=f"lambda text: text[:-5] if ({count})[1] % 2 else text")
     cluster.start_workers("worker2", PAUSE="4")
-    ran = cluster.begin()
-    cluster.ended(ran)
-    assert messages().count(" failed ") >= 3 and "left out" not in messages()
+    told = cluster.ended(cluster.begin())
+    assert told.count(" failed ") >= 3 and "left out" not in told
 
 
-def test_a_part_that_kills_its_worker_fails_after_three_tries_and_the_others_are_solved(cluster, case):
+def test_parts_that_fail_everywhere_take_no_worker_out(cluster, case):
+    cluster.start_workers("worker1", "worker2", "worker3", PAUSE="0.2")
+    write("list.obf", b"% FAIL\n" * 24 + case.SMALL)
+    told = cluster.ended(cluster.begin(), 1)
+    assert (told.count(" failed part "), "left out" in told) == (18, False)
+    assert ": not solved: 6 of 21 parts: part 0000000 (lines 1 to 4), " in told
+    for number in range(6):
+        assert len({*re.findall(rf"(\S+) failed part 000000{number} ", told)}) == 3
+
+
+def test_a_part_that_kills_its_worker_is_not_solved_and_the_others_are(cluster, case):
     cluster.start_workers("worker1", options=["--nthreads=2"])
     write("list.obf", case.SMALL[:68 * 22] + b"% KILL\n" + case.SMALL[68 * 22:])
-    ran = cluster.begin()
-    assert (ran.communicate(timeout=3 * SECONDS)[0], ran.returncode) == (b"", 1), messages()
-    assert ": not solved: 1 of 16 parts: part 0000005 (lines 21 to 24). " in messages()
-    assert messages().count("failed part 0000005 (lines 21 to 24): the worker ended\n") == 3
-    cluster.leaves_nothing()
+    told = cluster.ended(cluster.begin(), 1)
+    assert ": not solved: 1 of 16 parts: part 0000005 (lines 21 to 24). " in told
+    assert told.count("failed part 0000005 (lines 21 to 24): 4 workers ended that had it\n") == 2
 
 
-def test_a_scheduler_that_is_back_at_once_goes_on_and_one_that_is_lost_ends_the_run(cluster, case):
+def test_a_scheduler_that_is_back_at_once_goes_on_and_one_that_is_lost_ends_the_run(cluster):
     cluster.start_workers("worker1", PAUSE="0.5")
     for count, is_lost in ((2, True), (5, False)):
-        ran = cluster.begin()
-        wait_until(lambda: case.parts_solved() >= count)
+        ran = cluster.begin(count)
         cluster.signal(signal.SIGKILL, "worker1", "scheduler")
         if is_lost:
-            assert (ran.communicate(timeout=SECONDS)[0], ran.returncode) == (b"", 3), messages()
             lost = " scheduler .* is lost; the same command goes on with what is solved\n$"
-            assert re.search(lost, messages())
+            assert re.search(lost, cluster.ended(ran, 3))
         cluster.start_scheduler()
         cluster.start_workers("worker1", PAUSE="0.5")
     cluster.ended(ran)
 
 
-def test_a_scheduler_that_is_silent_is_said_to_be_and_at_last_lost(cluster, case):
+def test_a_scheduler_that_is_silent_is_said_to_be_and_at_last_lost(cluster):
     cluster.start_workers("worker1", PAUSE="0.5")
     for count, is_lost in ((2, False), (5, True)):
-        ran = cluster.begin()
-        wait_until(lambda: case.parts_solved() >= count)
+        ran = cluster.begin(count)
         cluster.signal(signal.SIGSTOP, "scheduler")
         wait_until(lambda: re.search(r"%, the scheduler has been silent for \d+ s, parts \d+ of 15\n", messages()))
         if is_lost:
-            assert (ran.communicate(timeout=SECONDS)[0], ran.returncode) == (b"", 3)
-            assert " is lost; the same command goes on with what is solved\n" in messages()
+            assert " is lost; the same command goes on with what is solved\n" in cluster.ended(ran, 3)
         cluster.signal(signal.SIGCONT, "scheduler")
         if not is_lost:
             cluster.ended(ran)
             shutil.rmtree("work")
 
 
-def test_a_caller_that_a_signal_ends_leaves_nothing_on_the_workers(cluster, case):
+def test_a_caller_that_a_signal_ends_leaves_nothing_on_the_workers(cluster):
     cluster.start_workers("worker1", PAUSE="0.7")
     cluster.start_workers("worker2", PAUSE="200")  # longer than `leaves_nothing` waits
     for number in (signal.SIGINT, signal.SIGTERM, signal.SIGHUP, signal.SIGKILL):
         ran = cluster.begin()
         wait_until(lambda: cluster.programs("worker1") and cluster.programs("worker2"))
         ran.send_signal(number)
-        output, _ = ran.communicate(timeout=SECONDS)
-        cluster.leaves_nothing()
-        assert (ran.returncode, output) == (-number, b"")
-        assert messages().endswith(INTERRUPTED) == (number != signal.SIGKILL)
+        assert cluster.ended(ran, -number).endswith(INTERRUPTED) == (number != signal.SIGKILL)
     rng = random.Random(1)
     for _ in range(3):
         ran = cluster.begin()
         with contextlib.suppress(AssertionError):  # a moment of its first seconds
             wait_until(lambda: ran.poll() is not None, rng.uniform(0.5, 4))
         ran.kill()
-        output, _ = ran.communicate(timeout=SECONDS)
-        cluster.leaves_nothing()
-        assert (ran.returncode, output) == (-signal.SIGKILL, b"")
+        cluster.ended(ran, -signal.SIGKILL)
     cluster.signal(signal.SIGKILL, "worker2")
     cluster.ended(cluster.begin())
 
@@ -300,63 +303,143 @@ def test_a_full_disk_ends_the_run_and_it_goes_on_when_there_is_room(cluster, cas
     case.many(*words, message=f"in 15 parts, {solved} of them solved before")
 
 
-def test_parts_go_to_fit_workers_by_their_threads_and_those_that_failed_to_others():
-    machines = [engine.Machine(name, name, threads) for name, threads in (("h1", 1), ("h2", 20), ("h3", 9))]
-    _, h2, h3 = machines
-    h3.is_fit = False
-
-    def sent(count, failed, most=1, busy=()):
-        for machine in machines:
-            machine.parts = {Future() for _ in range(machine in busy)}
-        found = [machine for _ in range(count) if (machine := engine.machine_for(machines, most, failed))
-                 and not machine.parts.add(Future())]
-        return sorted(machine.name for machine in found)
-
-    assert sent(90, []) == ["h1"] + ["h2"] * 20  # as many as threads
-    assert sent(90, [], 2) == ["h1"] * 2 + ["h2"] * 40
-    assert sent(3, ["h2"]) == ["h1"]  # a part that has failed is alone on its worker
-    assert sent(3, ["h1"], 3, [h2]) == []
-    assert sent(3, ["h1"]) == ["h2"]
-    h2.is_fit = False
-    assert sent(3, ["h1"]) == ["h1"]  # the only one that is left
+def test_what_is_sent_needs_no_certain_python_and_no_package_but_dask():
+    about = (Path(solve.__file__).read_text(), {"programs": []}, {"program-0": b"it"})
+    sent = solve.Pack(*about).__reduce__()
+    one = eval(*pickle.loads(pickle.dumps(sent[1])))
+    assert type(one) is not solve.Pack and one.__reduce__() == sent
+    with mock.patch.object(os, "memfd_create", side_effect=OSError(28, "No space left on device")):
+        one.test()
+    assert (one.fault, one.__reduce__()) == ("[Errno 28] No space left on device", sent)
+    one.test(is_due=True)
+    assert (one.fault, one.contents) == ("the program is damaged", {})
+    assert one.__reduce__() == sent
+    for what in (sent, one):
+        words = [word for code, word, _ in pickletools.genops(pickle.dumps(what, 3)) if code.name == "GLOBAL"]
+        assert words == ["builtins eval"]
 
 
-def test_a_worker_that_was_started_again_meanwhile_is_tested_and_none_is_there_without_a_connection():
+@pytest.fixture
+def one(monkeypatch):
+    """The product's Cluster, with a mock of Dask's client. It knows three fit workers of one thread: a, b and c."""
     pytest.importorskip("distributed")
-    from ffosolve._many.cluster import Cluster, Worker
-    one, about, part = Cluster.__new__(Cluster), {"local_directory": "old", "host": "h1", "nthreads": 1}, Future()
-    one.client, one.test, one.in_dask = mock.Mock(status="running"), mock.Mock(), mock.Mock()
-    one.workers = {"h1": Worker("h1", about)}
-    (worker,) = one.machines
-    worker.is_fit, worker.parts = True, {part}
-    one.update({"h1": about})
-    assert one.machines == [worker]
-    one.update({"h1": {**about, "local_directory": "new"}})
-    (again,) = one.machines
-    assert (again.is_fit, one.test.call_count) == (False, 1)
-    assert (worker.ended, part.cancelled()) == ("the worker ended", True)
-    one.client.status = "connecting"
-    assert one.machines == []
+    from ffosolve._many import cluster
+    one = cluster.Cluster.__new__(cluster.Cluster)
+    one.client, one.run = mock.Mock(status="running"), mock.Mock(statuses={}, files={}, task={})
+    one.workers, one.count, one.threads, one.key = {(name, name): 1 for name in "abc"}, 3, 3, "ffosolve-key"
+    one.left_out, one.unfit, one.kept, one.running, one.failed = set(), set(), set(), {}, defaultdict(set)
+    one.pack, one.said = None, mock.Mock()
+    monkeypatch.setattr(cluster, "say", one.said)
+    return one
 
 
-IMPATIENT = ("impatient", ("cluster", "LOST_SECONDS = 30", "LOST_SECONDS = 2"))
+# What the workers make of parts (as in `a1 b1+`: a fails part 1, then b solves it), which of them get more, and which
+# are left out.
+@pytest.mark.parametrize("made, chosen, left_out", [
+    ("a1 a2", "abc", ""), ("a1 a2 a9+ a3", "abc", ""), ("a1 a2 a3", "bc", ""), ("a1 a2 a3 b1+ c2+", "bc", ""),
+    ("a1 a2 a3 b1+ c2+ c3+", "bc", "a"), ("a1 a2 a3 b1+ c2+ c3+ a4 a9+", "bc", "a"), ("a1 a2 a3 b1+ b2+ b3", "abc", ""),
+    ("a1 a2 a3 b1", "abc", ""), ("b9 a1 a2 a3 b1", "bc", ""), ("a1 a2 a3 b4 b5 b6", "c", ""),
+    ("a1 a2 a3 b4 b5 b6 c7 c8 c9", "abc", "")])
+def test_workers_are_left_out_for_parts_that_others_solve_not_for_those_that_fail_for_all(one, made, chosen, left_out):
+    failed = set()
+    for name, part, *solved in made.split():
+        one.run.statuses.update({int(part): 0} if solved else {})
+        one.counts((name, name), int(part), bool(solved), part in failed)
+        failed.add(part)
+    said = "".join(call[0][0][0] for call in one.said.call_args_list)
+    assert ("".join(sorted(one.chosen())), said) == (chosen, left_out)
+    for name in "bbc":
+        one.answer = mock.AsyncMock(return_value=((name, name), "unfit", b"", ""))
+        assert asyncio.run(one.solve("part", [])) == ("part", None, "", [])
+    assert one.chosen(["a"]) == {"a"}  # the last one that is fit
+    assert [call[0][0] for call in one.said.call_args_list[-2:]] == ["b is left out: unfit", "c is left out: unfit"]
+
+
+def test_a_worker_that_is_silent_or_not_fit_gets_no_part_and_the_only_pack_is_not_left_to_it(one):
+    about = {name: {"local_directory": name, "nthreads": 2, "host": "h1", "last_seen": 100} for name in "abc"}
+    about["b"]["last_seen"] = 69  # more than 30 seconds before the others
+    one.client.scheduler.identity = mock.AsyncMock(return_value={"workers": about})
+    one.client.processing = mock.AsyncMock(return_value={"a": ["ffosolve-key-3-x"], "b": ["ffosolve-key-7-x"]})
+    one.unfit = {("c", "c")}
+    for holders in ("b", "bc", "ab"):
+        one.pack = pack = mock.Mock(key="pack", status="finished")
+        one.client.who_has = mock.AsyncMock(return_value={"pack": [*holders]})
+        asyncio.run(one.ask())
+        assert (one.workers, one.count, one.threads, {*one.running}) == ({("a", "a"): 2}, 3, 2, {3, 7})
+        assert (one.kept, one.pack is pack) == ({7}, holders != "b")
+
+
+@pytest.mark.parametrize("workers, count, most, alone", [("", 0, 100, 1), ("", 2, 0, 0), ("ab", 2, 104, 1),
+                                                         ("abcd", 4, 108, 2), ("ab", 3, 4, 1)])
+def test_parts_are_sent_ahead_unless_some_workers_may_not_have_them(one, workers, count, most, alone):
+    one.workers, one.count, one.threads = {(name, name): 1 for name in workers}, count, len(workers)
+    assert (one.most(is_alone=False), one.most(is_alone=True)) == (most, alone)
+
+
+@pytest.mark.parametrize("change, is_cancelled", [
+    ({}, False), ({"workers": {("a", "a"): 1, ("b", "b"): 1}}, True), ({"pack": "another"}, True),
+    ({"workers": {("a", "a"): 1, ("b", "b"): 1}, "running": {7: ("h1", 0.0)}}, False),
+    ({"pack": "another", "kept": {7}}, False)])
+def test_a_part_is_sent_after_the_pack_and_again_if_it_waits_for_workers_that_are_not_alone(one, change, is_cancelled):
+    class Sent(asyncio.Future):  # what Dask's client returns for a part
+        async def cancel(self):
+            super().cancel()
+
+    async def first_second():
+        one.client.submit.side_effect = [mock.Mock(status="pending"), *(Sent() for _ in range(3))]
+        sent = [asyncio.ensure_future(one.solve(mock.Mock(number=7), failed)) for failed in ([], ["a"], ["a", "b"])]
+        await asyncio.sleep(0.5)
+        vars(one).update(change)
+        await asyncio.sleep(0.8)
+        return [future.done() for future in sent]
+
+    one.workers, one.ask = {("a", "a"): 1}, mock.AsyncMock()
+    assert asyncio.run(first_second()) == [is_cancelled] * 3
+    pack, *parts = [call[1] for call in one.client.submit.call_args_list]
+    assert [part.get("priority", 0) for part in parts] == [0, 1, 2] and pack.get("priority", 0) > 2
+    assert [part["workers"] for part in parts] == [["a"]] * 3
+
+
+def test_workers_that_end_with_the_program_and_a_book_alone_end_the_run(one):
+    import distributed
+    one.pack, worker = mock.Mock(key="pack"), mock.Mock(address="tcp://h1:1")
+    one.answer = mock.AsyncMock(side_effect=distributed.KilledWorker("part", worker, 3))
+    ended = asyncio.run(one.solve("part", []))
+    assert ended == ("part", None, "4 workers ended that had it", 2 * ["tcp://h1:1"])
+    one.answer.side_effect = distributed.KilledWorker("pack", worker, 3)
+    with pytest.raises(Refusal, match="^4 workers .* memory too small"):
+        asyncio.run(one.solve("part", []))
+
+
+def test_the_adaptive_cluster_of_the_document_starts_and_ends_workers_by_need(case, many_python):
+    (text,) = re.findall(b"```python\n(import subprocess\n.*?)```", stored("docs/many-machines.md"), re.DOTALL)
+    write("adaptive.py", text.replace(b"threads_per_worker=1", b"threads_per_worker=1, dashboard_address=None"))
+    os.symlink(case.MANY.parent, "bin")
+    ran = run(many_python, "adaptive.py", timeout=3 * SECONDS)
+    assert (ran.returncode, Path("list.report").read_bytes()) == (0, case.one), ran.stderr
+    case.same_book("list.book")
+
+
 NOT_AN_ADDRESS = "it is neither an address with a port, such as tcp://h1:8786, nor a file"
 NO_ADDRESS = "cannot reach a scheduler: the file {} has no address of one, or not yet\n"
 NO_ANSWER = "it does not answer as a scheduler does (the address of one with TLS begins with tls://)\n"
 
 
+def no_scheduler(case, address, why):
+    """Asserts that ffosolve-many names an address without a scheduler, with the reason."""
+    by = case.install("impatient", ("cluster", "LOST_SECONDS = 30", "LOST_SECONDS = 2"))
+    case.many("--scheduler", address, "--quiet", "work", "list.obf", by=by, status=3, message=why)
+
+
 @pytest.mark.parametrize("address, why", [
     ("nonsense", NOT_AN_ADDRESS), ("tcp://h1", NOT_AN_ADDRESS), ("h1:x", NOT_AN_ADDRESS),
     ("xyz://h1:8786", "unknown address scheme 'xyz'"), ("tls://127.0.0.1:1", "TLS expects a `ssl_context` argument"),
-    ("tcp://127.0.0.1:1", "Timed out"), ("empty", NO_ADDRESS), ("half", NO_ADDRESS), ("other", NO_ADDRESS),
-    (".", NO_ADDRESS),
-])
+    ("tcp://127.0.0.1:1", "Timed out"), *((name, NO_ADDRESS) for name in ("empty", "half", "other", "."))])
 def test_what_is_no_scheduler_is_named(case, address, why):
-    write("empty", "")
-    write("half", '{"type": "Scheduler", "address": "tcp')
-    write("other", "[1]")
-    case.many("--scheduler", address, "--quiet", "work", "list.obf", by=case.install(*IMPATIENT), status=3,
-              message=why.format(address) if why == NO_ADDRESS else f"cannot reach the scheduler {address}: {why}")
+    for name, text in (("empty", ""), ("half", '{"type": "Scheduler", "address": "tcp'), ("other", "[1]")):
+        write(name, text)
+    what = "" if why == NO_ADDRESS else f"cannot reach the scheduler {address}: "
+    no_scheduler(case, address, what + why.format(address))
 
 
 def test_a_server_that_is_no_scheduler_is_named(cluster, case):
@@ -368,24 +451,18 @@ def test_a_server_that_is_no_scheduler_is_named(cluster, case):
         for address, why in ((re.search(r"Start worker at: +(\S+)", log)[1], " is not a scheduler, but a worker\n"),
                              (re.search(r"Start Nanny at: +'(\S+)'", log)[1], " is not a scheduler, but a nanny\n"),
                              (f"tcp://127.0.0.1:{held.getsockname()[1]}", NO_ANSWER), (silent, NO_ANSWER)):
-            case.many("--scheduler", address, "--quiet", "work", "list.obf", by=case.install(*IMPATIENT), status=3,
-                      message=why)
+            no_scheduler(case, address, why)
 
 
-def test_a_scheduler_of_another_python_or_with_tls_is_named(cluster, case):
+def test_a_scheduler_with_tls_is_named(cluster, case):
     need("openssl")
     run("openssl", "req", "-x509", "-newkey", "rsa:2048", "-nodes", "-keyout", "key", "-out", "cert", "-subj", "/CN=x",
         check=True)
-    secret = ("--protocol=tls", "--tls-ca-file=cert", "--tls-cert=cert", "--tls-key=key")
-    other = r"has Python 3\.7, and ffosolve-many 3\.\d+: use the same\n"
-    for options, before, why in ((secret, (), NO_ANSWER), ((), ["-c", OTHER_PYTHON], other)):
-        cluster.signal(signal.SIGKILL, "scheduler")
-        cluster.port = "0"
-        cluster.start_scheduler(*options, before=before)
-        errors = case.many(f"--scheduler=tcp://127.0.0.1:{cluster.port}", "work", "list.obf",
-                           by=case.install(*IMPATIENT), status=3)
-        assert re.search(why if before else re.escape(why), errors)
-        assert cluster.daemons["scheduler"].poll() is None
+    cluster.signal(signal.SIGKILL, "scheduler")
+    cluster.port = "0"
+    cluster.start_scheduler("--protocol=tls", "--tls-ca-file=cert", "--tls-cert=cert", "--tls-key=key")
+    no_scheduler(case, f"tcp://127.0.0.1:{cluster.port}", NO_ANSWER)
+    assert cluster.daemons["scheduler"].poll() is None
 
 
 def test_a_missing_or_malformed_dask_is_named(case, many_python):

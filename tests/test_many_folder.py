@@ -1,4 +1,6 @@
 """ffosolve-many cuts a list into parts, goes on after any interruption, and uses only complete results of a part."""
+import ast
+import errno
 import io
 import os
 import random
@@ -16,41 +18,86 @@ import pytest
 
 from ffosolve._many import folder, solve
 from tests.many import ACTING, BOARD, INTERRUPTED, WORDS, files
-from tests.support import (MOST_BYTES, NOBODY, SECONDS, ends, limited, processes_in, run, unshared, wait_until,
+from tests.support import (MOST_BYTES, NOBODY, SECONDS, ends, limited, preload, processes_in, run, unshared, wait_until,
                            write)
 
-pytest_plugins = ["tests.many"]
+SOLVE = (sys.executable, "work/solve.py")
 
 
 @pytest.mark.parametrize("scores, lines", [(None, [b"[1]", b"1 +02 A1 agree", b"solved 1 refused 0"]),
                                            ("", [b"A1:+02;", b"%", b"% blank and comment", b"", b"% blank", b"\r"])])
-def test_results_are_complete_with_a_row_for_each_line_of_the_part(scores, lines):
-    options = {"--lines": 9, "--max-empties": "20", "--scores": scores, "--book-out": None}
-    ((part, _),) = folder.cut(io.BytesIO(BOARD + b" X;\n\n%\n \t% X\n\r\n \t\r"), "list", options)
+def test_results_are_complete_with_a_row_for_each_line_and_on_the_disk_if_they_took_a_second(tmp_path, scores, lines):
+    options, book = {"--lines": 9, "--max-empties": "20", "--scores": scores}, b"%" if scores is None else b""
+    ((part, text),) = folder.cut(io.BytesIO(BOARD + b" X;\n\n%\n \t% X\n\r\n \t\r"), "list", options)
     one = folder.Run.__new__(folder.Run)
-    one.task, one.statuses = {"options": options}, {}
+    one.folder, one.place, one.task, one.statuses = tmp_path, tmp_path, {"options": options}, {}
+    write(tmp_path / "list", text)
+    (tmp_path / "results").mkdir()
     whole = b"\n".join(lines) + b"\n"
     for output in (whole, whole[:-1], b"", whole + b"\n", b"".join(whole.splitlines(keepends=True)[1:])):
-        record = solve.record_of(one.task, 0, part.digest, solve.Solved(0, output, b"", 0.1))
-        assert bool(one.check(part, record)) == (output == whole)
+        for seconds in (0.9, 1.0):
+            record = solve.record_of(one.task, 0, part.digest, solve.Solved(0, output, book, seconds))
+            with mock.patch.object(os, "fsync") as synced:
+                assert bool(one.keep(part, record, "")[0]) == (output == whole)
+            assert synced.call_count == (output == whole and seconds == 1)
 
 
-def test_results_that_took_a_second_are_on_the_disk_at_once(tmp_path):
-    one, part = folder.Run.__new__(folder.Run), folder.Part(0, 0, 2, 1, 1, 1, "digest", 1.0)
-    one.folder, one.task, one.statuses = tmp_path, {"options": {"--book-out": None}}, {}
-    write(tmp_path / "list", "1\n")
-    (tmp_path / "results").mkdir()
-    with mock.patch.object(os, "fsync") as synced:
-        for seconds, count in ((0.9, 0), (1.0, 1)):
-            record = solve.record_of(one.task, 0, "digest", solve.Solved(0, b"a\n", b"", seconds))
-            assert one.keep(part, record, "")[0] and synced.call_count == count
+def test_a_side_that_goes_on_with_letters_is_named_once(capfd):
+    options = {"--lines": 2, "--max-empties": "20", "--scores": None}
+    fit = ((side, "", "") for side in (" black;", " WHITE", "XA1:+02;", "ops:-02;", " * blanc"))
+    for side, word, colour in ((" blanc;", "blanc", "Black"), ("\tbianco", "bianco", "Black"),
+                               ("Weiss % X", "Weiss", "White"), ("OX O;", "OX", "White"), *fit):
+        text = f"% {BOARD.decode()} blanc\n\n{BOARD.decode()} X\n  {BOARD.decode()}{side}\n"
+        assert len([*folder.cut(io.BytesIO(2 * text.encode()), "list", options)]) == 4
+        told = f"ffosolve: list line 4: the side {word} is read as {colour}: only its first letter counts\n"
+        assert capfd.readouterr().err == (told if word else "")
 
 
-def test_the_lock_of_a_run_that_ends_is_waited_for(tmp_path):
-    folder.lock(tmp_path / "new/work")
+def test_the_lock_of_a_run_that_ends_is_waited_for_and_a_folder_that_takes_its_place_is_not_used(tmp_path):
+    place = folder.lock(tmp_path / "new/work")
     (lock,) = (path for path in Path("/proc/self/fd").iterdir() if path.resolve().name == folder.LOCK)
     threading.Timer(0.5, os.close, [int(lock.name)]).start()
-    folder.lock(tmp_path / "new/work")
+    assert folder.lock(tmp_path / "new/work") == place
+    (tmp_path / "new").rename(tmp_path / "old")
+    write(tmp_path / "new/work/task", "")
+    assert os.listdir(place) == [folder.LOCK]
+
+
+def test_a_file_system_without_locks_is_named(tmp_path, capfd):
+    for number in (errno.ENOSYS, errno.ENOLCK, errno.EOPNOTSUPP):
+        writing = mock.patch.object(os, "listdir", return_value=[folder.LOCK, "a file that a run is writing"])
+        with mock.patch("fcntl.flock", side_effect=OSError(number, os.strerror(number))), writing:
+            folder.lock(tmp_path)
+        assert (f"cannot lock {tmp_path}, since its file system has no flock ({os.strerror(number)}): let no other run "
+                "work there, or name another folder\n") in capfd.readouterr().err
+
+
+def test_a_folder_of_another_user_or_that_others_may_write_is_refused_and_not_used(case):
+    case.folder.chmod(0o777)
+    run(case.ACTS, "--cut", *WORDS, **NOBODY)
+    if NOBODY:
+        case.refused(2, "work belongs to another user: name another folder\n", *WORDS, places={"WORDS": "words"})
+        shutil.rmtree("work")
+    case.many(*WORDS, umask=0)
+    assert not [path for path in Path().glob("work/**/*") if path.lstat().st_mode & 0o022]
+    for path, mode in (("work", 0o775), ("work", 0o757), ("work/program-0", 0o775), ("work/task", 0o646)):
+        before = os.stat(path).st_mode
+        os.chmod(path, mode)
+        case.refused(2, f"other users may write {path}: name a folder that only you may write\n", *WORDS)
+        os.chmod(path, before)
+    if NOBODY:
+        os.chown("work/solve.py", NOBODY["user"], 0)
+        case.refused(2, "work/solve.py belongs to another user: name another folder\n", *WORDS)
+
+
+def test_a_group_that_may_write_the_results_solves_parts_of_a_folder(case):
+    run(case.MANY, "--cut", *WORDS)
+    os.chmod("work/results", 0o2775)
+    if NOBODY:
+        os.chown("work/results", 0, NOBODY["group"])
+    ends((0, "", ""), *SOLVE, "0-1", umask=0o077, **NOBODY)
+    assert [stat.S_IMODE(path.stat().st_mode) for path in Path("work/results").iterdir()] == [0o644, 0o644]
+    case.many(*WORDS, message="in 3 parts, 2 of them solved before;")
 
 
 def test_a_part_whose_results_are_not_complete_is_solved_again(case):
@@ -109,7 +156,6 @@ def test_other_options_are_refused_by_name(case):
                           ("--scoring=discs", "--scoring=sign", "with --scoring discs"),
                           ("--max-empties=07", "--max-empties=8", "with --max-empties 7"),
                           ("--complete", "--quiet", "with --complete"),
-                          ("--complete", "--book-out=new", "with --complete and without --book-out"),
                           ("--book-in=one.book", "--book-in=other.book", f"with --book-in of SHA-256 {digest}"),
                           ("--book-in=one.book", "--quiet", f"with --book-in of SHA-256 {digest}")):
         case.refused(2, f"work was begun {how}: use another folder, or the same options",
@@ -128,11 +174,19 @@ def test_a_list_may_grow_at_its_end_and_is_otherwise_refused_by_its_first_line_t
         case.refused(2, f"from line {line} on: use another folder, or the same list", *WORDS)
     grown = case.SMALL + case.SMALL[:68 * 30]
     more = grown + b"% more" + case.SMALL[:68 * 40]
-    for text, message in ((case.SMALL, "in 3 parts, 3 of them solved before;"),
-                          (grown, "90 lines in 5 parts, 3 of them"), (more, "130 lines in 7 parts, 4 of them"),
-                          (more, "130 lines in 7 parts, 7 of them solved before")):
+    line = case.SMALL[:68 * 39] + BOARD.replace(b"X", b"O", 1) + b" X;"
+    for at, text, message in (("work", case.SMALL, "in 3 parts, 3 of them solved before;"),
+                              ("work", grown, "90 lines in 5 parts, 3 of them"),
+                              ("work", more, "130 lines in 7 parts, 4 of them"),
+                              ("work", more, "130 lines in 7 parts, 7 of them solved before"),
+                              ("last line", line, "in 2 parts, 0 of them"),
+                              ("last line", line + b" A1:+02;\n", "in 2 parts, 1 of them")):
         case.write_list(text)
-        case.many(*WORDS, message=message)
+        case.many(WORDS[0], at, *WORDS[2:], message=message)
+    assert b" differ\n" in case.one
+    by = case.install("changing", ("folder", "store(path, file,", "store(path, [b'?' * 9999],"))  # while it is copied
+    case.many(WORDS[0], "changed", "list.obf", by=by, status=1, message="not solved: 2 of 2 parts")
+    case.many(WORDS[0], "changed", "list.obf", message=" 40 lines in 2 parts, 0 of them")
 
 
 def test_only_the_parts_that_failed_are_solved_again(case):
@@ -161,21 +215,12 @@ def test_a_record_that_is_damaged_late_is_solved_again(case):
         case.many(*WORDS, message=", 3 of them solved before")
     spoil = "lambda text: text[:-5] if open('work/results/0000001').read(1) == '?' else text"
     ran = run(by, *WORDS, env={**os.environ, "SPOIL": spoil})
+    why = b"was changed meanwhile, and can't be solved again: its results are not complete\n"
     assert (ran.returncode, case.one.startswith(ran.stdout)) == (3, True)
-    assert ran.stderr.endswith(b"part 0000001 (lines 21 to 40) was changed meanwhile, and can't be solved again: "
-                               b"its results are not complete\n")
-
-
-def test_a_last_line_that_grows_is_solved_again(case):
-    end = BOARD.replace(b"X", b"O", 1) + b" X;"
-    for text, before in ((case.SMALL[:68 * 39] + end, 0), (case.SMALL[:68 * 39] + end + b" A1:+02;\n", 1)):
-        case.write_list(text)
-        case.many(*WORDS, message=f"in 2 parts, {before} of them")
-    assert b" differ\n" in case.one
+    assert ran.stderr.endswith(b"part 0000001 (lines 21 to 40) " + why)
 
 
 def test_a_part_is_solved_with_the_options_and_the_program_of_the_folder_or_not_at_all(case):
-    solve_part = (sys.executable, "work/solve.py", "0")
     run(case.ACTS, "--cut", *WORDS)
     for place, old, new, why in (
             ("task", b'"--max-empties": "20"', b'"--max-empties": "0"', "damaged: run ffosolve-many again"),
@@ -185,54 +230,73 @@ def test_a_part_is_solved_with_the_options_and_the_program_of_the_folder_or_not_
         whole = Path("work", place).read_bytes()
         Path("work", place).write_bytes(whole.replace(old, new, 1))
         assert Path("work", place).read_bytes() != whole
-        ran = run(*solve_part, text=True)
+        ran = run(*SOLVE, "0", text=True)
         assert (ran.returncode, ran.stdout, os.listdir("work/results")) == (1, "", [])
         assert re.search(f"^solve.py 0: .*{why}\n$", ran.stderr)
         Path("work", place).write_bytes(whole)
     places = {**os.environ, "SPOIL_KNOWN": "lambda text: text.replace(b'H1', b'A1')"}
-    ends((1, "", "solve.py 0: the program solves a known line wrong\n"), *solve_part, env=places)
-    ends((0, "", ""), *solve_part)
+    ends((1, "", "solve.py 0: the program solves a known line wrong\n"), *SOLVE, "0", env=places)
+    ends((0, "", ""), *SOLVE, "0")
     case.many(*WORDS, by=case.ACTS, message="in 3 parts, 1 of them")
 
 
 def test_a_part_is_not_solved_in_vain(case):
     run(case.ACTS, "--cut", *WORDS)
-    for how, why in (({"preexec_fn": limited(RLIMIT_FSIZE=1000)}, "File too large"), (NOBODY, "Permission denied")):
-        words = write("words", "", 0o666)
-        ran = run(sys.executable, "work/solve.py", "1-2", text=True, env={**os.environ, "WORDS": f"{words.absolute()}"},
-                  **how)
-        assert ran.returncode == 1 and re.search(f"^solve.py 1-2: .*{why}.*$", ran.stderr, re.M)
+    for how, why in (({"preexec_fn": limited(RLIMIT_FSIZE=4000)}, "File too large"), (NOBODY, "Permission denied")):
+        words = write(case.folder / "words", "", 0o666)
+        ran = run(*SOLVE, "1-2", text=True, env={**os.environ, "WORDS": str(words)}, **how)
+        failed = re.findall(r"^part (.*): .*: (.*)\n", ran.stderr, re.M)
+        assert (ran.returncode, failed) == (1, [("0000001", why), ("0000002", why)])
         assert words.read_text().count("\n") == 1  # the program has run for the known line alone
 
 
-def test_files_that_solve_py_may_not_read_are_named(case):
+def test_results_are_new_files_once_they_are_on_the_disk_and_files_that_may_not_be_read_are_named(case):
     run(case.MANY, "--cut", *WORDS, "--book-in=one.book")
+    write("other", "?")
+    os.chmod("work/results", 0o777)
+    os.symlink(case.folder / "other", "work/results/0000000")
+    write("work/results/0000001", "", 0o600 if NOBODY else 0o100)
+    ran = run(*SOLVE, "0-2", env=preload(case.folder, WATCHED=""), text=True, **NOBODY)
+    why = "part 0000001: results/0000001: Permission denied\n"
+    assert (ran.returncode, ran.stderr) == (1, f"sync rename sync rename {why}")
+    assert [path.lstat().st_size > 99 for path in sorted(Path("work/results").iterdir())] == [True, False, True]
+    assert Path("other").read_text() == "?"
+    os.remove("work/results/0000002")
+    os.mkdir("work/results/0000002")
+    ends((1, "", "part 0000002: results/0000002: Is a directory\n"), *SOLVE, "2")
     for name, why in (("book-in", "the program can't solve a known line: ffosolve: cannot read book-in"),
                       ("program-0", "[Errno 13] Permission denied: 'program-0'")):
         Path("work", name).chmod(0o111)
-        ends((1, "", f"solve.py 0: {why}\n"), sys.executable, "work/solve.py", "0", **NOBODY)
+        ends((1, "", f"solve.py 0: {why}\n"), *SOLVE, "0", **NOBODY)
+
+
+def test_an_interrupt_or_a_lack_of_memory_or_an_old_python_ends_solve_py_without_a_traceback(case):
+    run(case.ACTS, "--cut", *WORDS)
+    ran = case.start(*SOLVE, "0-2", env={**os.environ, "LAST": "0"})
+    wait_until(lambda: [*Path("work/results").glob("0000000.*.new")])
+    assert (end(case, ran, signal.SIGINT), ran.returncode) == ((b"", ""), -signal.SIGINT)
+    case.many(*WORDS)
+    assert len(os.listdir("work/results")) == 3
+    os.truncate("work/program-0", 1 << 30)
+    ends((1, "", "solve.py 0: out of memory\n"), *SOLVE, "0", preexec_fn=limited(RLIMIT_AS=200 << 20))
+    ast.parse(Path(solve.__file__).read_text(), feature_version=(3, 7))
+    code = "import runpy, sys; sys.version_info = (3, 7, 1); runpy.run_path('work/solve.py', run_name='__main__')"
+    error = f"solve.py needs Python 3.8 or later, and this is {sys.version.split()[0]}\n"
+    ends((1, "", error), sys.executable, "-c", code)
 
 
 def test_a_folder_where_no_program_may_run_is_refused(case):
-    mount = 'mkdir work && mount -t tmpfs -o noexec none work && exec "$0" "$@"'
+    mount = 'mkdir work && mount -t tmpfs -o noexec,mode=755 none work && exec "$0" "$@"'
     unshare, *words = unshared()
     case.many(*words, "sh", "-c", mount, case.MANY, *WORDS, by=unshare, status=4,
               message="the program can't solve a known line: setpriv: failed to execute program-0: Permission denied\n")
 
 
-def test_an_old_python_is_named(case):
-    run(case.MANY, "--cut", *WORDS)
-    code = "import runpy, sys; sys.version_info = (3, 7, 1); runpy.run_path('work/solve.py', run_name='__main__')"
-    ran = run(sys.executable, "-c", code, text=True)
-    assert (ran.returncode, ran.stdout) == (1, "")
-    assert ran.stderr.startswith("solve.py needs Python 3.8 or later, and this is ")
-
-
-def test_a_program_that_fails_three_times_in_a_row_and_then_for_a_known_line_ends_the_run(case):
+def test_a_program_that_fails_for_a_part_and_then_for_a_known_line_ends_the_run(case):
     script = '#!/bin/sh\necho >>runs; [ $(wc -l <runs) -le 6 ] || { echo broken >&2; exit 9; }; exec "@real@" "$@"\n'
     by = case.install("breaking", script=script)
     errors = case.many("--jobs=1", "--lines=1", *WORDS[1:], by=by, status=4)
-    assert errors.count(" failed part ") == 2
+    assert " failed part " not in errors
     assert errors.endswith("on this machine the program can't solve a known line: broken\n")
     assert case.parts_solved() == 3
     case.write_list(case.SMALL[:68 * 3] + b"% FAIL\n" * 7 + case.SMALL[:68 * 3])
@@ -249,22 +313,36 @@ def test_copies_of_files_that_others_may_not_read_may_not_be_read_by_others(case
     assert {name for name, mode in modes.items() if not mode & 0o077} == secret
     shutil.rmtree("work/results")
     run(case.MANY, "--cut", *WORDS, "--book-in=one.book")
-    run(sys.executable, "work/solve.py", "1")
+    run(*SOLVE, "1")
     assert stat.S_IMODE(Path("work/results/0000001").stat().st_mode) == 0o600
 
 
 def test_a_finished_folder_that_may_not_be_written_prints_its_report(case):
-    case.many(*WORDS)
+    """A folder keeps its program, and a newer one is named."""
+    case.many(*WORDS[:3])
+    Path("work", folder.LOCK).unlink()
+    assert "program" not in case.many(*WORDS, message=", 3 of them solved before")
+    told = ", 3 of them solved before; folder work, with the program that it was begun with, not the present one\n"
+    case.many(*WORDS, by=case.ACTS, message=told)
     write("work/solve.py", "of an earlier version")
+    Path("work", folder.LOCK).unlink()
     case.folder.chmod(0o777)
+    os.chmod("work", 0o555)
     before = files()
     case.many(*WORDS, message=", 3 of them solved before", **NOBODY)
     assert files() == before
     Path("work/results/0000001").unlink()
     case.refused(3, "cannot write work: Permission denied\n", "--quiet", *WORDS, **NOBODY)
+    os.chmod("work", 0o755)
 
 
 def test_a_full_disk_ends_the_run_and_it_goes_on_when_there_is_room(case):
+    full, text = {"preexec_fn": limited(RLIMIT_FSIZE=1000)}, b"3 parts, 3 of them solved\n"
+    case.many("--cut", *WORDS, status=3, message="cannot write work: File too large\n", **full)
+    case.many(*WORDS)
+    Path("work/list").unlink()
+    case.many("--cut", *WORDS[:3], output=text, **full)
+    shutil.rmtree("work")
     fails_late = "open('/dev/full', 'wb', 0).write(b'?') if path.name == '0000005' else file.writelines(pieces)"
     by = case.install("full", ("folder", "file.writelines(pieces)", fails_late))
     words = ("--jobs=1", "--lines=5", *WORDS[1:])
@@ -274,7 +352,7 @@ def test_a_full_disk_ends_the_run_and_it_goes_on_when_there_is_room(case):
     case.many(*words, message=f", {done} of them solved before")
 
 
-def test_a_list_is_read_from_standard_input(case):
+def test_a_list_is_read_from_standard_input_from_where_it_stands_and_from_a_pipe(case):
     case.many("--lines=20", "work", "-", message="-: 60 lines in 3 parts", input=case.SMALL, umask=0o022)
     assert stat.S_IMODE(os.stat("work/list").st_mode) == 0o644
     case.many("--lines=20", "work", "/dev/stdin", message=", 3 of them solved before", input=case.SMALL)
@@ -283,20 +361,19 @@ def test_a_list_is_read_from_standard_input(case):
         case.many("--lines=20", "work", "-", message=", 3 of them solved before", stdin=file)
     case.refused(2, "- is not the list that work was begun with, from line 1 on", "--lines=20", "work", "-",
                  input=case.SMALL[68:])
+    case.refused(3, f"cannot copy - to {os.environ['TMPDIR']}: File too large", "work", "-", input=case.SMALL,
+                 preexec_fn=limited(RLIMIT_FSIZE=1000))
     ends((3, "", "ffosolve-many: cannot read -: standard input is closed\n"), "sh", "-c", '"$0" work - <&-', case.MANY)
-
-
-def test_standard_input_is_read_from_where_it_stands_and_pipes_are_read(case):
     write("whole.obf", b"%\n\n" + case.SMALL)
     for command in ('{ read a; read b; "$0" in - --book-out joined.book; } <whole.obf',
-                    '"$0" work <(cat list.obf) --book-in <(cat one.book) --book-out joined.book'):
+                    '"$0" pipe <(cat list.obf) --book-in <(cat one.book) --book-out joined.book'):
         case.many("-c", command, case.MANY, by="bash", message=": 60 lines in 1 part")
         case.same_book()
-    assert Path("work", "book-in").read_bytes() == Path("one.book").read_bytes()
+    assert Path("pipe", "book-in").read_bytes() == Path("one.book").read_bytes()
     assert os.listdir(os.environ["TMPDIR"]) == []
 
 
-def test_texts_that_are_not_lists_are_refused(case):
+def test_texts_that_are_not_lists_and_parts_with_more_bytes_than_a_file_may_have_are_refused(case):
     for text, message in ((b"\xef\xbb\xbf" + case.SMALL, "it begins with a byte-order mark"),
                           (case.SMALL.decode().encode("utf-16"), "it begins with a byte-order mark"),
                           (case.SMALL.replace(b"\r", b"").replace(b"\n", b"\r"), "its lines end with CR alone"),
@@ -306,14 +383,6 @@ def test_texts_that_are_not_lists_are_refused(case):
         case.refused(3, f"cannot read -: {message}", "work", "-", input=text)
     case.write_list(case.SMALL.partition(b"\n")[0].rstrip() + b"\r")  # its only line ends with CR but no LF
     case.many("list.obf")
-
-
-def test_a_pipe_is_refused_if_there_is_no_room_for_its_copy(case):
-    case.refused(3, f"cannot copy - to {os.environ['TMPDIR']}: File too large", "work", "-", input=case.SMALL,
-                 preexec_fn=limited(RLIMIT_FSIZE=1000))
-
-
-def test_a_part_has_at_most_the_bytes_of_a_file(case):
     half, most = b"%" * (MOST_BYTES // 2 - 1) + b"\n", "has more than 1048576 bytes"
     Path("empty").mkdir()
     for name in ("a/b/work", "empty"):
@@ -323,13 +392,8 @@ def test_a_part_has_at_most_the_bytes_of_a_file(case):
     assert run(case.MANY, "--cut", "--lines=2", "work", "-", input=half * 4).stdout[:8] == b"2 parts,"
 
 
-def test_a_list_that_changes_while_it_is_copied_is_solved_by_the_next_command(case):
-    by = case.install("changing", ("folder", "store(path, file,", "store(path, [b'?' * 9999],"))
-    case.many("--lines=7", "work", "list.obf", by=by, status=1, message="not solved: 9 of 9 parts")
-    case.many("--lines=7", "work", "list.obf", message=" 60 lines in 9 parts, 0 of them")
-
-
 def test_a_folder_with_other_files_or_of_an_earlier_version_is_refused_and_untouched(case):
+    """One that is empty, or was just begun, or whose program did not work at first, is used."""
     message = ("{} has files that are not ffosolve-many's, or those of an earlier version, such as {}: name a new "
                "or an empty folder\n")
     for place, names, first in (("one", "copy", "copy"), ("two", "lock copy", "copy"), ("a.new", "a.new", "a.new"),
@@ -339,28 +403,25 @@ def test_a_folder_with_other_files_or_of_an_earlier_version_is_refused_and_untou
             write(Path(place, name), "the work of ffosolve-many, form 1")
         case.refused(2, message.format(place, first), place, "list.obf")
     case.refused(2, message.format(".", "a.new"), ".", "list.obf")
-
-
-def test_a_folder_that_is_empty_or_was_just_begun_is_used(case):
     Path("empty").mkdir()
-    for at, names in (("empty", ()), ("locked", (folder.LOCK,)), ("copying", (folder.LOCK, "list")),
-                      ("begun", (folder.LOCK, "task"))):
+    for place, *names in (["empty"], ["locked", folder.LOCK], ["copying", folder.LOCK, "list"],
+                          ["begun", folder.LOCK, "task"]):
         for name in names:
-            write(Path(at, name), "[]")
-        case.many(at, "list.obf")
-
-
-def test_a_folder_whose_program_did_not_work_at_first_is_used(case):
+            write(Path(place, name), "[]")
+        case.many(place, "list.obf")
     fails = {"SPOIL_KNOWN": "lambda text: sys.exit('broken') if b'H1' in text else text"}
-    case.many(*WORDS[:3], by=case.ACTS, places=fails, status=4, message="can't solve a known line: broken\n")
-    case.many(*WORDS[:3])
-    shutil.rmtree("work")
-    case.many(*WORDS[:3], by=case.ACTS, places=fails, status=4)
-    case.write_list(case.SMALL[68:])  # which may be another list, since nothing of the first one is solved
-    case.many(*WORDS[:3])
+    for place, text in (("new", case.SMALL), ("other", case.SMALL[68:])):  # a list without results may change
+        case.many(place, "list.obf", by=case.ACTS, places=fails, status=4, message="solve a known line: broken\n")
+        case.write_list(text)
+        case.many(place, "list.obf")
 
 
 SIGNALLED = ("--jobs=2", "--lines=5", *WORDS[1:])
+
+
+def programs(case):
+    """Returns the IDs of the processes that solve parts."""
+    return [number for number, words in processes_in(case.folder).items() if "program-0" in words]
 
 
 def begin(case, *program, last=99):
@@ -373,7 +434,7 @@ def at_work(case, done):
     """Starts a run of 12 parts; returns its process once `done` parts are solved and two are being solved."""
     ran = begin(case, case.ACTS, last=done)
     wait_until(lambda: case.parts_solved() >= done)
-    wait_until(lambda: sum("program-0" in words for words in processes_in(case.folder).values()) == 2)
+    wait_until(lambda: len(programs(case)) == 2)
     return ran
 
 
@@ -396,7 +457,7 @@ def test_a_signal_ends_all_processes_within_a_second_and_the_command_goes_on(cas
     case.many(*SIGNALLED, by=case.ACTS, message=f"lines in 12 parts, {case.parts_solved()} of them solved before")
 
 
-def test_a_signal_ends_the_run_while_python_ignores_exceptions(case):
+def test_a_signal_ends_the_run_while_python_ignores_exceptions_or_starts(case):
     ignoring = """    class Ignoring:
         def __del__(self):
             open("begun", "w").close()
@@ -406,17 +467,19 @@ def test_a_signal_ends_the_run_while_python_ignores_exceptions(case):
     run = run_of(""".replace("SECONDS", str(SECONDS))
     by = case.install("ignoring", ("command", "    run = run_of(", ignoring),
                       ("command", "import re\n", "import re, time\n"))
-    for number in (signal.SIGTERM, signal.SIGINT):
+    slow = "import argparse, time\nopen('begun', 'w').close()\ntime.sleep(40)\n"
+    importing = case.install("starting", ("command", "import argparse\n", slow))
+    for by, number, told in ((by, signal.SIGTERM, INTERRUPTED), (by, signal.SIGINT, INTERRUPTED),
+                             (importing, signal.SIGINT, "")):
         Path("begun").unlink(missing_ok=True)
         ran = begin(case, by)
         wait_until(Path("begun").exists)
-        assert end(case, ran, number) == (b"", INTERRUPTED)
-        assert ran.returncode == -number
+        assert (end(case, ran, number), ran.returncode) == ((b"", told), -number)
 
 
 def test_a_program_does_not_start_once_its_caller_has_ended(case):
     run(case.MANY, "--cut", *WORDS)
-    code = "import solve; print(*solve.guarded(solve.files_in(solve.Path())['program-0'], []), sep='\\n')"
+    code = "import solve; print(*solve.GUARD, solve.files_in(solve.opened('.'))['program-0'], sep='\\n')"
     words = run(sys.executable, "-c", code, cwd="work", text=True).stdout.splitlines()
     ran = run(*words, text=True)
     assert ran.stdout == "" and "/program-0: No such file or directory" in ran.stderr
@@ -431,31 +494,36 @@ def test_two_signals_together_end_the_run_without_a_traceback(case):
         assert re.search(f"^.*\n{INTERRUPTED}$", errors)
 
 
-def test_an_interrupt_at_the_start_prints_no_traceback(case):
-    slow = "import argparse, time\nopen('begun', 'w').close()\ntime.sleep(40)\n"
-    ran = begin(case, case.install("starting", ("command", "import argparse\n", slow)))
-    wait_until(Path("begun").exists)
-    assert (end(case, ran, signal.SIGINT), ran.returncode) == ((b"", ""), -signal.SIGINT)
+MAY_USE = sorted(os.sched_getaffinity(0))
 
 
-@pytest.mark.parametrize("words, count", [((), len(os.sched_getaffinity(0))), (("--jobs=20",), 20)])
-def test_as_many_parts_are_solved_at_once_as_there_are_jobs_by_default_one_for_each_processor(case, words, count):
-    ran = case.start(case.ACTS, *words, "--lines=1", *WORDS[1:], env={**os.environ, "PAUSE": "45"})
-    wait_until(lambda: sum("program-0" in words for words in processes_in(case.folder).values()) == count)
+@pytest.mark.parametrize("words, processors", [((), MAY_USE), ((), MAY_USE[:1]), (("--jobs=20",), MAY_USE[:1])])
+def test_as_many_parts_are_solved_at_once_as_there_are_jobs_by_default_one_for_each_processor_that_may_be_used(
+        case, words, processors):
+    ran = case.start("taskset", "-c", ",".join(map(str, processors)), case.ACTS, *words, "--lines=1", *WORDS[1:],
+                     env={**os.environ, "PAUSE": "45"})
+    count = 20 if words else len(processors)
+    wait_until(lambda: len(programs(case)) == count)
+    time.sleep(0.5)  # in which more might begin
+    assert len(programs(case)) == count
     end(case, ran, signal.SIGTERM)
 
 
-def test_a_second_command_in_the_folder_is_refused(case):
-    ran = at_work(case, 1)
+def test_signals_that_the_caller_ignores_do_not_end_the_run_such_as_that_of_a_terminal_that_closes_after_nohup(case):
+    ran = begin(case, "sh", "-c", 'trap "" INT; exec nohup "$@"', "sh", case.ACTS)
+    wait_until(lambda: case.parts_solved() > 0)
+    output, _ = end(case, ran, signal.SIGINT, signal.SIGHUP)
+    assert (output, ran.returncode) == (case.one, 0)
+
+
+def test_control_c_on_a_terminal_is_no_signal_for_the_programs_and_they_end_first_if_memory_is_short(case):
+    """Meanwhile, a second command in the folder is refused."""
+    ran = at_work(case, 0)
     case.many(*SIGNALLED, by=case.ACTS, status=3, message="another run works in work\n")
     assert ran.poll() is None
-
-
-def test_an_interrupt_that_the_caller_ignores_does_not_end_the_run(case):
-    ran = begin(case, "sh", "-c", 'trap "" INT; exec "$@"', "sh", case.ACTS)
-    wait_until(lambda: case.parts_solved() > 0)
-    output, _ = end(case, ran, signal.SIGINT)
-    assert (output, ran.returncode) == (case.one, 0)
+    assert os.getpgid(ran.pid) not in map(os.getpgid, programs(case))
+    assert {Path(f"/proc/{number}/oom_score_adj").read_text() for number in programs(case)} == {"1000\n"}
+    assert end(case, ran, signal.SIGINT)[1].count("\n") == 2  # the first line, and that it was interrupted
 
 
 def test_kills_at_random_moments_lose_nothing(case):

@@ -10,7 +10,7 @@ import pytest
 from .games import random_positions
 from .support import ROOT, SECONDS, run, wait_until
 import ffosolve
-from ffosolve import Answer, Position, Solver
+from ffosolve import Answer, Position, Solver, _bulk
 
 SHARED, WIDE = Position(3, 2), Position(1, 6)
 NAMES = "solve_all", "solve_iter", "move_scores_all", "move_scores_iter"
@@ -30,17 +30,17 @@ def masks_of(positions):
 
 @pytest.fixture(scope="module")
 def wanted():
-    """What each call has to find for POSITIONS: what the calls for one position find."""
+    """The results that each call has to find for POSITIONS: those of the calls for one position."""
     answers, scores = ([call(position) for position in POSITIONS] for call in (Solver().solve, Solver().move_scores))
     return dict(zip(NAMES, (answers, answers, scores, scores)))
 
 
-@pytest.fixture
-def mocked(monkeypatch):
+@pytest.fixture(params=[7, 0])
+def mocked(monkeypatch, request):
     """A Solver and a mock that stands for its library, since no call is made by another process. Its calls for many
     positions do what `side_effect` does, and then what the library does."""
     monkeypatch.setattr("ffosolve._processes.is_brief", lambda *_: True)
-    solver = Solver(scoring=2, entries=7)
+    solver = Solver(scoring=2, entries=request.param)
     solver._library = mock.Mock(wraps=solver._library)
     return solver, solver._library
 
@@ -67,7 +67,7 @@ def test_results_come_before_an_endless_or_slow_iterable_ends(threads, wanted):
     found = Solver().solve_iter(endless(), threads=threads)
     assert iter(found) is found
     assert next(found) == answers[0]
-    assert len(taken) < 15
+    assert len(taken) == 1 if threads == 1 else len(taken) < 15
     assert list(itertools.islice(found, 499)) == answers[1:] + answers[:100]
     found.close()
     assert len(taken) < 100_000
@@ -94,9 +94,12 @@ def test_answers_that_are_found_come_before_a_timeout(threads):
 
 @pytest.mark.parametrize("threads", [3, 6])
 @pytest.mark.parametrize("name", [*NAMES, *ARRAYS])
-def test_as_many_threads_as_asked_make_calls_at_once_with_the_scoring_and_table_of_the_solver(name, threads, mocked):
+def test_as_many_threads_as_asked_make_calls_at_once_with_the_scoring_and_table_of_the_solver(name, threads, mocked,
+                                                                                              monkeypatch):
     """Each position is a part of its own. The calls wait until there are as many as threads."""
     (solver, library), positions, at_once = mocked, random_positions(2 * threads, [16]), threading.Barrier(threads)
+    started = mock.Mock(wraps=_bulk.is_started)
+    monkeypatch.setattr(_bulk, "is_started", started)
     call = getattr(solver, name)
     given = masks_of(positions) if name in ARRAYS else [positions]
     alone = str(list(call(*given)))
@@ -104,7 +107,8 @@ def test_as_many_threads_as_asked_make_calls_at_once_with_the_scoring_and_table_
         made.side_effect = lambda *_: (at_once.wait(SECONDS), mock.DEFAULT)[1]
     library.reset_mock()
     assert str(list(call(*given, threads=threads))) == alone
-    assert [call.args[2:4] for call in library.method_calls] == [(2, 7)] * 2 * threads
+    assert [call.args[2:4] for call in library.method_calls] == [(2, solver._entries)] * 2 * threads
+    assert started.call_count == threads
 
 
 @pytest.mark.parametrize("others_finish", [False, True])
@@ -169,8 +173,8 @@ def test_a_number_of_threads_is_refused_by_its_name(name, threads, error):
 
 @pytest.mark.parametrize("scoring, threads, count", [(0, 1, 90), (1, 1, 90), (2, 1, 90), (0, 3, 400), (0, 2, 0)])
 def test_arrays_hold_what_lists_hold(scoring, threads, count):
-    numpy, solver, positions = pytest.importorskip("numpy"), Solver(scoring=scoring), POSITIONS[:count]
-    own, opp = numpy.array(positions, "uint64").reshape(-1, 2).T
+    solver, positions = Solver(scoring=scoring), POSITIONS[:count]
+    own, opp = masks_of(positions)
     answers, scores = (call(own, opp, threads=threads) for call in (solver.solve_arrays, solver.move_scores_arrays))
     assert [str(array.dtype) for array in (*answers, scores)] == ["int32", "int32", "uint64", "int8"]
     assert scores.shape == (count, 64)

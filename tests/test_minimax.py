@@ -1,7 +1,6 @@
 """The Python package and ffoscores find what plain minimax finds in random positions. POSITIONS is the number of those
-with at most MOST empty squares (the environment may set both); DEEP is the number of those with 7 or 8."""
+with at most 6 empty squares, DEEP the number of those with 7 or 8."""
 import itertools
-import os
 from concurrent.futures import ProcessPoolExecutor, ThreadPoolExecutor
 
 import pytest
@@ -12,7 +11,7 @@ from .support import SECONDS, built, ends
 from .games import random_positions
 from ffosolve import Answer, Kind, NoMove, Scoring, Solver, square_name
 
-POSITIONS, MOST, DEEP = int(os.environ.get("POSITIONS", 2000)), int(os.environ.get("MOST", 6)), 40
+POSITIONS, DEEP = 2000, 40
 
 
 def solved(position):
@@ -32,7 +31,7 @@ def solved(position):
 
 @pytest.fixture(scope="module")
 def solved_rows():
-    positions = random_positions(POSITIONS, range(MOST + 1)) + random_positions(DEEP, (7, 8))
+    positions = random_positions(POSITIONS, range(7)) + random_positions(DEEP, (7, 8))
     with ProcessPoolExecutor() as pool:
         return list(zip(*pool.map(solved, positions, chunksize=20)))
 
@@ -65,12 +64,14 @@ def test_python_finds_what_minimax_finds(solved_rows, scoring):
 
 
 @pytest.mark.parametrize("scoring", Scoring)
-def test_ffoscores_prints_what_minimax_finds(solved_rows, scoring):
-    asked = wanted = ""
+def test_ffoscores_and_scored_line_find_what_minimax_finds(solved_rows, scoring):
+    asked = wanted = found = ""
     for position, answer, scores in solved_rows[scoring]:
         moves = sorted(scores, key=lambda it: -it[1]) or [(("", "PS", "--")[answer.kind], answer.score)]
         asked += f"{position.to_obf()}\n"
         wanted += position.to_obf() + "".join(f" {name}:{score:+03};" for name, score in moves) + "\n"
+        found += Solver(scoring=scoring).scored_line(position) + "\n"
+    assert found == wanted
     for entries in (0, 65_536):
         words = "--scoring", scoring.name.lower(), "--table", entries
         ends((0, wanted, ""), built("ffoscores"), *words, input=asked, timeout=5 * SECONDS)

@@ -1,33 +1,12 @@
 """ffosolve and ffoscores without enough memory: in run n, the nth request for memory is refused."""
-import tempfile
-from pathlib import Path
-
 import pytest
 
-from tests.support import ROOT, built, preload, refuse_threads, run, stored
+from tests.support import ROOT, built, outcome, outcomes, refuse_threads, stored
 
 TEXT, PRINTED = stored("crates", "ffosolve", "stdin"), stored("crates", "ffosolve", "stdout")
 KINDS, SCORES = stored("examples", "kinds.obf"), stored("examples", "kinds.scores")
 EXAMPLES = ROOT / "examples"
 FILES = ("--book-in", EXAMPLES / "first.book", "--book-out", "it.book", EXAMPLES / "first.obf", EXAMPLES / "kinds.obf")
-
-
-def outcome(*words, **how):
-    """Runs a program in a new folder. Returns (status, output, errors, {name: content} of the files that it left)."""
-    with tempfile.TemporaryDirectory() as folder:
-        ran = run(*words, cwd=folder, **how)
-        return ran.returncode, ran.stdout, ran.stderr, {path.name: path.read_bytes() for path in Path(folder).iterdir()}
-
-
-def outcomes(*words, **how):
-    """Runs a program again and again; in run n, the nth request for memory is refused. Returns a list of what `outcome`
-    returns for each run. The last run is the first one without a refused request."""
-    found, is_refused = [], True
-    while is_refused:
-        *ran, files = outcome(*words, env=preload(Path.cwd(), REFUSED=str(len(found) + 1)), **how)
-        is_refused = files.pop("refused", None) is not None
-        found.append((*ran, files))
-    return found
 
 
 @pytest.mark.parametrize("words, threads, prepare", (

@@ -93,7 +93,7 @@ def test_an_answer_reads_as_its_row_of_a_report_and_its_board_names_a_pass_and_a
         assert (str(answer), str(board)) == (text, str(position.show(scores)).replace("is to move", state))
         assert board._repr_svg_().count(f">{mover} {state}</text>") == 1
     two = ffosolve.Answer(0, ffosolve.Kind.MOVES, 0x81)
-    assert (str(two), f"{two}") == ("+00 A1,H1", "+00 A1,H1")
+    assert (str(two), f"{two}", f"{two:>10}") == ("+00 A1,H1", "+00 A1,H1", " +00 A1,H1")
     assert repr(two) == "Answer(score=0, kind=<Kind.MOVES: 0>, best=129)"
 
 
@@ -135,3 +135,19 @@ def test_a_picture_has_discs_scores_and_marks_in_their_squares():
         colours = {at(x + right, y + down) for right in range(8, 36) for down in range(14, 30)}
         if BOARD[place] == "-":
             assert (len(colours) > 3) == (name in ("A1", "A2", "B1", "H1", "H8")), name
+
+
+@pytest.mark.parametrize("side, mover", (
+    ("blanc", "X"), ("bianco;", "X"), ("wit% w", "O"), ("Weiss", "O"), ("oscuro", "O"), ("*x A1:+02;", "X"),
+    ("OO", "O")))
+def test_a_side_that_goes_on_with_letters_is_read_with_a_warning(side, mover):
+    """The first letter counts. The words black and white, a move after the side, other words and comments get none."""
+    lines = [f"{'-' * 64} {it}" for it in ("X", side, "XA1:+02;", "Ops:-2", "X to move", "X% blanc", "black", "White;")]
+    with pytest.warns(ffosolve.ReadingWarning) as warned:
+        sides = [position.side for position in ffosolve.parse_lines("\n".join(lines))]
+    assert sides == ["X", mover, "X", "O", "X", "X", "X", "O"]
+    word, colour = re.match("\\W*\\w+", side)[0], {"X": "Black", "O": "White"}[mover]
+    message = f"the side {word} is read as {colour}: only its first letter counts"
+    assert [str(it.message) for it in warned] == [f"line 2: {message}"]
+    with pytest.warns(ffosolve.ReadingWarning, match=f"^{re.escape(message)}$"):
+        assert ffosolve.Position.from_obf(lines[1]).side == mover

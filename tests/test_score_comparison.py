@@ -1,11 +1,12 @@
-"""compare_scores in Python: how far an evaluation's scores are from those that ffoscores prints for the same list."""
+"""compare_scores in Python: how far an evaluation's scores are from those of a Solver, or that ffoscores printed."""
 import io
 from pathlib import Path
+from unittest import mock
 
 import pytest
 
 from tests.support import built, run, stored, write
-from ffosolve import WrongScore, compare_scores
+from ffosolve import Position, Solver, WrongScore, compare_scores
 
 BOARD = "-OXXXXX-XXXXXXXOXXXXXXXXXXXXXXXXXXXOXXXXXXXXXXXXXXXXXXXXXXXXXXXX X;"  # H1 is +62, and A1 +52
 AT_PASS = "-OOOOOOXXXXXXXXXXXXXXXXXXXXXXXXXXXXXXXXXXXXXXXXXXXXXXXXXXXXXXXXX O;"  # -64
@@ -34,17 +35,65 @@ def scored(folder):
 def test_errors_are_the_differences_of_the_scores(scored):
     wrong = [WrongScore(4, "A1", 60.5, 52), WrongScore(4, "H1", 61.75, 62), WrongScore(5, "H1", 0.5, 62),
              WrongScore(5, "A1", 70, 52), WrongScore(6, "PS", -60, -64)]
-    errors = [8.5, 0.25, 61.5, 18, 4]
+    errors = [8.5, -0.25, -61.5, 18, 4]
+    sizes = list(map(abs, errors))
     found = compare_scores("list.obf", "list.scores")
-    assert found == (6, 8, wrong, sum(errors) / 8, 61.5, 1, 2, 3)
-    assert [it.error for it in found.wrong] == errors
-    assert str(found) == "lines 6 moves 8 wrong 5 mean error 11.53 greatest 61.5 refused 1 illegal 2 unread 3"
+    assert found[:-1] == (6, 8, wrong, sum(sizes) / 8, sum(errors) / 8, 61.5, 3, 10 / 3, 2 / 3, 1, 2, 3)
+    assert [it.error for it in found.wrong] == sizes
+    assert str(found) == ("lines 6 moves 8 wrong 5 mean error 11.53 bias -3.91 greatest 61.5 choices 3 mean loss 3.33 "
+                          "best 67% refused 1 illegal 2 unread 3")
+    pass_alone = (1, 1, wrong[4:], 4, 4, 4, 0, 0, 0, 0, 0, 0, {})
+    others = (5, 7, wrong[:4], 88.25 / 7, -35.25 / 7, 61.5, 3, 10 / 3, 2 / 3, 0, 2, 3, {})
+    assert list(found.by_empties.items()) == [(1, pass_alone), (2, others)]
+
+
+def test_a_solver_finds_what_ffoscores_prints(scored):
+    wanted = compare_scores("list.obf", "list.scores")
+    for solver in (None, Solver(), Solver(entries=64)):
+        assert compare_scores("list.obf", solver, threads=2) == compare_scores(LISTED.splitlines(), solver) == wanted
+    assert compare_scores("list.obf", Solver(max_empties=1))[:2] == (1, 1)
+    assert compare_scores("list.obf", Solver(max_empties=1)).refused == 6
+    assert compare_scores([f"{BOARD} H1:+60;"], Solver(scoring="sign")).wrong == [WrongScore(1, "H1", 60, 1)]
+
+
+def test_positions_have_scores_without_a_file():
+    board, at_pass = Position.from_obf(BOARD), Position.from_obf(AT_PASS)
+    over = board.play("H1").play_all("")
+    found = compare_scores({board: 60.5, at_pass: -64})
+    assert found[:-1] == (2, 2, [WrongScore(1, None, 60.5, 62)], 0.75, -0.75, 1.5, 0, 0, 0, 0, 0, 0)
+    assert list(found.by_empties) == [1, 2]
+    moves = {"h1": 3, "A1": 3.5, "D4": 9}
+    found = compare_scores(iter([(board, moves), (at_pass, {"PS": -64}), (board, {"H1": 62}), (over, {})]))
+    assert found[:-1] == (4, 4, [WrongScore(1, "H1", 3, 62), WrongScore(1, "A1", 3.5, 52)], 107.5 / 4, -107.5 / 4, 59,
+                          2, 5, 0.5, 0, 1, 0)
+    assert compare_scores([(board, {"A1": 52, "H1": 52})]).mean_loss == 10  # of equal ones the first
+    solver = mock.Mock(spec=Solver, wraps=Solver(), max_empties=2)
+    assert compare_scores({board: 62}, solver, threads=3).wrong == []
+    assert solver.move_scores_all.call_args.kwargs == {"threads": 3}
+
+
+@pytest.mark.parametrize("values, error, why", (
+    ("60", TypeError, "the score of a position is a number, not '60'"),
+    ({"H1": None}, TypeError, "the score of H1 is a number, not None"),
+    ({"H9": 2}, ValueError, "a move is the name of a square, PS or --, not 'H9'"),
+    ({"h1": float("nan")}, ValueError, "the score of H1 is a finite number, not nan"),
+    (float("-inf"), ValueError, "the score of a position is a finite number, not -inf"),
+))
+def test_scores_that_are_no_numbers_of_moves_are_refused(values, error, why):
+    with pytest.raises(error, match=f"^{why}$"):
+        compare_scores({Position.from_obf(BOARD): values})
+
+
+def test_a_list_has_lines_or_pairs():
+    for wrong in (7, [7], [(1, 2, 3)], [("A1", 3)]):
+        with pytest.raises(TypeError):
+            compare_scores(wrong)
 
 
 def test_scores_of_many_digits_are_not_read(scored):
     texts = (LONG, f"+{LONG}.5", "-" + "9" * 5000, f"1e{LONG}", f".{LONG}x", "9" * 16)
     found = compare_scores([f"{BOARD} A1:{text}; H1:+62.{LONG}" for text in texts], [scored[1]] * len(texts))
-    assert found[:2] == (6, 6) and found[6:] == (0, 6)
+    assert found[:2] == (6, 6) and found[10:12] == (0, 6)
     assert found.wrong == [WrongScore(at, "H1", 63.0, 62) for at in range(1, 7)]
     found = compare_scores([f"{BOARD} A1:-{'9' * 15}; H1:000000000000062.0"], scored[1:2])
     assert (found.greatest_error, found.moves, found.unread) == (10 ** 15 + 51, 2, 0)
@@ -64,14 +113,15 @@ def test_paths_files_and_lines_are_read_alike(scored):
 
 def test_lines_of_every_kind_are_counted():
     found = compare_scores(KINDS, SCORES)
-    assert found[:2] + found[3:] == (8, 11, 27 / 11, 12, 5, 0, 3)
+    assert found[:2] + found[3:4] + found[5:6] + found[9:12] == (8, 11, 27 / 11, 12, 5, 0, 3)
     assert [it[:3] for it in found.wrong] == [(3, "H1", 60), (4, "A1", 62), (12, "A1", 64.0), (12, "H1", 65)]
-    assert compare_scores(SCORES, SCORES)[:6] == (8, 13, [], 0, 0, 0)
+    found = compare_scores(SCORES, SCORES)
+    assert found[:6] + found[7:10] == (8, 13, [], 0, 0, 0, 0, 1, 0)
 
 
 @pytest.mark.parametrize("empty", ([], ["% X", ""]))
 def test_an_empty_list_has_no_errors(empty):
-    assert compare_scores(empty, empty) == (0, 0, [], 0.0, 0, 0, 0, 0)
+    assert compare_scores(empty, empty) == compare_scores(empty) == (0, 0, [], 0, 0, 0, 0, 0, 0, 0, 0, 0, {})
 
 
 def refuses(number, listed, scored):

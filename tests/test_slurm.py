@@ -1,4 +1,4 @@
-"""The two Slurm jobs in docs/many-machines.md, run by Debian's package slurm-wlm on one node. Needs root."""
+"""The two Slurm jobs in docs/many-machines.md, run by Debian's package slurm-wlm on one node, which needs root."""
 import os
 import re
 import socket
@@ -8,7 +8,7 @@ from pathlib import Path
 import pytest
 
 from tests.many import WORDS
-from tests.support import SECONDS, need, run, stored, wait_until, write
+from tests.support import SECONDS, need, processes_in, run, stored, wait_until, write
 
 CONFIGURATION = """\
 ClusterName=ffosolve
@@ -27,14 +27,11 @@ SelectTypeParameters=CR_CPU
 NodeName={host} NodeAddr=127.0.0.1 CPUs=2
 PartitionName=all Nodes=ALL Default=YES
 """
-
-
-pytest_plugins = ["tests.many"]
+JOB, ARRAY = re.findall(b"```sh\n(#!/bin/sh\n#SBATCH.*?)```", stored("docs/many-machines.md"), re.DOTALL)
 
 
 @pytest.fixture
-def scripts(case, monkeypatch):
-    """Starts Slurm. Returns the scripts in the document."""
+def slurm(case, monkeypatch):
     if os.geteuid() != 0:
         pytest.skip("Slurm's daemons are started by root alone")
     need("slurmctld", "slurmd", "sbatch")
@@ -47,11 +44,10 @@ def scripts(case, monkeypatch):
     for name in ("slurmctld", "slurmd"):
         case.start(name, "-D", stdout=subprocess.DEVNULL, stderr=subprocess.DEVNULL)
     wait_until(lambda: b"idle" in run("sinfo", "-h", "-o", "%T").stdout)
-    return re.findall(b"```sh\n(#!/bin/sh\n#SBATCH.*?)```", stored("docs/many-machines.md"), re.DOTALL)
 
 
-def test_the_job_array_of_the_document_solves_all_parts_and_shows_why_some_fail(case, scripts):
-    write("part.sh", scripts[1].replace(b"100", b"6").replace(b"99", b"5"))
+def test_the_job_array_of_the_document_solves_all_parts_and_shows_why_some_fail(case, slurm):
+    write("part.sh", ARRAY.replace(b"100", b"6").replace(b"99", b"5"))
     case.write_list(case.SMALL + b"% FAIL\n")
     words = ("--lines=3", *WORDS[1:])
     run(case.ACTS, "--cut", *words, check=True)
@@ -62,13 +58,27 @@ def test_the_job_array_of_the_document_solves_all_parts_and_shows_why_some_fail(
     case.many(*words, message="in 21 parts, 20 of them solved before")
 
 
-def test_the_job_of_the_document_solves_a_list_on_its_own_cluster_and_ends_with_the_status(case, scripts):
+def test_the_job_of_the_document_waits_for_its_own_scheduler_ends_it_and_has_the_status(folder):
+    """Scripts take the places of the programs that it runs."""
+    write("path/dask", '#!/bin/sh\nsleep 1; echo "$@" >"$5"; exec sleep 60 >/dev/null 2>&1\n')
+    write("path/srun", "#!/bin/sh\n")
+    write("bin/ffosolve-many", '#!/bin/sh\ncat "$2"; exit 3\n')
+    write("scheduler-7.json", "of an earlier start, which was killed\n")
+    places = {"PATH": f"path:{os.environ['PATH']}", "SLURM_JOB_ID": "7", "SLURM_CPUS_PER_TASK": "2"}
+    ran = run("sh", write("job.sh", JOB), env={**os.environ, **places})
+    report = "scheduler --port 0 --scheduler-file scheduler-7.json\n"
+    assert (ran.returncode, Path("list.report").read_text(), os.path.exists("scheduler-7.json")) == (3, report, False)
+    wait_until(lambda: not processes_in(folder), 5)
+
+
+def test_the_job_of_the_document_solves_a_list_on_its_own_cluster_and_ends_with_the_status(case, slurm):
     need("dask")
     os.symlink(case.ACTS.parent, "bin")
-    job = scripts[0].replace(b"--nodes=4", b"--nodes=1").replace(b"--cpus-per-task=8", b"--cpus-per-task=2")
+    job = JOB.replace(b"--nodes=4", b"--nodes=1").replace(b"--cpus-per-task=8", b"--cpus-per-task=2")
     write("job.sh", job.replace(b"list.obf", b"--lines=3 list.obf"))
-    for text, status in ((case.SMALL, 0), (case.SMALL + b"% FAIL\n", 1)):
+    for number, (text, status) in enumerate(((case.SMALL, 0), (case.SMALL + b"% FAIL\n", 1)), 1):
         case.write_list(text)
+        write(f"scheduler-{number}.json", '{"address": "tcp://127.0.0.1:1"}')  # of a start that was killed
         ran = run("sbatch", "--wait", "--output=job.log", "job.sh", timeout=5 * SECONDS)
         log = Path("job.log").read_text()
         assert (ran.returncode, Path("list.report").read_bytes()) == (status, b"" if status else case.one), log

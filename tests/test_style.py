@@ -1,4 +1,8 @@
-"""Python is clean for mypy and flake8, shell for shellcheck. Their settings are in setup.cfg and .shellcheckrc."""
+"""Python is clean for mypy and flake8, shell for shellcheck. Their settings are in setup.cfg and .shellcheckrc. No
+modules of the package for Python import each other in a circle."""
+import ast
+import collections
+import graphlib
 import re
 
 from tests.support import ROOT, need, run, write
@@ -23,6 +27,39 @@ def test_types():
 
 def test_python():
     accepts("flake8", ".", *scripts(r"python\d?"))
+
+
+def imported(module):
+    """Yields the files of the modules of the package that a file imports, in functions and for types, too."""
+    for node in ast.walk(ast.parse(module.read_text())):
+        if isinstance(node, ast.ImportFrom) and node.level:
+            place = module.parents[node.level - 1].joinpath(*(node.module or "").split("."))
+            files = [place / f"{it.name}.py" for it in node.names] if place.is_dir() else [place.with_suffix(".py")]
+            yield from (file if file.exists() else place / "__init__.py" for file in files)
+
+
+def test_no_modules_import_each_other_in_a_circle():
+    modules = (ROOT / "python/src/ffosolve").rglob("*.py")
+    order = [*graphlib.TopologicalSorter({module: imported(module) for module in modules}).static_order()]
+    places = [order.index(ROOT / "python/src/ffosolve" / f"{name}.py") for name in ("_obf", "_positions", "__init__")]
+    assert places == sorted(places)
+
+
+def test_a_name_of_the_package_stands_for_one_thing():
+    """Each program has a name, a help in three pieces, and a function that runs it."""
+    named = collections.Counter()
+    for module in (ROOT / "python/src/ffosolve").rglob("*.py"):
+        for node in ast.parse(module.read_text()).body:
+            targets = getattr(node, "targets", [getattr(node, "target", None)])
+            named.update({getattr(node, "name", None), *(getattr(target, "id", None) for target in targets)})
+    assert named["Position"] == 1
+    assert {name for name, count in named.items() if name and count > 1} == {"NAME", "USAGE", "WHAT", "MORE", "main"}
+
+
+def test_no_test_module_imports_another():
+    tests = [path for folder in ("tests", "python/tests") for path in (ROOT / folder).glob("test_*.py")]
+    assert len(tests) > 20
+    assert [path.name for path in tests if re.search(r"(?m)^ *(from|import) .*\btest_", path.read_text())] == []
 
 
 def test_shell():

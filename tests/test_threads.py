@@ -36,11 +36,7 @@ def test_each_file_and_each_worker_has_a_thread_and_the_report_is_the_same_if_no
         words = ["--workers", workers, *files]
         assert solve(*words) == (wanted, workers + len(files))
         assert solve(*words, preexec_fn=refuse_threads) == (wanted, 0)
-
-
-@pytest.mark.parametrize("workers", (1, 64))
-def test_workers_end_if_there_is_no_position(workers):
-    ends((0, "[1]\nsolved 0 refused 0\n", ""), built(), "--workers", workers, "/dev/null")
+        ends((0, "[1]\nsolved 0 refused 0\n", ""), built(), "--workers", workers, "/dev/null")  # without a position
 
 
 def test_64_files_with_64_workers_always_have_the_same_report():

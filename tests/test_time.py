@@ -5,14 +5,15 @@ import timeit
 import pytest
 
 from ffosolve import MOST_ENTRIES, Position
-from tests.prefix import PREFIX, installed  # noqa: F401 - a fixture
+from tests.prefix import PREFIX
 from tests.support import built, ends, limited, run, stored, write
 
+pytestmark = pytest.mark.usefixtures("installed")
 KINDS = stored("examples", "kinds.obf").decode()
 HARD = b"-XXXXX----XOOX--XXXXOOOO-OXOOOO-OOXOOX--OOX-OOOOOXXXXXX-X----XXX O\n"  # 17 empty squares
 ADVISED = b"-XOOOO-X-XOOOOX--OOXOOXX-OOXXOXO-OXOXXO-OOOXOOX-OOXOOO--OX--O--- X\n"  # a third of the time with a book
 MOVES = b"-OOOOO-X--OOOOXOOXXOXXOOXXXOXOOOOXOXO---OOXOO---O-OOO---O-XXX--- X\n"  # 17 empty squares
-AGAIN = 8  # how often a position is repeated
+AGAIN = 12  # how often a position is repeated
 LIMIT = 64 << 20  # bytes of memory: enough for the default table, not for the greatest
 OUT_OF_MEMORY = {"ffosolve": (1, "", "ffosolve: out of memory\n"), "ffoscores": (3, "", "ffoscores: out of memory\n")}
 
@@ -22,9 +23,9 @@ def spent():
     return sum(sum(resource.getrusage(who)[:2]) for who in (resource.RUSAGE_SELF, resource.RUSAGE_CHILDREN))
 
 
-def seconds(call):
-    """Calls `call` three times, and returns the least processor time of a call, in seconds."""
-    return min(timeit.repeat(call, timer=spent, repeat=3, number=1))
+def seconds(call, repeat=3):
+    """Returns the least processor time, in seconds, of `repeat` calls of `call`."""
+    return min(timeit.repeat(call, timer=spent, repeat=repeat, number=1))
 
 
 @pytest.mark.parametrize("name", OUT_OF_MEMORY)
@@ -46,11 +47,12 @@ def test_a_right_book_saves_time_with_workers_with_progress_and_of_several_files
 
 
 @pytest.mark.parametrize("name", OUT_OF_MEMORY)
-@pytest.mark.parametrize("workers", [0, 3])
-def test_a_run_takes_a_quarter_of_the_time_without_a_table(name, workers):
-    words, how = (built(name), "--workers", workers), {"input": (HARD + ADVISED) * AGAIN, "check": True}
-    without, usual = (seconds(lambda: run(*words, "--table", size, **how)) for size in (0, 65_536))
-    assert usual < without / 4
+@pytest.mark.parametrize(("workers", "times"), [(0, 15), (3, 10)])  # threads may begin with the same position
+def test_a_run_takes_a_tenth_of_the_time_without_a_table(name, workers, times):
+    words, how = (built(name), "--workers", workers), {"input": (HARD + ADVISED) * 2 * AGAIN, "check": True}
+    without, usual = (seconds(lambda: run(*words, "--table", size, **how), repeat)
+                      for size, repeat in ((0, 1), (65_536, 3)))
+    assert usual < without / times
 
 
 def masks(line):
