@@ -12,7 +12,7 @@ BINDIR = $(PREFIX)/bin
 LIBDIR = $(PREFIX)/lib
 INCLUDEDIR = $(PREFIX)/include
 MANDIR = $(PREFIX)/share/man
-LIST =
+LIST = examples/first.obf
 # The level of processors to build for: by default the best one that this machine has.
 CPU := $(shell /lib64/ld-linux-x86-64.so.2 --help 2>&1 | grep -q 'x86-64-v3 .supported' && echo x86-64-v3 || echo x86-64-v2)
 tell = 2# the descriptor to which a build reports its progress
@@ -28,7 +28,7 @@ $(if $(filter $(levels),$(CPU)),,$(error CPU is $(CPU), but has to be one of: $(
 $(if $(filter /%,$(PREFIX)),,$(error PREFIX is $(PREFIX), but has to begin with a slash))
 
 all: tools $(programs:%=out/%) library ## proves and builds the programs and the library for C
-	echo "built: $(programs:%=out/%), which bin/ runs; out/library"
+	echo "built: $(programs:%=out/%), which bin/ runs; out/library; all of version $(package)"
 
 # What rt makes. Unlike make, find notices a removed file, and a change that keeps an old time, by its status time.
 changed = $(if $(shell find crates crates.txt -name out -prune -o -name must-fail -prune -o -cnewer $1.sum -print -quit 2>&1),always)
@@ -72,12 +72,14 @@ library = $(addprefix out/library/libffosolve.,a so so.$(major))
 $(programs:%=out/%) $(library): out/$(CPU)/$$(patsubst %.$(major),%,$$(@F)) always
 	cmp -s $< $@ || { mkdir -p $(@D) && cp $< $(new) && mv -f $(new) $@; }
 
-# $(call fill,FILE,TO) copies FILE to TO and fills in the version, the size of the largest table, and folders.
+# $(call fill,FILE,TO) copies FILE to TO and fills in the version, the size of the largest table, and folders. Blanks in
+# the folders that pkg-config reads need a backslash.
 number = $(shell echo $(version) | awk -F . '{ print 10000 * $$1 + 100 * $$2 + $$3 }')
 constant = $(shell awk -F '[ ;]+' '/const $1:/ { print $$(NF - 1) }' $2)
 entries = $(call constant,MOST_ENTRIES,crates/bound_table/src/bound_table.rt)
 fill = sed -e 's/@VERSION@/$(version)/g; s/@NUMBER@/$(number)/g; s/@MAJOR@/$(major)/g; s/@ENTRIES@/$(subst _,,$(entries))/g' \
-    -e "s|@BINDIR@|$(BINDIR)|g; s|@INCLUDE@|$$(realpath -ms --relative-to='$(LIBDIR)' '$(INCLUDEDIR)')|g" $1 | install -D -m 644 /dev/stdin $2
+    -e "s|@BINDIR@|$(BINDIR)|g; s|@LIBDIR@|$(LIBDIR)|; s|@INCLUDEDIR@|$(INCLUDEDIR)|; /^[a-z]*dir=/s/ /\\\\ /g" \
+    -e "s|@INCLUDE@|$$(realpath -ms --relative-to='$(LIBDIR)' '$(INCLUDEDIR)')|g" $1 | install -D -m 644 /dev/stdin $2
 
 # After a change of the version or of the largest table, libffosolve.so is newer than the header.
 out/library/ffosolve.h: include/ffosolve.h.in out/$(CPU)/libffosolve.so
@@ -103,45 +105,46 @@ constants: ## writes the version, the size of the largest table and the defaults
 	sed -i -E 's/^(version = ").*"/\1$(version)"/' rust/Cargo.toml
 	sed -i -E -e 's/(MOST_ENTRIES(: usize)? = )[0-9_]+/\1$(entries)/' \
 	    -e 's/(max_empties: int = |DEFAULT_EMPTIES: usize = |takes positions with up to )[0-9]+/\1$(empties)/' \
-	    python/src/ffosolve/__init__.py python/src/ffosolve/_library.py python/src/ffosolve/_solvers.py rust/src/solvers.rs
-	sed -i -E 's/(has at most )[0-9,]+( entries)/\1$(subst _,$(comma),$(entries))\2/; s/( empties, limit )[0-9]+/\1$(empties)/' \
+	    python/src/ffosolve/__init__.py python/src/ffosolve/_library.py python/src/ffosolve/_solvers.py rust/src/solvers.rs README.md
+	sed -i -E -e 's/(has at most )[0-9,]+( entries)/\1$(subst _,$(comma),$(entries))\2/; s/( empties, limit )[0-9]+/\1$(empties)/' \
+	    -e 's/(0 to 60 .default: )[0-9]+/\1$(empties)/; s/(reports stay the same .default: )[0-9]+/\1$(workers)/' \
+	    -e 's/(32 bytes each .default: )[0-9]+/\1$(subst _,,$(table))/' \
 	    docs/user-guide.md examples/kinds.report examples/kinds.scores
-	sed -i -E -e 's/^(\| .--max-empties N. .* )[0-9]+ \|$$/\1$(empties) |/' -e 's/^(\| .--workers N. .* )[0-9]+ \|$$/\1$(workers) |/' \
-	    -e 's/^(\| .--table N. .* )[0-9,]+ \|$$/\1$(subst _,$(comma),$(table)) |/' README.md
 
 has_rt = command -v rt >/dev/null || { echo 'rt (rattle-kit-13b or rattle-kit-13f) is not on the path' >&2; exit 4; }
 look: export list = $(LIST)
-look: ## solves three positions in about a minute, with nothing proved; LIST=FILE solves a small list of yours
+look: ## solves examples/first.obf in about a minute, with nothing proved; LIST=FILE: another small list
 	$(has_rt)
-	[ -z "$$list" ] || list=$$(realpath -e -- "$$list")
-	[ -z "$$list" ] || set -- --data "list.obf=$$list" -- list.obf
+	list=$$(realpath -e -- "$$list")
 	cd crates/ffosolve
 	exec 3>&1
-	said=$$(rt try "$$@" <stdin 2>&1 >&3) && status=0 || status=$$?
+	said=$$(rt try --data "list.obf=$$list" -- list.obf </dev/null 2>&1 >&3) && status=0 || status=$$?
 	case $$said in
 	*'run=ended '*) echo 'nothing is proved yet: bin/ffosolve proves the program, and then runs it' ;;
 	*) echo "$$said" | tail -n 3 >&2; exit 4 ;;
 	esac
 	exit "$$status"
 
-PYTHON ?= python3
 TESTS =
 check: commands = git:git
-check: modules = psutil:psutil pytest:pytest xdist:pytest-xdist pytest_timeout:pytest-timeout
+check: modules = psutil pytest pytest-timeout pytest-xdist
 check: tools levels $(crate_tests) ## tests everything; the last line counts what passed. TESTS='-k books': arguments for pytest
-	exec env -u MAKEFLAGS -u MFLAGS -u MAKELEVEL $(PYTHON) -m pytest -n auto --durations 20 $(TESTS)
+	exec env -u MAKEFLAGS -u MFLAGS -u MAKELEVEL $(python) -m pytest -n auto --durations 20 $(TESTS)
+
+# PYTHON or, if it is not set, the first of two commands that has `modules`; if neither has them, Debian's.
+has = -c 'import sys; from importlib.metadata import version; [*map(version, sys.argv[1:])]'
+python = $(or $(PYTHON),$(shell for each in python3 /usr/bin/python3; do $$each $(has) $(modules) 2>/dev/null && break; done; echo $$each))
 
 # Names the tools that are missing before anything is proved.
 tools:
 	$(has_rt)
-	packages=
+	packages='' python="$(python)"
 	lacks() { echo "$$1; Debian's package $$2 has it$${3-}" >&2; packages="$$packages $$2"; }
 	for need in cc:build-essential ld:binutils flock:util-linux $(commands); do
 	    command -v "$${need%:*}" >/dev/null || lacks "$${need%:*} is missing" "$${need#*:}"
 	done
 	for need in $(modules); do
-	    $(PYTHON) -c "import $${need%:*}" 2>/dev/null ||
-	        lacks "$(PYTHON) has no module $${need%:*}" "python3-$${need#*:}" ' for PYTHON=/usr/bin/python3'
+	    "$$python" $(has) "$$need" 2>/dev/null || lacks "$$python has no $$need" "python3-$$need" ' for /usr/bin/python3'
 	done
 	[ -z "$$packages" ] || { echo "apt-get install$$packages" >&2; exit 4; }
 
@@ -173,6 +176,8 @@ install: $(programs:%=out/$(CPU)/%) $(libraries) ## installs programs, library, 
 	umask 022
 	mkdir -p "$$share/doc/ffosolve" "$$share/ffosolve"
 	cp --parents --no-preserve=mode -t "$$share/doc/ffosolve" $(documents)
+	# The commands of the documents are those on the path, except in a fresh checkout, which `First use` is about.
+	sed -i -E '/^## First use/,/^## /!s,(^|[^/])\bbin/ffos,\1ffos,g' "$$share/doc/ffosolve/README.md" "$$share/doc/ffosolve"/docs/*.md
 	# The package for Python that the scripts use is among the documents, too, but some systems leave these out.
 	cp --parents --no-preserve=mode -t "$$share/ffosolve" $(filter python/src/%,$(documents))
 	echo '$(package)' | tee "$$share/doc/ffosolve/VERSION" >"$$share/ffosolve/VERSION"

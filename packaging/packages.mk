@@ -2,14 +2,16 @@
 # in a temporary folder, since rt refuses a checkout with links.
 
 # The version of a package: VERSION and, if commits came after its last change, their number and the last commit.
-package = $(eval package := $(or $(shell $(PYTHON) python/src/ffosolve/_version.py 2>/dev/null),$(version)))$(package)
+package = $(eval package := $(or $(shell $(python) python/src/ffosolve/_version.py 2>/dev/null),$(version)))$(package)
 archive = ffosolve-$(package)-linux-x86-64
-clean = change=$$(git status --porcelain | head -n 1) || exit; [ -z "$$change" ] || { echo "not committed:$$change" >&2; exit 1; }
+git = git --git-dir='$(CURDIR)/.git'# not the repository of a folder above
+clean = $(git) rev-parse -q --verify HEAD >/dev/null || { echo 'a package needs a git commit, which it names' >&2; exit 1; }; \
+    change=$$($(git) status --porcelain | head -n 1); [ -z "$$change" ] || { echo "not committed:$$change" >&2; exit 1; }
 room = room=$$(mktemp -d); trap 'rm -rf "$$room"' EXIT; umask 022
 # Moves packages from the temporary folder to out/, each first under another name, since a disk may be full.
 finish = for file in "$$room"/$1; do \
     made="out/$${file\#\#*/}"; install -m 644 "$$file" "$$made.new"; mv -f "$$made.new" "$$made"; echo "made: $$PWD/$$made"; done
-seconds = $$(git log -1 --format=%ct 2>/dev/null || stat -c %Y "$(CURDIR)/VERSION")
+seconds = $$($(git) log -1 --format=%ct)
 
 # $(call starters,FOLDER) writes programs into FOLDER/bin which start those for the processor's level. These are all in one
 # folder, since pip leaves a folder of folders behind.
@@ -17,23 +19,28 @@ starters = for program in $(programs); do \
     install -D packaging/start "$1/bin/$$program"; \
     for level in $(levels); do install -D "out/$$level/$$program" "$1/lib/ffosolve/$$program-$$level"; done; done
 
+commit: # refuses before anything is proved, too
+	$(clean)
+
 stage: install
 	$(call starters,$(DESTDIR)$(PREFIX))
 
 # $(call texts,FOLDER) writes README.md and PROVED into FOLDER.
 texts = install -m 644 packaging/README.md "$1"; \
     { \
-        printf '%s\n\n' "ffosolve $(package), commit $$(git rev-parse HEAD), $$(rt version)"; \
+        printf '%s\n\n' "ffosolve $(package), commit $$($(git) rev-parse HEAD), $$(rt version)"; \
         echo 'Each function of these crates was proved against its contract. Nothing else is built into:'; \
         for program in $(programs); do echo "bin/$$program: $$(scripts/below $$program | paste -sd ' ')"; done; \
         echo "lib/libffosolve.*: $$(scripts/below ffosolve_c | paste -sd ' ')"; \
     } | install -m 644 /dev/stdin "$1/PROVED"
 
-dist: levels ## makes out/ffosolve-VERSION-linux-x86-64.tar.gz, which runs wherever it is unpacked
+dist: commit levels ## makes out/ffosolve-VERSION-linux-x86-64.tar.gz, which runs wherever it is unpacked
 	$(clean)
 	$(room)
 	top="$$room/$(archive)"
 	make -s stage CPU=x86-64-v2 DESTDIR="$$room" PREFIX=/$(archive) >/dev/null
+	# shellcheck disable=SC2016 # pkg-config replaces the variable
+	sed -i 's|dir=/$(archive)|dir=$${pcfiledir}/../..|' "$$top/lib/pkgconfig/ffosolve.pc"
 	ln -s share/doc/ffosolve/examples "$$top/examples"
 	rm "$$top/share/doc/ffosolve/README.md"
 	$(call texts,$$top)
@@ -44,12 +51,12 @@ dist: levels ## makes out/ffosolve-VERSION-linux-x86-64.tar.gz, which runs where
 	(cd out && sha256sum $(archive).tar.gz >$(archive).tar.gz.sha256)
 
 # dpkg-buildpackage runs debian/rules in a copy of the checkout, whose first lines are those that only make knows.
-deb: levels ## makes packages for Debian: out/ffosolve_VERSION_amd64.deb, out/libffosolve1_VERSION_amd64.deb, ..
+deb: commit levels ## makes packages for Debian: out/ffosolve_VERSION_amd64.deb, out/libffosolve1_VERSION_amd64.deb, ..
 	$(clean)
 	$(room)
 	copy="$$room/ffosolve"
 	mkdir "$$copy"
-	git ls-files -z | xargs -0 cp -p --parents -t "$$copy"
+	$(git) ls-files -z | xargs -0 cp -p --parents -t "$$copy"
 	cp -pr --parents $(levels:%=out/%) "$$copy"
 	$(call texts,$$copy)
 	printf '%s\n' 'ffosolve ($(package)) unstable; urgency=medium' '' '  * CHANGELOG.md, in the package ffosolve, says what is new.' '' \
@@ -59,12 +66,13 @@ deb: levels ## makes packages for Debian: out/ffosolve_VERSION_amd64.deb, out/li
 	said=$$(cd "$$copy" && PATH=/usr/sbin:/usr/bin:/sbin:/bin dpkg-buildpackage --build=binary --unsigned-changes 2>&1) || { echo "$$said" | tail -n 20 >&2; exit 1; }
 	$(call finish,*.deb)
 
-wheel: levels ## makes out/ffosolve-VERSION-py3-none-manylinux_2_34_x86_64.whl, the package for Python with programs and library
+wheel: modules = hatchling
+wheel: commit tools levels ## makes out/ffosolve-VERSION-py3-none-manylinux_2_34_x86_64.whl, the package for Python with programs and library
 	$(clean)
 	$(room)
 	$(call starters,$$room)
 	for level in $(levels); do install -D -m 644 out/$$level/libffosolve.so "$$room/package/$$level/libffosolve.so.$(major)"; done
-	(cd python && FFOSOLVE_STAGE="$$room" SOURCE_DATE_EPOCH="$(seconds)" $(PYTHON) -Bm hatchling build --target wheel --directory "$$room" >/dev/null)
+	(cd python && FFOSOLVE_STAGE="$$room" SOURCE_DATE_EPOCH="$(seconds)" $(python) -Bm hatchling build --target wheel --directory "$$room" >/dev/null)
 	$(call finish,*.whl)
 
-.PHONY: stage dist deb wheel
+.PHONY: commit stage dist deb wheel
