@@ -14,7 +14,7 @@ import pytest
 
 from bench import player
 from tests.games import NAMES, PROGRAM, book_of, discs_of_black, games, positions_of, random_games, record, wthor
-from tests.support import NOBODY, ROOT, SECONDS, built, limited, run, stored, wait_until, write
+from tests.support import NOBODY, ROOT, SECONDS, built, limited, preload, run, stored, wait_until, write
 from ffosolve import ReadingWarning, read_games
 from ffosolve._games import corrected
 
@@ -528,6 +528,13 @@ def alone(folder):
     os.symlink(shutil.which("setpriv"), "tools/setpriv")
     environment = {**os.environ, "PATH": f"{folder}/tools"}
     return lambda *words: run(sys.executable, "bin/ffosolve-games", *words, text=True, env=environment)
+
+
+@pytest.mark.usefixtures("alone")
+def test_the_list_is_on_the_disk_before_it_is_solved(folder):
+    write("bin/ffosolve-many", "#!/bin/sh\nprintf solve >&2\nexit 3\n")
+    ran = run(sys.executable, "bin/ffosolve-games", *CHECK, text=True, env=preload(folder, WATCHED="yes"))
+    assert ran.stderr.startswith("sync solve")
 
 
 OPTIONS = ("--jobs=x", "--scheduler=h1:8786", "--cut", "--quiet", "--workers=2", "--table=0", "--book-in=a b")
