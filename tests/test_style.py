@@ -51,7 +51,8 @@ def test_a_name_of_the_package_stands_for_one_thing():
     for module in (ROOT / "python/src/ffosolve").rglob("*.py"):
         for node in ast.parse(module.read_text()).body:
             targets = getattr(node, "targets", [getattr(node, "target", None)])
-            named.update({getattr(node, "name", None), *(getattr(target, "id", None) for target in targets)})
+            names = [it for target in targets for it in getattr(target, "elts", [target])]
+            named.update({getattr(node, "name", None), *(getattr(it, "id", None) for it in names)})
     assert named["Position"] == 1
     assert {name for name, count in named.items() if name and count > 1} == {"NAME", "USAGE", "WHAT", "MORE", "main"}
 
