@@ -181,7 +181,8 @@ def test_the_commands_of_the_documents_run_on_the_path(dist, folder):
     os.symlink(dist.unpacked / "examples", "examples")
     env = {**dist.without_rt, "PATH": f"{dist.unpacked}/bin:{dist.without_rt['PATH']}"}
     for path in (dist.unpacked / "share/doc/ffosolve/docs").glob("*.md"):
-        assert ("bin/ffos" in path.read_text()) == (path.name == "install.md")
+        text = (dist.first / "docs" / path.name).read_text()
+        assert path.read_text() == (text if path.name == "install.md" else text.replace("bin/ffos", "ffos"))
         print_what_is_shown(path.read_text(), env=env)
 
 
