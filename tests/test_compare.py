@@ -498,8 +498,9 @@ def test_in_a_folder_that_others_own_or_may_write_only_the_book_is_read():
     games(*CHECK, status=1, out=both() + counts())
     before = contents()
     games(*CHECK, status=1, out=both() + counts(), **NOBODY)
-    os.chmod("it.wtb.check", 0o757)
-    for how in ({}, NOBODY):
+    for how, owner in (({}, -1), (NOBODY, -1), ({}, NOBODY.get("user", -1))):
+        os.chmod("it.wtb.check", 0o757 if owner < 0 else 0o755)
+        os.chown("it.wtb.check", owner, -1)
         write("it.wtb", WHOLE)
         games(*CHECK, status=1, out=both() + counts(), **how)
         assert contents() == before

@@ -337,7 +337,7 @@ def one(monkeypatch):
 # are left out.
 @pytest.mark.parametrize("made, chosen, left_out", [
     ("a1 a2", "abc", ""), ("a1 a2 a9+ a3", "abc", ""), ("a1 a2 a3", "bc", ""), ("a1 a2 a3 b1+ c2+", "bc", ""),
-    ("a1 a2 a3 b1+ c2+ c3+", "bc", "a"), ("a1 a2 a3 b1+ c2+ c3+ a4 a9+", "bc", "a"), ("a1 a2 a3 b1+ b2+ b3", "abc", ""),
+    ("a1 a2 a3 b1+ c2+ c3+", "bc", "a"), ("a1 a2 a3 a4 b1+ c2+ c3+ a9+", "bc", "a"), ("a1 a2 a3 b1+ b2+ b3", "abc", ""),
     ("a1 a2 a3 b1", "abc", ""), ("b9 a1 a2 a3 b1", "bc", ""), ("a1 a2 a3 b4 b5 b6", "c", ""),
     ("a1 a2 a3 b4 b5 b6 c7 c8 c9", "abc", "")])
 def test_workers_are_left_out_for_parts_that_others_solve_not_for_those_that_fail_for_all(one, made, chosen, left_out):
@@ -374,6 +374,8 @@ def test_a_worker_that_is_silent_or_not_fit_gets_no_part_and_the_only_pack_is_no
 def test_parts_are_sent_ahead_unless_some_workers_may_not_have_them(one, workers, count, most, alone):
     one.workers, one.count, one.threads = {(name, name): 1 for name in workers}, count, len(workers)
     assert (one.most(is_alone=False), one.most(is_alone=True)) == (most, alone)
+    one.client.status = "connecting"
+    assert one.most(is_alone=False) == 0
 
 
 @pytest.mark.parametrize("change, is_cancelled", [

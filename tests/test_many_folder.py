@@ -369,6 +369,7 @@ def test_a_list_is_read_from_standard_input_from_where_it_stands_and_from_a_pipe
                     '"$0" pipe <(cat list.obf) --book-in <(cat one.book) --book-out joined.book'):
         case.many("-c", command, case.MANY, by="bash", message=": 60 lines in 1 part")
         case.same_book()
+        os.remove("joined.book")
     assert Path("pipe", "book-in").read_bytes() == Path("one.book").read_bytes()
     assert os.listdir(os.environ["TMPDIR"]) == []
 

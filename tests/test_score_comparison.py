@@ -115,8 +115,8 @@ def test_lines_of_every_kind_are_counted():
     found = compare_scores(KINDS, SCORES)
     assert found[:2] + found[3:4] + found[5:6] + found[9:12] == (8, 11, 27 / 11, 12, 5, 0, 3)
     assert [it[:3] for it in found.wrong] == [(3, "H1", 60), (4, "A1", 62), (12, "A1", 64.0), (12, "H1", 65)]
-    found = compare_scores(SCORES, SCORES)
-    assert found[:6] + found[7:10] == (8, 13, [], 0, 0, 0, 0, 1, 0)
+    for found in (compare_scores(SCORES, SCORES), compare_scores(SCORES)):
+        assert found[:6] + found[7:10] == (8, 13, [], 0, 0, 0, 0, 1, 0)
 
 
 @pytest.mark.parametrize("empty", ([], ["% X", ""]))
