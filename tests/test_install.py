@@ -261,7 +261,8 @@ def test_make_constants_writes_what_files_repeat(place):
     table, settings, *others = (
         "crates/bound_table/src/bound_table.rt", "crates/program_settings/src/limits.rt", "rust/Cargo.toml",
         "README.md", "docs/user-guide.md", "examples/kinds.report", "examples/kinds.scores", "rust/src/solvers.rs",
-        "python/src/ffosolve/__init__.py", "python/src/ffosolve/_library.py", "python/src/ffosolve/_solvers.py")
+        "python/src/ffosolve/__init__.py", "python/src/ffosolve/_library.py", "python/src/ffosolve/_solvers.py",
+        "crates/program_settings/src/version.rt")
     entries = re.search(r"MOST_ENTRIES: usize = (\w+)", stored(table).decode())[1]
     empties, workers, size = (re.search(rf"DEFAULT_{name} = (\w+)", stored(settings).decode())[1]
                               for name in ("EMPTIES: u8", "WORKERS: u8", "ENTRIES: u32"))
@@ -285,6 +286,8 @@ def test_make_constants_writes_what_files_repeat(place):
             for pair in pairs:
                 wanted = wanted.replace(*pair)
             assert Path(name).read_text() == wanted, name
+        texts = "".join(Path(name).read_text() for name in (settings, *others))
+        assert [new for _, new in pairs if new not in texts] == []
 
 
 # These scripts for bash and fish get the words of a command as arguments, and print the completions of the last word.
