@@ -52,7 +52,8 @@ def test_a_wrong_command_line_is_refused_with_the_reason(pipe, name):
     for line, error in REFUSED + REFUSED_BY_ONE[name]:
         ran = run(built(name), *line.split(), stdin=pipe, text=True)
         assert (ran.returncode, ran.stdout) == (2, ""), line
-        assert ran.stderr.startswith(f"error: {error}\n"), (line, ran.stderr)
+        assert ran.stderr.startswith(f"error: {error}\n"), line
+        assert ran.stderr.endswith("\n\nFor more information, try '--help'.\n"), line
     ends((2, "", f"{name}: cannot read the command line\n"), built(name), b"\xff.obf", stdin=pipe)
 
 

@@ -31,7 +31,9 @@ def test_python():
 
 def imported(module):
     """Yields the files of the modules of the package that a file imports, in functions and for types, too."""
-    for node in ast.walk(ast.parse(module.read_text())):
+    text = module.read_text()
+    assert not re.search(r"(?m)^ *(from|import) ffosolve\b", text), f"{module}: an import without a dot"
+    for node in ast.walk(ast.parse(text)):
         if isinstance(node, ast.ImportFrom) and node.level:
             place = module.parents[node.level - 1].joinpath(*(node.module or "").split("."))
             files = [place / f"{it.name}.py" for it in node.names] if place.is_dir() else [place.with_suffix(".py")]
