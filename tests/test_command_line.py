@@ -11,33 +11,20 @@ LARGE = MOST_ENTRIES + 1
 PROGRAMS = ("ffosolve", "ffoscores")
 PROGRESS = re.compile(rb"ffosolve: solved (\d+) of (\d+) in (\d+) s\r?\n")
 
-# (command line, first line of the error, in the words of the crate clap)
+# (command line, refused word)
 REFUSED = [
-    *((line, f"unexpected argument '{line.split()[-1]}' found") for line in (
-        "--best", "-x", "--TABLE", "--tabel", "--max", "--helpp", "a --best", "--table x --best")),
-    ("-xh", "unexpected argument '-x' found"),
-    *((f"{name}={value}", f"unexpected value '{value}' for '{name}' found; no more were expected") for name, value in (
-        ("--help", 3), ("--version", 1), ("--complete", 1))),
-    *((line, f"a value is required for '{name}' but none was supplied") for line, name in (
-        ("--table", "--table <N>"), ("--table -- 5", "--table <N>"), ("--max-empties", "--max-empties <N>"),
-        ("--scoring", "--scoring <NAME>"), ("--scoring=", "--scoring <NAME>"))),
-    *((f"--scoring{value}", f"invalid value '{value[1:]}' for '--scoring <NAME>'") for value in (" best", "=sig")),
-    ("--table=", "invalid value '' for '--table <N>': cannot parse integer from empty string"),
-    ("--table x", "invalid value 'x' for '--table <N>': invalid digit found in string"),
-    ("--table x --help", "invalid value 'x' for '--table <N>': invalid digit found in string"),
-    *((line, f"invalid value '{value}' for '{line[:-len(value) - 1]} <N>': {value} is not in 0..={most}")
-      for line, value, most in (("--table=-3", "-3", MOST_ENTRIES), (f"--table {LARGE}", f"{LARGE}", MOST_ENTRIES),
-                                ("--max-empties=61", "61", 60), ("--workers 65", "65", 64))),
-    *((line, f"the argument '{name}' cannot be used multiple times") for line, name in (
-        ("--table 5 --table 6", "--table <N>"), ("--complete --complete", "--complete"),
-        ("--scoring discs --scoring best", "--scoring <NAME>"))),
+    ("--best", "--best"), ("-x", "-x"), ("-xh", "-x"), ("--TABLE", "--TABLE"), ("--tabel", "--tabel"),
+    ("--max", "--max"), ("--helpp", "--helpp"), ("a --best", "--best"), ("--table x --best", "--best"),
+    ("--help=3", "3"), ("--version=1", "1"), ("--complete=1", "1"), ("--table", "--table"), ("--table -- 5", "--table"),
+    ("--max-empties", "--max-empties"), ("--scoring", "--scoring"), ("--scoring=", "--scoring"),
+    ("--scoring best", "best"), ("--scoring=sig", "sig"), ("--table=", ""), ("--table x", "x"),
+    ("--table x --help", "x"), ("--table=-3", "-3"), (f"--table {LARGE}", f"{LARGE}"), ("--max-empties=61", "61"),
+    ("--workers 65", "65"), ("--table 5 --table 6", "--table"), ("--complete --complete", "--complete"),
+    ("--scoring discs --scoring best", "--scoring"),
 ]
 REFUSED_BY_ONE = {
-    "ffosolve": [("--book-in", "a value is required for '--book-in <FILE>' but none was supplied"),
-                 ("--book-out --help", "a value is required for '--book-out <FILE>' but none was supplied"),
-                 ("--progress=1", "unexpected value '1' for '--progress' found; no more were expected")],
-    "ffoscores": [(f"{word} 2", f"unexpected argument '{word}' found")
-                  for word in ("--book-in", "--book-out", "--progress")],
+    "ffosolve": [("--book-in", "--book-in"), ("--book-out --help", "--book-out"), ("--progress=1", "1")],
+    "ffoscores": [(f"{word} 2", word) for word in ("--book-in", "--book-out", "--progress")],
 }
 
 
@@ -48,12 +35,11 @@ def pipe(start):
 
 
 @pytest.mark.parametrize("name", PROGRAMS)
-def test_a_wrong_command_line_is_refused_with_the_reason(pipe, name):
-    for line, error in REFUSED + REFUSED_BY_ONE[name]:
+def test_a_wrong_command_line_is_refused_and_the_word_is_named(pipe, name):
+    for line, word in REFUSED + REFUSED_BY_ONE[name]:
         ran = run(built(name), *line.split(), stdin=pipe, text=True)
         assert (ran.returncode, ran.stdout) == (2, ""), line
-        assert ran.stderr.startswith(f"error: {error}\n"), line
-        assert ran.stderr.endswith("\n\nFor more information, try '--help'.\n"), line
+        assert re.search(f"'{re.escape(word)}[' ]", ran.stderr.split("\n")[0]), (line, ran.stderr)
     ends((2, "", f"{name}: cannot read the command line\n"), built(name), b"\xff.obf", stdin=pipe)
 
 
