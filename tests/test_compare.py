@@ -404,7 +404,7 @@ def test_each_check_goes_on_with_what_is_solved(folder_named):
     before = results()
     for names, out, err in ((("it.wtb",), both() + counts(COUNT - 1), illegal),
                             (("other.wtb", "./it.wtb"), both(name="./it.wtb") + counts(COUNT + 8), f"./{illegal}"),
-                            (("other.wtb", "other.wtb"), counts(18, 0), "")):
+                            (("other.wtb", "other.wtb", "./other.wtb"), counts(27, 0), "")):
         games("check", "--quiet", *folder_named, *names, out=out, err=err, status=int("it" in out))
         assert results() == before
     write("it.wtb", WHOLE)
@@ -495,7 +495,7 @@ def test_in_a_folder_that_others_own_or_may_write_only_the_book_is_read():
     os.mkdir("all")
     os.chmod("all", 0o775)
     games(*CHECK, "--folder=all", status=2, err=f"all lacks {COUNT} positions, and {why}")
-    games(*CHECK, status=1, out=both() + counts())
+    games(*CHECK, status=1, out=both() + counts(), umask=0)
     before = contents()
     games(*CHECK, status=1, out=both() + counts(), **NOBODY)
     for how, owner in (({}, -1), (NOBODY, -1), ({}, NOBODY.get("user", -1))):

@@ -453,6 +453,8 @@ def test_progress_shows_the_time_left_the_machines_and_a_part_that_runs_long(clo
     for clock.now, ended, hosts in times:
         at_work(one, hosts, ended)
     assert one.text() == text
+    one.engine.trouble = "silence"
+    assert re.search("^[0-9]+%, silence, parts ", one.text())
 
 
 def test_work_grows_with_the_empty_squares_of_both_spellings():
