@@ -39,7 +39,7 @@ def test_a_wrong_command_line_is_refused_and_the_word_is_named(pipe, name):
     for line, word in REFUSED + REFUSED_BY_ONE[name]:
         ran = run(built(name), *line.split(), stdin=pipe, text=True)
         assert (ran.returncode, ran.stdout) == (2, ""), line
-        assert re.search(f"'{re.escape(word)}[' ]", ran.stderr.split("\n")[0]), (line, ran.stderr)
+        assert re.search(f"'{re.escape(word)}('| <)", ran.stderr.split("\n")[0]), (line, ran.stderr)
     ends((2, "", f"{name}: cannot read the command line\n"), built(name), b"\xff.obf", stdin=pipe)
 
 
