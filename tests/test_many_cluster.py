@@ -351,7 +351,7 @@ def test_workers_are_left_out_for_parts_that_others_solve_not_for_those_that_fai
     for name in "bbc":
         one.answer = mock.AsyncMock(return_value=((name, name), "unfit", b"", ""))
         assert asyncio.run(one.solve("part", [])) == ("part", None, "", [])
-    assert one.chosen(["a"]) == {"a"}  # the last one that is fit
+    assert (one.chosen(["a"]), one.unfit) == ({"a"}, {("b", "b"), ("c", "c")})  # the last one that is fit
     assert [call[0][0] for call in one.said.call_args_list[-2:]] == ["b is left out: unfit", "c is left out: unfit"]
 
 
@@ -381,7 +381,7 @@ def test_parts_are_sent_ahead_unless_some_workers_may_not_have_them(one, workers
 @pytest.mark.parametrize("change, is_cancelled", [
     ({}, False), ({"workers": {("a", "a"): 1, ("b", "b"): 1}}, True), ({"pack": "another"}, True),
     ({"workers": {("a", "a"): 1, ("b", "b"): 1}, "running": {7: ("h1", 0.0)}}, False),
-    ({"pack": "another", "kept": {7}}, False)])
+    ({"count": 1, "workers": {("a", "a"): 1, ("b", "b"): 1}}, False), ({"pack": "another", "kept": {7}}, False)])
 def test_a_part_is_sent_after_the_pack_and_again_if_it_waits_for_workers_that_are_not_alone(one, change, is_cancelled):
     class Sent(asyncio.Future):  # what Dask's client returns for a part
         async def cancel(self):
@@ -395,11 +395,11 @@ def test_a_part_is_sent_after_the_pack_and_again_if_it_waits_for_workers_that_ar
         await asyncio.sleep(0.8)
         return [future.done() for future in sent]
 
-    one.workers, one.ask = {("a", "a"): 1}, mock.AsyncMock()
-    assert asyncio.run(first_second()) == [is_cancelled] * 3
+    one.workers, one.count, one.ask = {("a", "a"): 1}, change.get("count", 3), mock.AsyncMock()
+    assert (asyncio.run(first_second()), one.ask.call_count) == ([is_cancelled] * 3, 2)
     pack, *parts = [call[1] for call in one.client.submit.call_args_list]
     assert [part.get("priority", 0) for part in parts] == [0, 1, 2] and pack.get("priority", 0) > 2
-    assert [part["workers"] for part in parts] == [["a"]] * 3
+    assert [part["workers"] for part in parts] == [["a"] if one.count > 1 else None] * 3
 
 
 def test_workers_that_end_with_the_program_and_a_book_alone_end_the_run(one):
