@@ -5,6 +5,7 @@ import subprocess
 import sys
 import time
 import types
+from concurrent.futures import Future
 from pathlib import Path
 from unittest import mock
 
@@ -455,6 +456,20 @@ def test_progress_shows_the_time_left_the_machines_and_a_part_that_runs_long(clo
     assert one.text() == text
     one.engine.trouble = "silence"
     assert re.search("^[0-9]+%, silence, parts ", one.text())
+
+
+def test_a_part_that_has_failed_twice_is_tried_once_more_after_all_others_alone():
+    run, sent, most = progress(4 * [1]).run, [], mock.Mock(return_value=1)
+
+    def send(part, failed):
+        sent.append((part.number, most.call_args[1]["is_alone"]))
+        done = Future()
+        done.set_result((part, *((types.SimpleNamespace(seconds=1), "") if part.number else (None, "why")), ["h1"]))
+        return done
+
+    made = types.SimpleNamespace(tries=3, trouble="", running={}, look=lambda: None, most=most, send=send)
+    engine.solve_parts(run, made, quiet=True)
+    assert sent == [(0, False), (0, False), (1, False), (2, False), (3, False), (0, True)]
 
 
 def test_work_grows_with_the_empty_squares_of_both_spellings():
