@@ -6,7 +6,7 @@ import pytest
 
 from ffosolve import MOST_ENTRIES, Position
 from tests.prefix import PREFIX
-from tests.support import built, ends, limited, run, stored, write
+from tests.support import SECONDS, built, ends, limited, run, stored, write
 
 pytestmark = pytest.mark.usefixtures("installed")
 KINDS = stored("examples", "kinds.obf").decode()
@@ -54,7 +54,8 @@ def test_a_right_book_saves_time_with_workers_with_progress_and_of_several_files
 @pytest.mark.parametrize(("name", "workers", "times"), [("ffosolve", 0, 30), ("ffoscores", 0, 15), ("ffosolve", 3, 10),
                                                         ("ffoscores", 3, 10)])
 def test_a_run_takes_a_tenth_of_the_time_without_a_table(name, workers, times):
-    words, how = (built(name), "--workers", workers), {"input": (HARD + ADVISED) * 3 * AGAIN, "check": True}
+    words = (built(name), "--workers", workers)
+    how = {"input": (HARD + ADVISED) * 3 * AGAIN, "check": True, "timeout": 3 * SECONDS}
     assert is_shorter(lambda: run(*words, **how), lambda: run(*words, "--table", 0, **how), times, repeat=1)
 
 
