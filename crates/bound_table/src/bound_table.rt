@@ -5,6 +5,7 @@ ghost use Rattle.bound_table.specs.Limits.{most_entries};
 ghost use Rattle.bound_table.specs.declared.table_fault.TableFault.TheVariants as fault;
 ghost use Rattle.bound_table.specs.Range.{IsTrueOf};
 
+use crate::begun::Begun;
 use crate::bounds::Bounds;
 use crate::entry::{Entry, Slot, empty_slot, read, write};
 use crate::range::Range;
@@ -18,6 +19,13 @@ use std::sync::atomic::{AtomicU8, Ordering};
 // One more than the greatest number of empty squares.
 const ABOVE_ALL_EMPTIES: u8 = 65;
 
+// The most places for positions that threads are searching: 64 threads need fewer than 64 each.
+const MOST_BEGUN: usize = 4096;
+
+// The fewest entries of a table over which threads share a position. With fewer, the table forgets
+// much of what they find, and one thread is as fast.
+const FEWEST_SHARED_ENTRIES: usize = 4096;
+
 /// A transposition table with a fixed number of entries, which threads share by reference. No call
 /// waits, and only `new` takes memory. An entry holds a canonical position and a range that is true
 /// of it. A store replaces what its entry holds. It is skipped if another thread reads or writes
@@ -30,6 +38,8 @@ pub struct BoundTable {
     // store.
     fewest_empties: AtomicU8,
     slots: Vec<Slot>,
+    // The positions that threads are searching.
+    begun: Begun,
 }
 
 impl Model for BoundTable {
@@ -103,10 +113,14 @@ impl BoundTable {
         for _ in 0..entries {
             slots.push_reserved(empty_slot(scoring));
         }
+        let Ok(begun) = Begun::new(alloc, entries.min(MOST_BEGUN)) else {
+            return Err(TableFault::Memory);
+        };
         Ok(BoundTable {
             scoring,
             fewest_empties: AtomicU8::new(ABOVE_ALL_EMPTIES),
             slots,
+            begun,
         })
     }
 
@@ -172,5 +186,25 @@ impl Bounds for BoundTable {
         self.note_empties(position.empties());
         let entry = Entry::of(position, range);
         write(self.slot(entry.position), entry);
+    }
+
+    #[inline]
+    fn is_worth_sharing(&self) -> bool {
+        self.slots.len() >= FEWEST_SHARED_ENTRIES
+    }
+
+    #[inline]
+    fn begin(&self, position: &Pos) {
+        self.begun.begin(hash_of(*position));
+    }
+
+    #[inline]
+    fn end(&self, position: &Pos) {
+        self.begun.end(hash_of(*position));
+    }
+
+    #[inline]
+    fn is_begun(&self, position: &Pos) -> bool {
+        self.begun.has(hash_of(*position))
     }
 }

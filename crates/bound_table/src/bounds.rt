@@ -28,6 +28,28 @@ pub trait Bounds {
     fn store(&self, position: &Pos, range: Range)
         requires { IsTrueOf (scoring self.now) position.now range };
 
+    /// Whether threads that search one position over the table are faster together than one of them
+    /// alone. Any answer is right: it is advice.
+    #[inline]
+    fn is_worth_sharing(&self) -> bool {
+        false
+    }
+
+    /// Is told that a thread begins to search a position, so that others may leave it for later
+    /// (ABDADA: Weill, 1996).
+    #[inline]
+    fn begin(&self, _position: &Pos) {}
+
+    /// Is told that a thread has searched a position.
+    #[inline]
+    fn end(&self, _position: &Pos) {}
+
+    /// Whether a thread seems to be searching a position. Any answer is right: it is advice.
+    #[inline]
+    fn is_begun(&self, _position: &Pos) -> bool {
+        false
+    }
+
     /// Is told of each evaluation that orders moves or begins a search. Tests count them.
     #[inline]
     fn note_evaluation(&self) {}

@@ -17,6 +17,7 @@
 //! ```
 #![tactic(auto)]
 
+mod begun;
 mod bound_table;
 mod bounds;
 mod entry;

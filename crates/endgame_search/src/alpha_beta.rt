@@ -4,21 +4,25 @@
 //! upper bound. A driver searches one null window after another until the value is known, or known
 //! to lie outside a wider window (MTD(f): Plaat, Schaeffer, Pijls and de Bruin, 1996).
 
-ghost use Rattle.std.specs.Prelude.{◌≡◌, ◌≢◌, ◌<◌, ◌≤ℤ◌, ◌<ℤ◌, ◌+ℤ◌, pos, negsuc};
+ghost use Rattle.std.specs.Prelude.{◌≡◌, ◌≢◌, ◌<◌, ◌≤ℤ◌, ◌<ℤ◌, ◌+ℤ◌, ℕ, true, length, pos, negsuc};
+ghost use Rattle.othello_rules.specs.Masks.{in_mask};
 ghost use Rattle.othello_bits.specs.Pos.{moves_of, empties_of, value_of, HasNoMove};
 ghost use Rattle.othello_rules.specs.Answer.{IsScore};
 ghost use Rattle.endgame_search.specs.Windows.{IsBound, IsWindow, IsFailSoft, IsNullWindowScore};
-ghost use Rattle.endgame_search.specs.Children.{UnlistedAreAtMost};
+ghost use Rattle.endgame_search.specs.Children.{AreChildrenOf, UnlistedAreAtMost};
 
 use crate::judged::{FEWEST_JUDGED, judge_children};
-use crate::move_order::{Child, add_children, add_until_no_replies, sort_children};
+use crate::move_order::{
+    Child, ChildIndex, add_children, add_until_no_replies, indices_of, sort_children,
+};
 use crate::shallow::{MOST_SHALLOW_EMPTIES, search_shallow};
 use crate::table_cutoff::{
     BELOW_ALL_SCORES, enhanced_cutoff, possible_scores, probe_cutoff, store_always, store_if_deep,
 };
+use crate::task::Task;
 use arrayvec::ArrayVec;
 use bound_table::Bounds;
-use othello_bits::Pos;
+use othello_bits::{Pos, lowest, without};
 
 /// Searches for the value of a position in the window from `low` to `high`, under the table's
 /// scoring and as the mover sees it: in discs, or 1, 0 or -1 under `Sign`. The ends are from -65 to
@@ -187,7 +191,70 @@ fn search_by_worth<T: Bounds>(table: &T, position: Pos, moves: u64, bound: i8) -
     }
     judge_children(table, position, bound, &mut children);
     sort_children(&mut children);
-    search_children(table, position, &children, BELOW_ALL_SCORES, bound)
+    if position.empties() < Task::FEWEST_SHARED_EMPTIES || children.len() >= 64 {
+        return search_children(table, position, &children, BELOW_ALL_SCORES, bound);
+    }
+    search_shared_children(table, position, &children, bound)
+}
+
+// How many children, the eldest ones, each thread searches in their order. If none of them is worth
+// more than the bound, all others most likely have to be searched ("young brothers wait": Feldmann,
+// Mysliwietz, Monien and Vornberger, 1989).
+const ELDEST_CHILDREN: u8 = 3;
+
+// The index of the child to search next, of those in the mask `unsearched`. After the eldest children
+// it is the first one that no thread is searching (ABDADA: Weill, 1996), otherwise the first one.
+fn next_to_share<T: Bounds>(table: &T, children: &[Child], unsearched: u64) -> ChildIndex
+    requires some { unsearched ≢ 0 }
+    requires listed { (i : ℕ) → in_mask unsearched i ≡ true → i < length children.now }
+    ensures { in_mask unsearched result ≡ true }
+{
+    let first = lowest(unsearched);
+    if first.number() < ELDEST_CHILDREN {
+        return first;
+    }
+    let mut rest = unsearched;
+    while rest != 0 {
+        let index = lowest(rest);
+        if !table.is_begun(&children[usize::from(index.number())].position) {
+            return index;
+        }
+        rest = without(rest, index);
+    }
+    first
+}
+
+// Searches the children of a position that other threads may be searching, too. A thread leaves a
+// child that another one is searching for later, when the table mostly shows what it is worth. So
+// threads share the children out among them.
+#[cycle(search)]
+#[inline(never)]
+fn search_shared_children<T: Bounds>(table: &T, position: Pos, children: &[Child], bound: i8) -> i8
+    requires children { AreChildrenOf position children.now }
+    requires room { length children.now < 64 }
+    requires some { moves_of position ≢ 0 }
+    requires bound { IsBound bound }
+    ensures { IsNullWindowScore bound (value_of (T.scoring table.now) position) result }
+{
+    let mut best = BELOW_ALL_SCORES;
+    let mut unsearched = indices_of(children);
+    while unsearched != 0 {
+        let index = next_to_share(table, children, unsearched);
+        unsearched = without(unsearched, index);
+        let child = children[usize::from(index.number())];
+        table.begin(&child.position);
+        let score = -search(table, child.position, child.replies, -1 - bound);
+        table.end(&child.position);
+        if score > bound {
+            return score;
+        }
+        best = best.max(score);
+        // Another thread may have found what decides the window.
+        if let Some(score) = probe_cutoff(table, position, bound) {
+            return score;
+        }
+    }
+    best
 }
 
 // Searches the listed children. `best_so_far` is the best score of the moves that are not listed, or

@@ -39,6 +39,10 @@ impl Task {
     /// The greatest number of empty squares of a task.
     pub const MOST_EMPTIES: u8 = 60;
 
+    /// The fewest empty squares of a position whose moves threads share out among them. A thread
+    /// searches a position with fewer in less time than it takes to look what others search.
+    pub const FEWEST_SHARED_EMPTIES: u8 = 16;
+
     /// The task of a position under a scoring. `TooMany` if the position has more than `limit`
     /// empty squares, or more than 60.
     pub fn new(position: Pos, limit: u8, scoring: Scoring) -> Result<Task, TooMany>
@@ -68,5 +72,11 @@ impl Task {
         ensures { result ≡ self.scoring }
     {
         self.scoring
+    }
+
+    /// Whether threads that solve the task at once over one table are faster together than one of
+    /// them alone: whether its position has at least `FEWEST_SHARED_EMPTIES` empty squares.
+    pub fn is_worth_sharing(self) -> bool {
+        self.pos().empties() >= Self::FEWEST_SHARED_EMPTIES
     }
 }

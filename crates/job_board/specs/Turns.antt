@@ -1,10 +1,12 @@
 -- What a turn returns to its client.
-use Rattle.std.specs.Prelude.{◌≡◌, ◌+◌, length, Option, Some, None, Result, Ok, Err, slice_get}
+use Rattle.std.specs.Prelude.{◌≡◌, ◌+◌, ◌<◌, ℕ, ⊤, length, Option, Some, None, Result, Ok, Err, slice_get}
 use Rattle.job_board.specs.declared.jobs.Delivery.{Delivery}
 use Rattle.job_board.specs.declared.jobs.Handed.{Handed}
 use Rattle.job_board.specs.declared.jobs.Handed.TheVariants as handed
 use Rattle.job_board.specs.declared.faults.Mixed.{Mixed}
 use Rattle.job_board.specs.declared.client.Turn.{Turn}
+use Rattle.job_board.specs.declared.desk.Errand.{Errand}
+use Rattle.job_board.specs.declared.desk.Errand.TheVariants.{Own, Help}
 use Rattle.job_board.specs.declared.client.Turn.TheVariants.{Next, Work, Drained}
 use Rattle.job_board.specs.Senders.{BoardView, content_with, with_one_handed}
 use Rattle.job_board.specs.Replies.{Takes, after_take}
@@ -25,6 +27,16 @@ abbrev pub TurnGives : ClientView → ClientView → Turn → Type 0
 TurnGives old new (Next d) = IsNext old d × (new ≡ record old { received = old.received + 1 })
 TurnGives old new (Work job) = new ≡ old
 TurnGives old new Drained = (new ≡ old) × IsServed old
+
+-- the same, where the client may get a job to help with instead
+abbrev pub ErrandGives : ClientView → ClientView → Errand Turn → Type 0
+ErrandGives old new (Own turn) = TurnGives old new turn
+ErrandGives old new (Help shared) = new ≡ old
+
+-- a job to help with is one that was taken after the shared job of place n
+abbrev pub IsLater : {T : Type 0} → ℕ → Errand T → Type 0
+IsLater n (Own own) = ⊤
+IsLater n (Help shared) = n < shared.place
 
 -- One hold of the lock in a turn at a board of view c, by the reply of the board's deliver: what
 -- the turn finds, and the board's view after it. It finds None if the client has to wait.

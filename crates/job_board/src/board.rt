@@ -6,8 +6,9 @@ ghost use Rattle.job_board.specs.declared.faults.BoardFault.TheVariants as fault
 
 use crate::faults::{BoardFault, JobFault, NoSender, SubmitFault};
 use crate::job_queue::JobQueue;
-use crate::jobs::{Handed, Job, JobId, Stage};
+use crate::jobs::{Handed, Job, JobId, SharedJob, Stage};
 use crate::sender::Sender;
+use crate::shared_jobs::SharedJobs;
 use endgame_search::{Solved, Task};
 use std::alloc::Global;
 use std::marker::Model;
@@ -20,6 +21,7 @@ pub struct Board {
     pub(crate) senders: Vec<Sender>,
     waiting: JobQueue,
     taken: usize,
+    shared: SharedJobs,
 }
 
 impl Model for Board {
@@ -41,7 +43,9 @@ fn are_closed(senders: &[Sender]) -> bool
 }
 
 impl Board {
-    ghost use Rattle.job_board.specs.Senders.{empty_content};
+    ghost use Rattle.std.specs.Prelude.{Some, IfSome};
+    ghost use Rattle.job_board.specs.declared.jobs.Stage.TheVariants.{Taken};
+    ghost use Rattle.job_board.specs.Senders.{empty_content, stage_at, task_at};
     ghost use Rattle.job_board.specs.Boards.{AllDone};
     ghost use Rattle.job_board.specs.Replies.{Submits, after_submit, Takes, after_take};
     ghost use Rattle.job_board.specs.Replies.{Finishes, after_finish, give_back_reply};
@@ -71,6 +75,7 @@ impl Board {
             senders: made,
             waiting: JobQueue::new(alloc),
             taken: 0,
+            shared: SharedJobs::new(),
         })
     }
 
@@ -106,6 +111,7 @@ impl Board {
         };
         jobs.set_stage(id.number, Stage::Taken);
         self.taken += 1;
+        self.shared.add(id, task);
         Some(Job { id, task })
     }
 
@@ -121,7 +127,27 @@ impl Board {
         };
         jobs.finish(id.number, solved)?;
         self.taken -= 1;
+        self.shared.remove(id);
         Ok(())
+    }
+
+    /// The first taken job that threads can share, of those after that of place `helped`: 0 for any.
+    /// None if there is none. A thread that always gives the place of the job that it helped with
+    /// last helps with no job twice, unless the job is given back and taken again.
+    pub fn find_taken(&self, helped: u64) -> Option<SharedJob>
+        ensures stage { IfSome result
+            (λ s. stage_at self.now s.job.id.sender s.job.id.number ≡ Some Taken) }
+        ensures task { IfSome result
+            (λ s. task_at self.now s.job.id.sender s.job.id.number ≡ Some s.job.task) }
+        ensures later { IfSome result (λ s. helped < s.place) }
+    {
+        let listed = self.shared.first_after(helped)?;
+        let id = listed.id;
+        let task = self.senders.get(id.sender as usize)?.taken_task(id.number)?;
+        Some(SharedJob {
+            place: listed.place,
+            job: Job { id, task },
+        })
     }
 
     /// Lets a taken job wait again. `NotTaken` if the job is unknown, waiting or finished;
@@ -138,6 +164,7 @@ impl Board {
         };
         jobs.give_back(id.number)?;
         self.taken -= 1;
+        self.shared.remove(id);
         self.waiting.push(id, task);
         Ok(())
     }

@@ -7,14 +7,14 @@
 //! does, so these wake all. A client that was woken for a job may find its answer, and leave the
 //! job. The `finish` that gave the answer wakes all the others, and they look for the job.
 
-ghost use Rattle.std.specs.Prelude.{◌≡◌, ◌<◌, ◌↔◌, IfOk, OnOk, OnErr};
+ghost use Rattle.std.specs.Prelude.{◌≡◌, ◌<◌, ◌↔◌, IfOk, IfSome, OnOk, OnErr};
 ghost use Rattle.job_board.specs.Limits.{most_senders};
 ghost use Rattle.job_board.specs.declared.faults.BoardFault.TheVariants as fault;
 
 use crate::board::Board;
 use crate::client::{Client, Turn};
 use crate::faults::{BoardFault, JobFault, Mixed, NoSender, SubmitFault};
-use crate::jobs::{Job, JobId};
+use crate::jobs::{Job, JobId, SharedJob};
 use endgame_search::{Solved, Task};
 use std::alloc::Global;
 use std::sync::{Condvar, Mutex, Wait};
@@ -26,9 +26,18 @@ pub struct Desk {
     changed: Condvar,
 }
 
+/// What a desk has for a thread that helps where it would wait.
+#[derive(Clone, Copy, PartialEq, Eq, Debug)]
+pub enum Errand<T> {
+    /// What the thread asked for.
+    Own(T),
+    /// A job that another thread has taken, to be solved, too.
+    Help(SharedJob),
+}
+
 impl Desk {
     ghost use Rattle.job_board.specs.Client.{with_sent};
-    ghost use Rattle.job_board.specs.Turns.{TurnGives};
+    ghost use Rattle.job_board.specs.Turns.{TurnGives, ErrandGives, IsLater};
 
     /// A desk with a new board of `senders` senders, numbered from 0. The faults are those of
     /// `Board::new`: `TooManySenders` above `Board::MOST_SENDERS`, and `Memory`.
@@ -78,6 +87,27 @@ impl Desk {
         unreachable!()
     }
 
+    /// Takes a job as `take_or_wait` does. Where the calling thread would wait, it gets a job to help
+    /// with, if `Board::find_taken` finds one after that of place `helped`.
+    pub fn take_or_help<R: Wait>(&self, rt: &R, helped: u64) -> Option<Errand<Job>>
+        ensures { IfSome result (IsLater helped) }
+    {
+        let mut board = self.board.lock(rt);
+        for _ in rt.forever() {
+            if let Some(job) = board.take() {
+                return Some(Errand::Own(job));
+            }
+            if board.is_done() {
+                return None;
+            }
+            if let Some(shared) = board.find_taken(helped) {
+                return Some(Errand::Help(shared));
+            }
+            board = self.changed.wait(rt, board);
+        }
+        unreachable!()
+    }
+
     /// Finishes a taken job as `Board::finish` does, with its faults, and then wakes all threads
     /// that wait at the desk.
     pub fn finish<R: Wait>(&self, rt: &R, id: JobId, solved: Solved) -> Result<(), JobFault> {
@@ -108,6 +138,31 @@ impl Desk {
         for _ in rt.forever() {
             if let Some(turn) = client.look(&mut board) {
                 return turn;
+            }
+            board = self.changed.wait(rt, board);
+        }
+        unreachable!()
+    }
+
+    /// Returns what `turn` does. Where the calling thread would wait, it gets a job to help with, if
+    /// `Board::find_taken` finds one after that of place `helped`; the client is then as it was.
+    pub fn turn_or_help<R: Wait>(
+        &self,
+        rt: &R,
+        client: &mut Client,
+        helped: u64,
+    ) -> Result<Errand<Turn>, Mixed>
+        ensures ok { IfOk result (ErrandGives client.old client.new) }
+        ensures err { OnErr result (client.new ≡ client.old) }
+        ensures later { IfOk result (IsLater helped) }
+    {
+        let mut board = self.board.lock(rt);
+        for _ in rt.forever() {
+            if let Some(turn) = client.look(&mut board) {
+                return Ok(Errand::Own(turn?));
+            }
+            if let Some(shared) = board.find_taken(helped) {
+                return Ok(Errand::Help(shared));
             }
             board = self.changed.wait(rt, board);
         }

@@ -5,7 +5,7 @@ ghost use Rattle.std.specs.Prelude.{◌≡◌, ◌↔◌, IsTrue};
 use endgame_search::{Solved, Task};
 
 /// A job's name: its sender, and its place among the sender's jobs. Both are counted from 0.
-#[derive(Clone, Copy, PartialEq, Eq, PartialOrd, Ord, Debug)]
+#[derive(Clone, Copy, PartialEq, Eq, PartialOrd, Ord, Default, Debug)]
 pub struct JobId {
     pub sender: u32,
     pub number: u32,
@@ -16,6 +16,15 @@ pub struct JobId {
 pub struct Job {
     pub id: JobId,
     pub task: Task,
+}
+
+/// A taken job that other threads can solve, too. By the table that they share, the thread that took
+/// it is done sooner.
+#[derive(Clone, Copy, PartialEq, Eq, Debug)]
+pub struct SharedJob {
+    /// How many jobs that threads can share were taken at the board, up to this one.
+    pub place: u64,
+    pub job: Job,
 }
 
 /// The stage of a job.

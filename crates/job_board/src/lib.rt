@@ -24,11 +24,12 @@ mod job_queue;
 mod jobs;
 pub mod laws;
 mod sender;
+mod shared_jobs;
 mod steps;
 
 pub use board::Board;
 pub use client::{Client, Turn};
-pub use desk::Desk;
+pub use desk::{Desk, Errand};
 pub use faults::{BoardFault, JobFault, Mixed, NoSender, SubmitFault};
-pub use jobs::{Delivery, Handed, Job, JobId};
+pub use jobs::{Delivery, Handed, Job, JobId, SharedJob};
 pub use steps::{Reply, Step, run_steps};

@@ -1,6 +1,6 @@
 //! The jobs of one sender at a board.
 
-ghost use Rattle.std.specs.Prelude.{◌≡◌, ◌<◌, ◌≤◌, Some, length, slice_get, not, OnOk, OnErr};
+ghost use Rattle.std.specs.Prelude.{◌≡◌, ◌<◌, ◌≤◌, Some, length, slice_get, not, IfSome, OnOk, OnErr};
 ghost use Rattle.std.specs.Result.{result_err};
 ghost use Rattle.job_board.specs.Limits.{most_jobs};
 ghost use Rattle.job_board.specs.declared.jobs.Stage.TheVariants.{Waiting, Taken, Finished};
@@ -144,6 +144,17 @@ impl Sender {
         };
         self.set_stage(number, Stage::Waiting);
         Ok(())
+    }
+
+    /// The task of job `number`, if that job is taken.
+    pub(crate) fn taken_task(&self, number: u32) -> Option<Task>
+        ensures stage { IfSome result (λ _. slice_get self.now.stages number ≡ Some Taken) }
+        ensures task { IfSome result (λ task. slice_get self.now.tasks number ≡ Some task) }
+    {
+        match self.stage(number) {
+            Some(Stage::Taken) => self.task(number),
+            _ => None,
+        }
     }
 
     /// The answer of job `number`. None if the job is unknown or not finished.

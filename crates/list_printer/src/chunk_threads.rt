@@ -23,9 +23,26 @@ use std::thread::{Promise, Threads};
 pub(crate) struct Scorer {
     pub table: BoundTable,
     pub criteria: Criteria,
-    /// The number of chunks that are being scored on threads. The calling thread alone adds to it,
-    /// and sleeps until it changes.
+    /// The number of threads that score chunks. The calling thread alone adds to it, and sleeps until
+    /// it changes.
     pub running: AtomicU64,
+}
+
+impl Scorer {
+    // Counts a thread as ended, and wakes the calling thread.
+    fn leave(&self) {
+        self.running.fetch_sub(1, Ordering::SeqCst);
+        self.running.wake_all();
+    }
+
+    // Scores a chunk that another thread scores, too, and drops what it finds. The two share the work
+    // by the table, so the other thread is done sooner.
+    fn help(&self, work: &ChunkWork)
+        requires { self.now.criteria.limit ≤ most_empties }
+    {
+        let _ = lines_text(&self.table, work.alloc, self.criteria, &work.text);
+        self.leave();
+    }
 }
 
 /// The promise of a chunk's thread: it returns what is printed for the lines of `text`, under
@@ -50,6 +67,9 @@ pub struct ChunkWork {
     text: Vec<u8>,
     // 1 once the chunk is scored.
     done: AtomicU64,
+    is_worth_sharing: bool,
+    // How often a thread was asked for to help with the chunk.
+    helpers: AtomicU64,
 }
 
 impl ChunkWork {
@@ -62,9 +82,13 @@ impl ChunkWork {
         let scorer = &*self.scorer;
         let found = lines_text(&scorer.table, self.alloc, scorer.criteria, &self.text);
         self.done.store(1, Ordering::SeqCst);
-        scorer.running.fetch_sub(1, Ordering::SeqCst);
-        scorer.running.wake_all();
+        scorer.leave();
         found
+    }
+
+    /// Whether one more thread is to help with the chunk. It is true at most `most` times.
+    pub(crate) fn takes_helper(&self, most: u8) -> bool {
+        self.is_worth_sharing && self.helpers.fetch_add(1, Ordering::SeqCst) < u64::from(most)
     }
 }
 
@@ -103,7 +127,12 @@ impl<'a> StartedChunk<'a> {
 }
 
 // What the thread of a chunk works with, with a copy of the text.
-fn work_of(scorer: &Arc<Scorer>, alloc: Global, text: &[u8]) -> Result<ChunkWork, AllocError>
+fn work_of(
+    scorer: &Arc<Scorer>,
+    alloc: Global,
+    text: &[u8],
+    is_worth_sharing: bool,
+) -> Result<ChunkWork, AllocError>
     ensures { IfOk result (λ work.
         (arc_value work.scorer ≡ arc_value scorer.now) × (work.text.items ≡ text.now)) }
 {
@@ -112,6 +141,8 @@ fn work_of(scorer: &Arc<Scorer>, alloc: Global, text: &[u8]) -> Result<ChunkWork
         alloc,
         text: Vec::from_slice(alloc, text)?,
         done: AtomicU64::new(0),
+        is_worth_sharing: is_worth_sharing && scorer.table.is_worth_sharing(),
+        helpers: AtomicU64::new(0),
     })
 }
 
@@ -122,13 +153,15 @@ fn spawn_chunk<'a, R: Threads>(
     scorer: &Arc<Scorer>,
     alloc: Global,
     promise: ChunkPromise<'a>,
+    is_worth_sharing: bool,
 ) -> Result<StartedChunk<'a>, AllocError>
     requires limit { (arc_value scorer.now).criteria.limit ≤ most_empties }
     requires scoring { promise.scoring ≡ (arc_value scorer.now).table.scoring }
     requires criteria { promise.criteria ≡ (arc_value scorer.now).criteria }
     ensures { IfOk result (λ chunk. chunk ≡ promised_output promise.entry) }
 {
-    let work = Arc::new(alloc, work_of(scorer, alloc, promise.text)?)?;
+    let work = work_of(scorer, alloc, promise.text, is_worth_sharing)?;
+    let work = Arc::new(alloc, work)?;
     let own = Arc::try_clone(&work)?;
     scorer.running.fetch_add(1, Ordering::SeqCst);
     let spawned = thread::spawn_with(
@@ -150,6 +183,26 @@ fn spawn_chunk<'a, R: Threads>(
     })
 }
 
+/// Starts a thread that helps with a chunk, whose work this is. False if none can be started.
+pub(crate) fn start_helper<R: Threads>(rt: &R, scorer: &Arc<Scorer>, work: &Arc<ChunkWork>) -> bool
+    requires { (arc_value scorer.now).criteria.limit ≤ most_empties }
+{
+    let (Ok(theirs), Ok(own)) = (Arc::try_clone(scorer), Arc::try_clone(work)) else {
+        return false;
+    };
+    scorer.running.fetch_add(1, Ordering::SeqCst);
+    let spawned = thread::spawn(
+        rt,
+        move ||
+            requires { (arc_value theirs).criteria.limit ≤ most_empties }
+        { theirs.help(&own) },
+    );
+    if spawned.is_err() {
+        scorer.leave();
+    }
+    spawned.is_ok()
+}
+
 /// Starts the scoring of a chunk: on a thread of its own, or on the calling thread if the chunk
 /// is for that thread or a thread can't be started.
 pub(crate) fn start<'a, R: Threads>(
@@ -169,7 +222,7 @@ pub(crate) fn start<'a, R: Threads>(
         text: chunk.front,
     };
     if !chunk.is_for_caller {
-        if let Ok(started) = spawn_chunk(rt, scorer, alloc, promise) {
+        if let Ok(started) = spawn_chunk(rt, scorer, alloc, promise, chunk.is_worth_sharing) {
             return started;
         }
     }

@@ -4,6 +4,7 @@ ghost use Rattle.std.specs.Prelude.{◌≡◌, ◌<◌, ◌++◌, IfSome, IfNone
 ghost use Rattle.obf_text.specs.LineText.{lines_of};
 ghost use Rattle.list_printer.specs.Chunks.{EndsLine, left_lines, left_size};
 
+use endgame_search::Task;
 use obf_text::{line_len, without_first_blanks};
 
 // Scoring a line with at most this many empty squares takes less time than starting a thread.
@@ -24,6 +25,9 @@ pub(crate) struct Chunk<'a> {
     /// Whether the calling thread is to score the lines: there are no workers, or scoring takes
     /// less time than starting a thread.
     pub is_for_caller: bool,
+    /// Whether threads that score the lines at once, over one table, are faster together than one of
+    /// them alone.
+    pub is_worth_sharing: bool,
 }
 
 // The number of empty squares on the board of a text's first line: among the 64 bytes after its
@@ -73,12 +77,15 @@ fn first_chunk(text: &[u8], limit: u8, has_no_workers: bool) -> Chunk<'_>
     ensures lines { lines_of text.now ≡ lines_of result.front.now ++ lines_of result.rest.now }
     ensures less { length result.rest.now < length text.now }
 {
-    let is_for_caller = has_no_workers || empties_in(text, limit) <= FEW_EMPTIES;
+    let empties = empties_in(text, limit);
+    let is_for_caller = has_no_workers || empties <= FEW_EMPTIES;
     let end = chunk_len(text, limit, is_for_caller);
     Chunk {
         front: &text[..end],
         rest: &text[end..],
         is_for_caller,
+        // What is searched are the positions after the moves.
+        is_worth_sharing: empties > usize::from(Task::FEWEST_SHARED_EMPTIES),
     }
 }
 

@@ -11,7 +11,7 @@ ghost use Rattle.list_printer.specs.Output.{AppendsFront, PrintsPart, WritesBefo
 ghost use Rattle.list_printer.specs.Output.{lists_output, queue_output};
 ghost use Rattle.list_printer.specs.declared.lists.ListFault.TheVariants.{CannotWrite, Memory};
 
-use crate::chunk_threads::{Scorer, StartedChunk, start};
+use crate::chunk_threads::{Scorer, StartedChunk, start, start_helper};
 use crate::chunks::Lists;
 use bound_table::BoundTable;
 use program_settings::Criteria;
@@ -118,9 +118,25 @@ impl ChunkQueue<'_> {
         }
     }
 
+    // Starts a thread that helps with the front chunk, if that is worth sharing and not enough
+    // threads were asked for. Returns whether one was started.
+    fn help_front<R: Threads>(&self, rt: &R, scorer: &Arc<Scorer>) -> bool
+        requires { (arc_value scorer.now).criteria.limit ≤ most_empties }
+    {
+        let Some(front) = self.chunks.front() else {
+            return false;
+        };
+        match &front.work {
+            Some(work) => work.takes_helper(self.workers) && start_helper(rt, scorer, work),
+            None => false,
+        }
+    }
+
     // Waits until the front chunk is scored, or at most `most` chunks are left and another may
-    // be started. Returns whether the front chunk is scored.
-    fn wait<R: Wait>(&self, rt: &R, scorer: &Scorer, most: usize) -> bool
+    // be started. Returns whether the front chunk is scored. Threads that could score another
+    // chunk help with the front one.
+    fn wait<R: Threads + Wait>(&self, rt: &R, scorer: &Arc<Scorer>, most: usize) -> bool
+        requires limit { (arc_value scorer.now).criteria.limit ≤ most_empties }
         ensures some { result ≡ true → 0 < length self.now.chunks.items }
         ensures few { result ≡ false → length self.now.chunks.items ≤ most }
     {
@@ -129,10 +145,13 @@ impl ChunkQueue<'_> {
             if self.is_front_ready() {
                 return true;
             }
-            if self.chunks.len() <= most && running <= u64::from(self.workers) {
+            let may_start = running <= u64::from(self.workers);
+            if may_start && self.chunks.len() <= most {
                 return false;
             }
-            scorer.running.park(rt, (running % 0x1_0000_0000) as u32);
+            if !may_start || !self.help_front(rt, scorer) {
+                scorer.running.park(rt, (running % 0x1_0000_0000) as u32);
+            }
         }
         unreachable!()
     }
@@ -170,10 +189,11 @@ const MOST_STARTED: usize = 4095;
 fn write_ready<R: Threads + Wait, W: Write>(
     rt: &R,
     writer: &mut W,
-    scorer: &Scorer,
+    scorer: &Arc<Scorer>,
     queue: &mut ChunkQueue<'_>,
     most: usize,
 ) -> Result<(), ListFault>
+    requires limit { (arc_value scorer.now).criteria.limit ≤ most_empties }
     ensures printed { OnOk result (PrintsPart (W.contents writer.old) (W.contents writer.new)
         (queue_output queue.old.right queue.old.chunks.items)
         (queue_output queue.new.right queue.new.chunks.items)) }
@@ -207,13 +227,13 @@ fn print_all<'a, R: Threads + Wait, W: Write>(
         (lists_text (arc_value scorer.now).table.scoring (arc_value scorer.now).criteria
         (texts_of texts.now))) }
 {
-    let shared = &**scorer;
+    let limit = scorer.criteria.limit;
     let mut lists = Lists { rest: b"", texts };
-    while let Some(chunk) = lists.next_chunk(shared.criteria.limit, queue.workers == 0) {
+    while let Some(chunk) = lists.next_chunk(limit, queue.workers == 0) {
         queue.chunks.push_back(start(rt, scorer, alloc, chunk))?;
-        write_ready(rt, writer, shared, queue, MOST_STARTED)?;
+        write_ready(rt, writer, scorer, queue, MOST_STARTED)?;
     }
-    write_ready(rt, writer, shared, queue, 0)
+    write_ready(rt, writer, scorer, queue, 0)
 }
 
 /// Prints texts again, one after the other. Each line is written and flushed as soon as it and all
@@ -227,8 +247,9 @@ fn print_all<'a, R: Threads + Wait, W: Write>(
 /// each best move that a line with moves does not list gets a remark after the other remarks.
 ///
 /// With `workers` above 0, up to `workers` + 1 threads score lines at once, besides the calling
-/// thread, which scores lines that take less time than starting a thread. With 0 it scores all.
-/// What is printed is the same. If `Err` is returned, threads that score lines run on, and are
+/// thread, which scores lines that take less time than starting a thread. When no line is left to
+/// start, they share the first one that is not scored. With 0 the calling thread scores all. What
+/// is printed is the same. If `Err` is returned, threads that score lines run on, and are
 /// not waited for. The call may wait for its threads.
 ///
 /// Returns whether no line is refused and no remark is made. If `Err` is returned, a prefix of

@@ -15,7 +15,7 @@ use crate::solver::Solver;
 use crate::worker::Worker;
 use bound_table::Bounds;
 use endgame_search::Solved;
-use job_board::{Client, Desk, Turn};
+use job_board::{Client, Desk, Errand, Turn};
 use program_settings::Criteria;
 use solved_book::Claims;
 use std::alloc::{AllocError, Global};
@@ -42,8 +42,8 @@ fn send_all<R: Wait>(
 }
 
 // Receives the answers of all tasks that the client sent, in the order of the tasks. Between two
-// answers the thread solves the jobs that it takes. `Memory` if the list can't grow; `Mixed`
-// if the desk or a job is refused.
+// answers the thread solves the jobs that it takes, and helps with jobs of other threads. `Memory`
+// if the list can't grow; `Mixed` if the desk or a job is refused.
 fn receive_all<R: Wait, T: Bounds, G: Gate>(
     rt: &R,
     alloc: Global,
@@ -55,15 +55,17 @@ fn receive_all<R: Wait, T: Bounds, G: Gate>(
     ensures faults { IfErr result IsPartFault }
 {
     let mut solved = Vec::new(alloc);
+    let mut helped = 0;
     for _ in rt.forever() {
-        match worker.desk.turn(rt, client) {
-            Ok(Turn::Next(delivery)) => {
+        match worker.turn(rt, client, helped) {
+            Ok(Errand::Own(Turn::Next(delivery))) => {
                 solved.push(delivery.solved)?;
             }
-            Ok(Turn::Work(job)) => {
+            Ok(Errand::Own(Turn::Work(job))) => {
                 worker.solve_job(rt, job)?;
             }
-            Ok(Turn::Drained) => return Ok(solved),
+            Ok(Errand::Own(Turn::Drained)) => return Ok(solved),
+            Ok(Errand::Help(shared)) => helped = worker.help(shared),
             Err(_) => return Err(RunFault::Mixed),
         }
     }

@@ -11,8 +11,8 @@
 //! ```
 //!
 //! Programs call `solve_files`. `run` is for callers that want reports and book at once, and
-//! `run_serial` for those without threads. The modules `client`, `joined` and `started_client` are
-//! public for the tests, which are in `crate_tests`.
+//! `run_serial` for those without threads. The modules `client`, `joined`, `solver`, `started_client`
+//! and `worker` are public for the tests, which are in `crate_tests`.
 #![tactic(auto)]
 
 pub mod client;
@@ -26,10 +26,10 @@ mod runs;
 mod serial;
 mod shared;
 mod solved_files;
-mod solver;
+pub mod solver;
 pub mod started_client;
 mod threads;
-mod worker;
+pub mod worker;
 
 pub use gate::{Gate, NoGate};
 pub use outcome::Outcome;

@@ -32,6 +32,12 @@ impl<'a, T: Bounds> Solver<'a, T> {
         self.table.scoring()
     }
 
+    /// Whether threads that solve one task are faster together than one of them alone: they learn
+    /// from one another by the table.
+    pub(crate) fn is_worth_sharing(&self) -> bool {
+        self.table.is_worth_sharing()
+    }
+
     // The claim of the task's position. Claims under another scoring are not looked up.
     fn find_claim(&self, task: Task) -> Option<Claim>
         ensures { Advises (option_map (λ c. c.now) self.now.claims) task result }

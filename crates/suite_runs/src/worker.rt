@@ -1,13 +1,14 @@
 //! Solves the jobs of a desk.
 
-ghost use Rattle.std.specs.Prelude.{◌≡◌, IfErr};
-ghost use Rattle.suite_runs.specs.declared.run_fault.RunFault.TheVariants.{Mixed};
+ghost use Rattle.std.specs.Prelude.{◌≡◌, IfOk, IfErr, OnErr};
+ghost use Rattle.job_board.specs.Turns.{ErrandGives};
+ghost use Rattle.suite_runs.specs.declared.run_fault.RunFault.TheVariants as fault;
 
 use crate::gate::Gate;
 use crate::run_fault::RunFault;
 use crate::solver::Solver;
 use bound_table::Bounds;
-use job_board::{Desk, Job};
+use job_board::{Client, Desk, Errand, Job, Mixed, SharedJob, Turn};
 use std::sync::Wait;
 
 /// What a thread needs to solve the jobs of a desk: the desk, a solver, and the gate that is called
@@ -24,7 +25,7 @@ impl<'a, T: Bounds, G: Gate> Worker<'a, T, G> {
     /// is given back instead. The fault is `Mixed` if the job is given back, or if the desk
     /// refuses the answer.
     pub(crate) fn solve_job<R: Wait>(&self, rt: &R, job: Job) -> Result<(), RunFault>
-        ensures { IfErr result (λ fault. fault ≡ Mixed) }
+        ensures { IfErr result (λ f. f ≡ fault.Mixed) }
     {
         if job.task.scoring() != self.solver.scoring() {
             let _ = self.desk.give_back(rt, job.id);
@@ -40,17 +41,64 @@ impl<'a, T: Bounds, G: Gate> Worker<'a, T, G> {
         Ok(())
     }
 
-    /// Takes jobs at the desk and solves them until the desk is done. It ends early after a job
-    /// under a scoring other than the table's, and after an answer that the desk refuses. It may
-    /// wait for other threads.
+    /// Solves a job that another thread has taken, and drops the answer. The two share the work by
+    /// the table, so the other thread is done sooner. Returns the job's place. A job under a scoring
+    /// other than the table's is left alone.
+    pub(crate) fn help(&self, shared: SharedJob) -> u64
+        ensures { result ≡ shared.place }
+    {
+        let SharedJob { place, job } = shared;
+        let task = job.task;
+        if task.scoring() == self.solver.scoring() {
+            let _ = self.solver.answer(task);
+        }
+        place
+    }
+
+    // Takes a job at the desk. Where the thread would wait, it gets a job to help with, after that of
+    // place `helped`, if help is of use over the table.
+    fn take<R: Wait>(&self, rt: &R, helped: u64) -> Option<Errand<Job>> {
+        if self.solver.is_worth_sharing() {
+            return self.desk.take_or_help(rt, helped);
+        }
+        let job = self.desk.take_or_wait(rt)?;
+        Some(Errand::Own(job))
+    }
+
+    /// Makes a turn of the client at the desk. Where the thread would wait, it gets a job to help
+    /// with, after that of place `helped`, if help is of use over the table.
+    pub(crate) fn turn<R: Wait>(
+        &self,
+        rt: &R,
+        client: &mut Client,
+        helped: u64,
+    ) -> Result<Errand<Turn>, Mixed>
+        ensures ok { IfOk result (ErrandGives client.old client.new) }
+        ensures err { OnErr result (client.new ≡ client.old) }
+    {
+        if self.solver.is_worth_sharing() {
+            return self.desk.turn_or_help(rt, client, helped);
+        }
+        let turn = self.desk.turn(rt, client)?;
+        Ok(Errand::Own(turn))
+    }
+
+    /// Takes jobs at the desk and solves them until the desk is done. While no job waits, it helps
+    /// with those that other threads have taken, with each once. It ends early after a job under a
+    /// scoring other than the table's, and after an answer that the desk refuses. It may wait for
+    /// other threads.
     pub fn work<R: Wait>(&self, rt: &R) {
+        let mut helped = 0;
         for _ in rt.forever() {
-            let Some(job) = self.desk.take_or_wait(rt) else {
-                return;
-            };
-            let Ok(()) = self.solve_job(rt, job) else {
-                return;
-            };
+            match self.take(rt, helped) {
+                None => return,
+                Some(Errand::Help(shared)) => helped = self.help(shared),
+                Some(Errand::Own(job)) => {
+                    let Ok(()) = self.solve_job(rt, job) else {
+                        return;
+                    };
+                }
+            }
         }
     }
 }

@@ -3,6 +3,7 @@
 
 mod crowds;
 mod desks;
+mod helpers;
 mod limits;
 mod memory;
 mod steps;
@@ -30,6 +31,10 @@ const EQUAL_CORNERS: Masks = (0x81, 0x66);
 
 // -OXXXXX- XXXXXXXO XXXXXXXX XXXXXXXX XXXOXXXX and three rows of X
 const UNEQUAL_CORNERS: Masks = (0x81, 0x8_0000_8002);
+
+// Two empty rows and six rows of X. The game is over, but it has as many empty squares as threads
+// share.
+const TWO_EMPTY_ROWS: Masks = (0xffff, 0);
 
 // The first and the second job of the first sender.
 const FIRST: JobId = JobId {

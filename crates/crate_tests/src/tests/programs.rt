@@ -5,6 +5,7 @@ mod joins;
 mod limits;
 mod progress;
 mod runs;
+mod sharing;
 mod streams;
 mod worked;
 

@@ -1,8 +1,11 @@
 //! A thread that waits at a desk is woken. A test whose wake-up is lost does not end, and `rt` ends it.
 
-use super::{FIRST, UNEQUAL_CORNERS, finishes, gives_back, sends, solved, task_of, turns_to};
+use super::{
+    FIRST, Masks, TWO_EMPTY_ROWS, UNEQUAL_CORNERS, finishes, gives_back, sends, solved, task_of,
+    turns_to,
+};
 use endgame_search::Task;
-use job_board::{Client, Delivery, Desk, Job, Turn};
+use job_board::{Client, Delivery, Desk, Errand, Job, Turn};
 use std::alloc::{AllocError, Global};
 use std::sync::{Mutex, Wait};
 use std::thread;
@@ -31,10 +34,21 @@ const EVENTS: &[Event] = &[
     Event::Close,
 ];
 
+// The job that threads wait for, and after which place they help: None if they don't.
+const WAYS: &[(Masks, Option<u64>)] = &[
+    (UNEQUAL_CORNERS, None),
+    // A job with which no thread helps.
+    (UNEQUAL_CORNERS, Some(0)),
+    // A job with which the threads have helped.
+    (TWO_EMPTY_ROWS, Some(1)),
+];
+
 // One thread waits at the desk for the event, and says when it goes on.
 #[derive(Drop)]
 struct Scene {
     desk: Desk,
+    // After which place the threads help where they would wait. None if they don't.
+    helped: Option<u64>,
     // The client of the thread that waits.
     client: Mutex<Client>,
     // The client's first job.
@@ -43,7 +57,13 @@ struct Scene {
 }
 
 // A desk of two senders. If the event is about a job, the client has sent it, and it is taken.
-fn scene_of<R: Wait>(rt: &R, alloc: Global, task: Task, event: Event) -> Result<Scene, AllocError> {
+fn scene_of<R: Wait>(
+    rt: &R,
+    alloc: Global,
+    task: Task,
+    helped: Option<u64>,
+    event: Event,
+) -> Result<Scene, AllocError> {
     let Ok(desk) = Desk::new(alloc, 2) else {
         return Err(AllocError);
     };
@@ -57,10 +77,22 @@ fn scene_of<R: Wait>(rt: &R, alloc: Global, task: Task, event: Event) -> Result<
     }
     Ok(Scene {
         desk,
+        helped,
         client: Mutex::new(client),
         job: Job { id: FIRST, task },
         event,
     })
+}
+
+// The job that a worker takes.
+fn take<R: Wait>(rt: &R, scene: &Scene) -> Option<Job> {
+    let Some(helped) = scene.helped else {
+        return scene.desk.take_or_wait(rt);
+    };
+    match scene.desk.take_or_help(rt, helped)? {
+        Errand::Own(job) => Some(job),
+        Errand::Help(_) => None,
+    }
 }
 
 // A worker that waits before the client does. It can't go on after the finish or the close, so that
@@ -68,14 +100,17 @@ fn scene_of<R: Wait>(rt: &R, alloc: Global, task: Task, event: Event) -> Result<
 fn stand_by<R: Wait>(rt: &R, scene: &Scene) -> bool {
     match scene.event {
         Event::Submit | Event::GiveBack | Event::LastGiveBack => true,
-        Event::Finish | Event::Close => scene.desk.take_or_wait(rt).is_some(),
+        Event::Finish | Event::Close => take(rt, scene).is_some(),
     }
 }
 
 // Whether the turn of the waiting client returns `wanted`.
 fn is_told<R: Wait>(rt: &R, scene: &Scene, wanted: Turn) -> bool {
     let mut client = scene.client.lock(rt);
-    turns_to(rt, &scene.desk, &mut client, wanted)
+    let Some(helped) = scene.helped else {
+        return turns_to(rt, &scene.desk, &mut client, wanted);
+    };
+    scene.desk.turn_or_help(rt, &mut client, helped) == Ok(Errand::Own(wanted))
 }
 
 // Whether the call of the waiting thread returns what the event lets it return.
@@ -86,7 +121,7 @@ fn is_given<R: Wait>(rt: &R, scene: &Scene) -> bool {
     };
     match scene.event {
         Event::Submit | Event::GiveBack | Event::LastGiveBack => {
-            scene.desk.take_or_wait(rt) == Some(scene.job)
+            take(rt, scene) == Some(scene.job)
         }
         Event::Finish => is_told(rt, scene, Turn::Next(next)),
         Event::Close => is_told(rt, scene, Turn::Drained),
@@ -139,18 +174,21 @@ fn goes_on<R: Threads + Wait + Clock + Sync>(
     rt: &R,
     alloc: Global,
     task: Task,
+    helped: Option<u64>,
     event: Event,
 ) -> Result<bool, AllocError> {
-    let scene = scene_of(rt, alloc, task, event)?;
+    let scene = scene_of(rt, alloc, task, helped, event)?;
     let passed = thread::map_indices(rt, alloc, 3, &|i| play(rt, alloc, &scene, i))?;
     Ok(!passed.contains(&false))
 }
 
 #[test]
 fn who_waits_is_woken(rt: HostRuntime) -> Result<(), AllocError> {
-    let task = task_of(&rt, UNEQUAL_CORNERS);
-    for event in EVENTS {
-        assert!(rt; goes_on(&rt, rt.alloc(), task, *event)?);
+    for (masks, helped) in WAYS {
+        let task = task_of(&rt, *masks);
+        for event in EVENTS {
+            assert!(rt; goes_on(&rt, rt.alloc(), task, *helped, *event)?);
+        }
     }
     Ok(())
 }

@@ -1,16 +1,18 @@
 -- Goals that a search would prove are answered too: the search takes longer.
-use Rattle.std.proofs.Common.{arith, rules, refl, pos, negsuc, ◌≡◌, ◌<◌, ◌+◌, ◌*◌, ◌-ℤ◌, neg_ℤ, ◌≤ℤ◌, to_z, w8, length, sym, ap, ◌∙◌, subst, take, take_all}
+use Rattle.std.proofs.Common.{arith, rules, refl, pos, negsuc, ◌≡◌, ◌<◌, ◌+◌, ◌*◌, ◌-ℤ◌, neg_ℤ, ◌≤ℤ◌, get_or, to_z, w8, length, sym, ap, ◌∙◌, subst, take, take_all}
 use borrow.Author.Count.{falls}
 use Rattle.std.proofs.lemmas.Int.{ints}
 use Rattle.std.proofs.lemmas.List.Elements.{All-same}
 use Rattle.othello_bits.specs.Pos.{moves_of, pass_of, empties_of, final_of, value_of, HasNoMove}
 use Rattle.othello_bits.proofs.GameLaws.{value_score, value-over}
 use Rattle.endgame_search.specs.declared.move_order.Child.{Child}
-use Rattle.endgame_search.specs.Children.{IsChildOf, UnlistedAreAtMost}
+use Rattle.endgame_search.specs.Children.{IsChildOf, AreChildrenOf, UnlistedAreAtMost}
 use Rattle.endgame_search.specs.Windows.{IsNullWindowScore}
 use Rattle.endgame_search.proofs.Bounds.{bound_same, shown_bound, other_bound, stored_window, stored_fail_soft, same_fail_soft, turned_above, cut_above, score_open, score_covers, best_grows, best_covers, best_open, best_least, none_above, before_first, after_first}
 use Rattle.endgame_search.proofs.EmptySquares.{few_moves}
 use Rattle.endgame_search.proofs.Moves.{child_worth, child_empties, passed_worth, passed_empties, at_index, searched_more, value_at_most, unlisted_after_first, unlisted_sorted, none_unlisted, judged_sorted}
+use Rattle.endgame_search.proofs.SearchedChildren.{at_left, none_searched, one_searched, all_searched_of}
+use Rattle.endgame_search.proofs.TakenSquares.{was_there, on_board, one_less}
 use Rattle.endgame_search.proofs.WindowLemmas.{shown, shown_same, exact, at_least_as, unshown}
 use Rattle.endgame_search.proofs.alpha_beta.+search.Goals as goal
 
@@ -201,7 +203,7 @@ search_by_worth-search_children-requires g t c κs within =
       (
         within,
         (
-          subst (UnlistedAreAtMost r p (negsuc 64)) (sym c.deref-2.ensures.0) unlisted,
+          subst (UnlistedAreAtMost r p (negsuc 64)) (sym c.deref-then-empties-lt-FEWEST_SHARED_EMPTIES.ensures.0) unlisted,
           (
             omega (arith, ints),
             (
@@ -212,6 +214,92 @@ search_by_worth-search_children-requires g t c κs within =
         ),
       ),
     )
+
+pub search_by_worth-search_shared_children-requires : goal.search_by_worth-search_shared_children-requires
+search_by_worth-search_shared_children-requires g t c κs within =
+    let p = c.args.position in
+    let d : 8 * empties_of p + 3 ≡ t = c.decreases in
+    let w : 8 * empties_of p + 2 < t = omega (arith, d) in
+    let sorted = judged_sorted p _ _ c.judge_children.new.children _ (sym (c.judge_children.auto.children ∙ ap length c.deref_mut.ensures.value)) c.sort_children.ensures c.judge_children.ensures in
+    let few : length c.deref-2.result.now < 64 = subst (λ n. n < 64) (c.len.ensures.value ∙ ap length (sym c.deref-2.ensures.0)) c.if-len-ge64.false in
+    (w, (within, (subst (AreChildrenOf p) (sym c.deref-2.ensures.0) sorted, (few, (λ z. c.requires.some (c.requires.moves ∙ z), shown_bound c.args.bound c.requires.bound)))))
+
+pub search_shared_children-loop-unsearched-init : goal.search_shared_children-loop-unsearched-init
+search_shared_children-loop-unsearched-init g t c =
+    let all = c.indices_of-unsearched.ensures in
+    let n = c.requires.bound.1 in
+    record {
+      small = c.indices_of-unsearched.type_inv;
+      listed = λ i. (all i).0;
+      searched = none_searched (g.T.Bounds.scoring c.args.table.now) c.args.children.now _ _ (λ i. (all i).1);
+      least = omega (arith, ints);
+      open_left = before_first c.args.bound c.requires.bound;
+    }
+
+pub search_shared_children-search-score-requires : goal.search_shared_children-search-score-requires
+search_shared_children-search-score-requires g t c κs within =
+    let d : 8 * empties_of c.args.position + 2 ≡ t = c.decreases in
+    let x = c.index-children-from.result in
+    let at = c.from.ensures ∙ c.number.ensures.value in
+    let child = at_left (IsChildOf c.args.position) c.args.children.now c.loop-unsearched.unsearched c.next_to_share-index.result c.from.result x c.loop-unsearched.invariant.listed c.next_to_share-index.ensures at c.index-children-from.is c.requires.children.each in
+    let w : 8 * empties_of x.position + 7 < t = omega (arith, d, child_empties c.args.position x child) in
+    (w, (within, (child.replies, other_bound c.args.bound c.requires.bound)))
+
+pub search_shared_children-returns-then-score-bound : goal.search_shared_children-returns-then-score-bound
+search_shared_children-returns-then-score-bound g t c =
+    let x = c.index-children-from.result in
+    let at = c.from.ensures ∙ c.number.ensures.value in
+    let child = at_left (IsChildOf c.args.position) c.args.children.now c.loop-unsearched.unsearched c.next_to_share-index.result c.from.result x c.loop-unsearched.invariant.listed c.next_to_share-index.ensures at c.index-children-from.is c.requires.children.each in
+    cut_above c.args.bound _ _ (shown (pos 0 -ℤ shown c.search-score.result)) c.requires.bound
+    (turned_above c.args.bound _ _ c.requires.bound c.search-score.ensures)
+    (child_worth (g.T.Bounds.scoring c.args.table.now) c.args.position x child) c.if-score-bound.true
+
+pub search_shared_children-probe_cutoff-requires : goal.search_shared_children-probe_cutoff-requires
+search_shared_children-probe_cutoff-requires g t c = shown_bound c.args.bound c.requires.bound
+
+pub search_shared_children-returns-in-Some : goal.search_shared_children-returns-in-Some
+search_shared_children-returns-in-Some g t c = same_fail_soft c.args.bound c.requires.bound _ _ c.in-Some.ensures
+
+pub search_shared_children-loop-unsearched-smaller : goal.search_shared_children-loop-unsearched-smaller
+search_shared_children-loop-unsearched-smaller g t c =
+    let small = c.loop-unsearched.invariant.small in
+    let k = one_less _ _ _ c.next_to_share-index.ensures c.without-unsearched.ensures small c.without-unsearched.type_inv (on_board _ _ small c.next_to_share-index.ensures) in
+    omega (arith, k)
+
+pub search_shared_children-loop-unsearched-preserved : goal.search_shared_children-loop-unsearched-preserved
+search_shared_children-loop-unsearched-preserved g t c =
+    let kept = c.loop-unsearched.invariant in
+    let items = c.args.children.now in
+    let r = g.T.Bounds.scoring c.args.table.now in
+    let x = c.index-children-from.result in
+    let here = c.next_to_share-index.ensures in
+    let at = c.from.ensures ∙ c.number.ensures.value in
+    let child = at_left (IsChildOf c.args.position) items c.loop-unsearched.unsearched c.next_to_share-index.result c.from.result x kept.listed here at c.index-children-from.is c.requires.children.each in
+    let above = child_worth r c.args.position x child in
+    let s = shown (pos 0 -ℤ shown c.search-score.result) in
+    let p = turned_above c.args.bound _ _ c.requires.bound c.search-score.ensures in
+    let more = best_grows c.args.bound _ _ s c.requires.bound p above c.if-score-bound.false _ _ kept.least kept.open_left c.max-best.ensures.value in
+    let is : x ≡ get_or items c.next_to_share-index.result x = subst (λ i. x ≡ get_or items i x) at c.index-children-from.is in
+    record {
+      small = c.without-unsearched.type_inv;
+      listed = λ i h. kept.listed i (was_there _ _ _ here c.without-unsearched.ensures i h);
+      searched = one_searched r items c.loop-unsearched.unsearched _ _ x _ _ here c.without-unsearched.ensures is more
+          (best_covers c.args.bound _ _ s c.requires.bound p above c.if-score-bound.false _ _ kept.least kept.open_left c.max-best.ensures.value)
+          kept.searched;
+      least = best_least c.args.bound _ _ s c.requires.bound p above c.if-score-bound.false _ _ kept.least kept.open_left c.max-best.ensures.value;
+      open_left = best_open c.args.bound _ _ s c.requires.bound p above c.if-score-bound.false _ _ kept.least kept.open_left c.max-best.ensures.value;
+    }
+
+pub search_shared_children-returns : goal.search_shared_children-returns
+search_shared_children-returns g t c =
+    let kept = c.loop-unsearched.invariant in
+    let items = c.args.children.now in
+    let r = g.T.Bounds.scoring c.args.table.now in
+    let all = all_searched_of r items c.loop-unsearched.unsearched _ c.loop-unsearched-test.false kept.searched in
+    let b = to_z w8 c.loop-unsearched.best-bits in
+    let same : b ≤ℤ b = omega (arith, ints) in
+    none_above c.args.bound _ _ c.requires.bound (value_score r c.args.position) kept.open_left
+    (value_at_most r c.args.position items b b c.requires.some (none_unlisted r c.args.position items b c.requires.children) same all)
 
 pub search_children-bounds-children-child-index : goal.search_children-bounds-children-child-index
 search_children-bounds-children-child-index g t c = c.loop-child-test.true

@@ -1,6 +1,8 @@
-use Rattle.std.proofs.Common.{◌*◌, ◌+◌, negsuc, neg_ℤ, ◌≤ℤ◌, take, All}
+use Rattle.std.proofs.Common.{◌≡◌, ℕ, ◌*◌, ◌+◌, ◌<◌, ◌^◌, negsuc, neg_ℤ, ◌≤ℤ◌, true, take, length, All, count_ones}
+use Rattle.othello_rules.specs.Masks.{in_mask}
 use Rattle.othello_bits.specs.Pos.{empties_of, value_of}
 use Rattle.endgame_search.specs.declared.move_order.Child.{Child}
+use Rattle.endgame_search.proofs.SearchedChildren.{SearchedBut}
 use Rattle.endgame_search.proofs.alpha_beta.+search.Given as goal
 
 abbrev pub decreases-search : goal.decreases-search
@@ -30,4 +32,19 @@ invariant-search_children-loop-child g l = record {
   least : negsuc 64 ≤ℤ l.best;
   open_left : l.best ≤ℤ l.bound;
   grown : l.fn.best_so_far ≤ℤ l.best;
+}
+
+abbrev pub decreases-search_shared_children : goal.decreases-search_shared_children
+decreases-search_shared_children g l = 8 * empties_of l.position + 2
+
+abbrev pub decreases-search_shared_children-loop-unsearched : goal.decreases-search_shared_children-loop-unsearched
+decreases-search_shared_children-loop-unsearched g l = count_ones l.unsearched
+
+abbrev pub invariant-search_shared_children-loop-unsearched : goal.invariant-search_shared_children-loop-unsearched
+invariant-search_shared_children-loop-unsearched g l = record {
+  small : l.unsearched < 2 ^ 64;
+  listed : (i : ℕ) → in_mask l.unsearched i ≡ true → i < length l.children;
+  searched : SearchedBut (g.T.Bounds.scoring l.table) l.children l.unsearched l.best;
+  least : negsuc 64 ≤ℤ l.best;
+  open_left : l.best ≤ℤ l.bound;
 }

@@ -12,10 +12,10 @@ one_more sent k solved t e h =
 
 pub loop-preserved-in-Continue-1 : goal.loop-preserved-in-Continue-1
 loop-preserved-in-Continue-1 g c =
-    let gives = rw c.in-Ok-Next.field-0-is at c.in-Ok-Next.ensures.ok in
-    let next : slice_get c.args.client.now.sent c.loop.client.received ≡ Some c.in-Ok-Next.delivery.solved = rw (← c.loop.invariant.same) gives.0.1 in
+    let gives = rw (c.in-Ok-Own-Next.field-0-is, c.in-Ok-Own-Next.field-0-0-is) at c.in-Ok-Own-Next.ensures.ok in
+    let next : slice_get c.args.client.now.sent c.loop.client.received ≡ Some c.in-Ok-Own-Next.delivery.solved = rw (← c.loop.invariant.same) gives.0.1 in
     record {
       same = ap (λ (v : ClientView). v.sent) gives.1 ∙ c.loop.invariant.same;
-      so_far = rw (c.in_ok-push-in-Ok-Next.ensures.items, ap (λ (v : ClientView). v.received) gives.1)
-          (one_more c.args.client.now.sent c.loop.client.received c.loop.solved.items c.in-Ok-Next.delivery.solved c.loop.invariant.so_far next);
+      so_far = rw (c.in_ok-push-in-Ok-Own-Next.ensures.items, ap (λ (v : ClientView). v.received) gives.1)
+          (one_more c.args.client.now.sent c.loop.client.received c.loop.solved.items c.in-Ok-Own-Next.delivery.solved c.loop.invariant.so_far next);
     }
