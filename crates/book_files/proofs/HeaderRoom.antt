@@ -1,6 +1,6 @@
 -- The first 20 bytes of a file, or more, tell whether its first line is the header of a book.
 use Rattle.std.proofs.Common.{◌≡◌, ◌==◌, ◌↔◌, ℕ, zero, suc, ◌+◌, ◌-◌, ◌≤◌, Bool, true, false, cond, List, [], ◌∷◌, map, take, length, refl, ap, sym, subst, ◌∙◌, arith, lit≤}
-use Rattle.std.specs.Prelude.{nat_lt, slice_index}
+use Rattle.std.specs.Prelude.{IfSome, None, Option, Some, nat_lt, slice_index}
 use Rattle.std.specs.List.{onto_first, slice_split}
 use Rattle.std.specs.Str.Lines.{strip_carriage_return}
 use Rattle.std.proofs.lemmas.List.{length-take, take_all}
@@ -98,3 +98,9 @@ of_front room enough front text F e is =
     let same = subst (λ xs. F ↔ GivesWay (lines_of xs)) e is in
     let both = front_gives_way room enough text in
     (λ f. both.0 (same.0 f), λ h. same.1 (both.1 h))
+
+-- so does the text of a reader, where its bytes are known
+pub of_known : (known : Option (List ℕ)) (front : List ℕ) (room n : ℕ) (F : Type 0) → n ≡ room → IfSome known (λ text. front ≡ take n text)
+    → ((text : List ℕ) → front ≡ take room text → F ↔ GivesWay (lines_of text)) → IfSome known (λ text. F ↔ GivesWay (lines_of text))
+of_known None front room n F e h free = tt
+of_known (Some text) front room n F e h free = free text (h ∙ ap (λ k. take k text) e)

@@ -1,5 +1,5 @@
 -- The errors that end `ffosolve` early: their reasons, their lines and their statuses.
-use Rattle.std.specs.Prelude.{◌≡◌, ℕ, List, [], ◌++◌, codes}
+use Rattle.std.specs.Prelude.{◌≡◌, ℕ, List, [], ◌++◌, Option, Some, codes}
 use Rattle.std.specs.Borrow.{Bor}
 use Rattle.solved_book.specs.Faults.{book_fault_text}
 use Rattle.solved_book.specs.declared.book_fault.BookFault.{BookFault}
@@ -44,6 +44,23 @@ IsBookError name (Program (CannotRead other kind)) = other ≡ name
 IsBookError name (BookOnDevice other) = other ≡ name
 IsBookError name (BadBook fault) = Unit {0}
 IsBookError name _ = ⊥
+
+-- the error is one of reading the book of a name that is these bytes; without a name there is none
+abbrev pub IsBookErrorOf : Option (List ℕ) → SolveError → Type 0
+IsBookErrorOf (Some text) (Program Memory) = Unit {0}
+IsBookErrorOf (Some text) (Program (CannotRead other kind)) = other.now ≡ text
+IsBookErrorOf (Some text) (BookOnDevice other) = other.now ≡ text
+IsBookErrorOf (Some text) (BadBook fault) = Unit {0}
+IsBookErrorOf _ _ = ⊥
+
+-- the error is one of a place for a book, whose name is these bytes
+abbrev pub IsPlaceErrorOf : List ℕ → SolveError → Type 0
+IsPlaceErrorOf text (Program Memory) = Unit {0}
+IsPlaceErrorOf text (Program (CannotRead other kind)) = other.now ≡ text
+IsPlaceErrorOf text (BadPlace other kind) = other.now ≡ text
+IsPlaceErrorOf text (OverwritesFile other) = other.now ≡ text
+IsPlaceErrorOf text (OverwritesBookIn other) = other.now ≡ text
+IsPlaceErrorOf text _ = ⊥
 
 -- why a file can't be read or written, or what takes more and larger files
 abbrev pub solve_error_cause : SolveError → List ℕ

@@ -1,14 +1,18 @@
 //! The place of a file that is to be written. It is tested before anything is solved.
 
-ghost use Rattle.std.specs.Prelude.{◌≡◌, ◌⊎◌, ◌↔◌, IfErr, IfOk, IsOk, Ok};
+ghost use Rattle.std.specs.Prelude.{◌≡◌, ◌⊎◌, ◌↔◌, IfErr, IfOk, IsErrOf, IsOk, Ok};
+ghost use Rattle.std.specs.IoError.{error_kind};
 ghost use Rattle.book_files.specs.BookPlace.{IsFree, IsRefusalOf};
-ghost use Rattle.book_files.specs.SolveError.{IsSilent, solve_status_of};
+ghost use Rattle.book_files.specs.SolveError.{IsPlaceErrorOf, IsSilent, solve_status_of};
+ghost use Rattle.book_files.specs.declared.solve_error.SolveError.TheVariants.{Program};
+ghost use Rattle.program_parts.specs.declared.program_error.ProgramError.TheVariants.{CannotRead};
 
 use crate::found::Found;
 use crate::solve_error::{SolveError, place_error};
 use program_parts::read_error;
 use std::alloc::{AllocError, Global};
 use std::fs::OpenOptions;
+use std::io::ErrorKind;
 use std::os::unix::fs::FileTypeExt;
 use std::rt::Files;
 use std::{fs, io};
@@ -55,7 +59,7 @@ fn is_pipe<T: Files>(rt: &T, name: &str) -> bool {
 // for the reader of the pipe, and the reader would see its end.
 fn try_place<T: Files>(rt: &T, alloc: Global, name: &str) -> io::Result<()> {
     if name.is_empty() {
-        return Err(io::Error::from(io::ErrorKind::NotFound));
+        return Err(io::Error::from(ErrorKind::NotFound));
     }
     match fs::symlink_metadata(rt, name) {
         Ok(found) => {
@@ -69,7 +73,7 @@ fn try_place<T: Files>(rt: &T, alloc: Global, name: &str) -> io::Result<()> {
             Ok(())
         }
         Err(fault) => match fault.kind() {
-            io::ErrorKind::NotFound => try_beside(rt, alloc, name),
+            ErrorKind::NotFound => try_beside(rt, alloc, name),
             _ => Err(fault),
         },
     }
@@ -79,11 +83,12 @@ fn try_place<T: Files>(rt: &T, alloc: Global, name: &str) -> io::Result<()> {
 fn check_found<'a>(found: Found, name: &'a str) -> Result<(), SolveError<'a>>
     ensures free { IsOk result ↔ IsFree found }
     ensures refused { IfErr result (IsRefusalOf found name.entry) }
+    ensures named { IfErr result (IsPlaceErrorOf name.entry.now) }
 {
     match found {
         Found::NotRegular | Found::Empty | Found::Book => Ok(()),
         Found::Other => Err(SolveError::OverwritesFile(name)),
-        Found::List => Err(SolveError::BadPlace(name, io::ErrorKind::ResourceBusy)),
+        Found::List => Err(SolveError::BadPlace(name, ErrorKind::ResourceBusy)),
         Found::BookIn => Err(SolveError::OverwritesBookIn(name)),
     }
 }
@@ -112,6 +117,9 @@ pub fn find_place<'a, T: Files>(
     ensures found { IfOk result (λ place. found ≡ Ok place.found) }
     ensures free { IfOk result (λ place. IsFree place.found) }
     ensures refused { IfOk found (λ f. (IsFree f → ⊥) → IfErr result (IsRefusalOf f name.entry)) }
+    ensures unread { IfErr found (λ fault. (error_kind fault ≡ ErrorKind.OutOfMemory → ⊥)
+        → IsErrOf result (Program (CannotRead name.entry (error_kind fault)))) }
+    ensures named { IfErr result (IsPlaceErrorOf name.entry.now) }
     ensures silent { IfErr result IsSilent }
     ensures status { IfErr result
         (λ error. (solve_status_of error ≡ 1) ⊎ (solve_status_of error ≡ 3)) }

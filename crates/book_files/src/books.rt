@@ -1,12 +1,12 @@
 //! The book that the program reads, and the book that it writes.
 
-ghost use Rattle.std.specs.Prelude.{◌≡◌, ◌⊎◌, ◌↔◌, ℕ, List, None, IfOk, IfErr, IfSome};
+ghost use Rattle.std.specs.Prelude.{◌≡◌, ◌⊎◌, ◌↔◌, ℕ, List, None, Some, Ok, IfOk, IfErr, IfSome, IsSome, option_map, string_bytes};
 ghost use Rattle.solved_book.specs.Books.{book_text};
 ghost use Rattle.solved_book.specs.Order.{AreBookPositions};
 ghost use Rattle.solved_book.specs.Claims.{GivesAdvice, claims_of};
 ghost use Rattle.book_files.specs.BookLines.{IsFrontOf, IsLineOrFault, ReadsPart};
 ghost use Rattle.book_files.specs.BookPlace.{IsBookTextOf, IsFree};
-ghost use Rattle.book_files.specs.SolveError.{IsBookError, IsSilent, solve_status_of};
+ghost use Rattle.book_files.specs.SolveError.{IsBookError, IsBookErrorOf, IsSilent, solve_status_of};
 ghost use Rattle.book_files.specs.declared.solve_error.SolveError.TheVariants.{Program};
 ghost use Rattle.program_parts.specs.declared.program_error.ProgramError.TheVariants.{CannotWrite};
 
@@ -148,6 +148,7 @@ fn claims_under<'a, T: Files>(
     name: &'a str,
 ) -> Result<Claims, SolveError<'a>>
     ensures named { IfErr result (IsBookError name.entry) }
+    ensures named_text { IfErr result (IsBookErrorOf (Some name.entry.now)) }
     ensures silent { IfErr result IsSilent }
     ensures status { IfErr result
         (λ error. (solve_status_of error ≡ 1) ⊎ (solve_status_of error ≡ 3)) }
@@ -171,6 +172,8 @@ pub fn read_claims<'a, T: Files>(
     alloc: Global,
     name: &'a Option<String>,
 ) -> Result<Option<Claims>, SolveError<'a>>
+    ensures named { IfErr result (IsBookErrorOf (option_map string_bytes name.now)) }
+    ensures none { name.now ≡ None → result ≡ Ok None }
     ensures silent { IfErr result IsSilent }
     ensures status { IfErr result
         (λ error. (solve_status_of error ≡ 1) ⊎ (solve_status_of error ≡ 3)) }
@@ -221,6 +224,7 @@ pub fn ready_book<'a, T: Files>(
 pub fn write_book<'a, T: Files>(rt: &T, book: &Option<NewFile<'a>>) -> Result<(), SolveError<'a>>
     ensures named { IfErr result (λ error. IfSome book.now
         (λ file. (kind : ErrorKind) × (error ≡ Program (CannotWrite file.name kind)))) }
+    ensures none { IfErr result (λ error. IsSome book.now) }
     ensures late { IfErr result (λ error. IsSilent error → ⊥) }
     ensures status { IfErr result (λ error. solve_status_of error ≡ 3) }
 {

@@ -1,13 +1,13 @@
 //! What is found under the name of a book that is to be written.
 
-ghost use Rattle.std.specs.Prelude.{◌≡◌, ◌⊎◌, ◌↔◌, ℕ, List, take};
+ghost use Rattle.std.specs.Prelude.{◌≡◌, ◌⊎◌, ◌↔◌, ◌≤◌, ℕ, List, IfOk, IfSome, length, take};
 ghost use Rattle.obf_text.specs.LineText.{lines_of};
 ghost use Rattle.book_files.specs.BookPlace.{GivesWay, IsFree};
 
 use obf_text::split_lines;
 use solved_book::header_scoring;
 use std::fs::Metadata;
-use std::io::Read;
+use std::io::{ErrorKind, Read};
 use std::os::unix::fs::MetadataExt;
 use std::rt::Files;
 use std::{fs, io};
@@ -60,6 +60,38 @@ fn found_in(front: &[u8]) -> Found
     found_text(front)
 }
 
+// Reads the first bytes of a reader: as many as fit, or all if there are fewer. Returns how many.
+fn read_start<R: Read>(reader: &mut R, front: &mut [u8]) -> io::Result<usize>
+    ensures most { IfOk result (λ count. count ≤ length front.new) }
+    ensures room { length front.new ≡ length front.old }
+    ensures bytes { IfOk result (λ count. IfSome (R.remaining reader.old)
+        (λ text. take count front.new ≡ take (length front.new) text)) }
+{
+    let mut at = 0;
+    for _ in 0..u64::MAX {
+        if at >= front.len() {
+            return Ok(at);
+        }
+        let count = reader.read(&mut front[at..])?;
+        if count == 0 {
+            return Ok(at);
+        }
+        at += count;
+    }
+    Err(io::Error::from(ErrorKind::Interrupted))
+}
+
+// What a regular file is whose bytes this reader has.
+fn found_from<R: Read>(reader: &mut R) -> io::Result<Found>
+    ensures free { IfOk result (λ found. IfSome (R.remaining reader.old)
+        (λ text. IsFree found ↔ GivesWay (lines_of text))) }
+    ensures other { IfOk result (λ found. IsFree found ⊎ (found ≡ Found.Other)) }
+{
+    let mut front = [0u8; HEADER_ROOM];
+    let count = read_start(reader, &mut front)?;
+    Ok(found_in(&front[..count]))
+}
+
 // Whether the name leads to this regular file.
 fn leads_to<T: Files>(rt: &T, name: &str, file: &Metadata) -> bool {
     match fs::metadata(rt, name) {
@@ -93,8 +125,7 @@ impl Found {
                 return Ok(Found::BookIn);
             }
         }
-        let mut front = [0u8; HEADER_ROOM];
-        let count = fs::open(rt, name)?.read(&mut front)?;
-        Ok(found_in(&front[..count]))
+        let mut opened = fs::open(rt, name)?;
+        found_from(&mut opened)
     }
 }

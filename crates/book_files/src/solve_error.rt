@@ -3,7 +3,7 @@
 ghost use Rattle.std.specs.Prelude.{◌≡◌, ◌⊎◌, Some};
 ghost use Rattle.std.specs.IoError.{error_kind};
 ghost use Rattle.std.specs.Io.KnownBytes.{Appends};
-ghost use Rattle.book_files.specs.SolveError.{IsSilent, book_error, run_error};
+ghost use Rattle.book_files.specs.SolveError.{IsPlaceErrorOf, IsSilent, book_error, run_error};
 ghost use Rattle.book_files.specs.SolveError.{solve_error_cause, solve_error_reason, solve_error_text, solve_status_of};
 ghost use Rattle.program_parts.specs.declared.program_error.ProgramError.TheVariants.{BadInput, Memory};
 ghost use Rattle.book_files.specs.declared.solve_error.SolveError.TheVariants.{BadPlace, Program};
@@ -118,6 +118,7 @@ pub(crate) fn place_error<'a>(fault: &io::Error, name: &'a str) -> SolveError<'a
     ensures memory { error_kind fault.now ≡ ErrorKind.OutOfMemory → result ≡ Program Memory }
     ensures name { (error_kind fault.now ≡ ErrorKind.OutOfMemory → ⊥)
         → result ≡ BadPlace name.entry (error_kind fault.now) }
+    ensures named { IsPlaceErrorOf name.entry.now result }
     ensures status { (solve_status_of result ≡ 1) ⊎ (solve_status_of result ≡ 3) }
     ensures silent { IsSilent result }
 {

@@ -1,5 +1,5 @@
 -- The errors that end either program early, their reasons and their lines.
-use Rattle.std.specs.Prelude.{◌≡◌, ℕ, List, [], ◌++◌, Option, codes}
+use Rattle.std.specs.Prelude.{◌≡◌, ℕ, List, [], ◌∷◌, ◌++◌, Option, codes, Contains}
 use Rattle.std.specs.Io.KnownBytes.{Appends}
 use Rattle.std.specs.declared.io.ErrorKind.{ErrorKind}
 use Rattle.program_settings.specs.InputFault.{input_fault_text}
@@ -38,6 +38,17 @@ abbrev pub IsReadErrorOf : List ℕ → ProgramError → Type 0
 IsReadErrorOf text Memory = Unit {0}
 IsReadErrorOf text (CannotRead name kind) = name.now ≡ text
 IsReadErrorOf text _ = ⊥
+
+-- the error is one of reading one of the files of these names
+abbrev pub IsErrorOfOne : List (List ℕ) → ProgramError → Type 0
+IsErrorOfOne names Memory = Unit {0}
+IsErrorOfOne names (CannotRead name kind) = Contains names name.now
+IsErrorOfOne names _ = ⊥
+
+-- the error is one of reading the files of these names, or standard input if there is none
+abbrev pub IsInputError : List (List ℕ) → ProgramError → Type 0
+IsInputError [] error = IsReadErrorOf (codes "standard input") error
+IsInputError (name ∷ names) error = IsErrorOfOne (name ∷ names) error
 
 -- the error is that of writing standard output, which failed for a reason of this kind
 abbrev pub IsOutputError : ErrorKind → ProgramError → Type 0

@@ -4,7 +4,7 @@ ghost use Rattle.std.specs.Prelude.{◌≡◌, ◌+◌, ◌≤◌, [], ◌∷◌
 ghost use Rattle.std.specs.IoError.{error_kind};
 ghost use Rattle.program_settings.specs.Limits.{most_bytes, most_files};
 ghost use Rattle.program_parts.specs.Inputs.{AreFrontsOf, names_of};
-ghost use Rattle.program_parts.specs.ProgramError.{IsReadError, IsReadErrorOf};
+ghost use Rattle.program_parts.specs.ProgramError.{IsErrorOfOne, IsInputError, IsReadError, IsReadErrorOf};
 ghost use Rattle.program_parts.specs.declared.program_error.ProgramError.TheVariants.{CannotRead, Memory};
 ghost use Rattle.obf_text.specs.LineText.{texts_of};
 
@@ -74,6 +74,7 @@ fn read_named<'a, T: Files>(
     ensures ok { IfOk result
         (λ files. length files.items ≡ min (most_files + 1) (length names.now)) }
     ensures err { IfErr result IsReadError }
+    ensures named { IfErr result (IsErrorOfOne (names_of names.now)) }
 {
     let mut files = Vec::new(alloc);
     for name in names {
@@ -97,6 +98,7 @@ pub fn read_files<'a, T: Files, R: Read>(
     ensures ok { IfOk result
         (λ files. AreFrontsOf (names_of names.now) (R.remaining input.old) (texts_of files.items)) }
     ensures err { IfErr result IsReadError }
+    ensures named { IfErr result (IsInputError (names_of names.now)) }
 {
     if names.is_empty() {
         return read_input(alloc, input);

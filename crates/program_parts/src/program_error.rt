@@ -3,7 +3,7 @@
 ghost use Rattle.std.specs.Prelude.{◌≡◌, ◌⊎◌, Some};
 ghost use Rattle.std.specs.IoError.{error_kind};
 ghost use Rattle.std.specs.Io.KnownBytes.{Appends};
-ghost use Rattle.program_parts.specs.ProgramError.{IsReadError, error_cause, error_reason, error_text};
+ghost use Rattle.program_parts.specs.ProgramError.{IsReadError, IsReadErrorOf, error_cause, error_reason, error_text};
 ghost use Rattle.program_parts.specs.declared.program_error.ProgramError.TheVariants.{BadInput, BadWords, CannotRead, Memory};
 
 use crate::cause::{cause_text, print_cause};
@@ -75,6 +75,7 @@ pub fn read_error<'a>(fault: &io::Error, name: &'a str) -> ProgramError<'a>
     ensures name { (error_kind fault.now ≡ ErrorKind.OutOfMemory → ⊥)
         → result ≡ CannotRead name.entry (error_kind fault.now) }
     ensures kind { IsReadError result }
+    ensures named { IsReadErrorOf name.entry.now result }
 {
     match fault.kind() {
         ErrorKind::OutOfMemory => ProgramError::Memory,

@@ -1,5 +1,5 @@
 -- The reports of `ffosolve`, and its exit statuses.
-use Rattle.std.specs.Prelude.{◌≡◌, ◌⊎◌, ℕ, ◌≤◌, false, List, length, Option, None}
+use Rattle.std.specs.Prelude.{◌≡◌, ◌⊎◌, ℕ, ◌≤◌, false, List, length, codes, Option, Some, None}
 use Rattle.std.specs.Io.KnownBytes.{Appends}
 use Rattle.std.specs.List.{concat}
 use Rattle.program_parts.specs.Endings.{EndsProgram}
@@ -9,8 +9,13 @@ use Rattle.program_settings.specs.Settings.{SettingsView, criteria_of}
 use Rattle.suite_reports.specs.Reports.{reports}
 use Rattle.program_settings.specs.InputFault.{first_large}
 use Rattle.program_settings.specs.Limits.{most_files}
-use Rattle.book_files.specs.SolveError.{solve_error_text, solve_status_of}
+use Rattle.book_files.specs.SolveError.{IsSilent, solve_error_text, solve_status_of}
 use Rattle.book_files.specs.declared.solve_error.SolveError.{SolveError}
+use Rattle.book_files.specs.declared.solve_error.SolveError.TheVariants.{Program, BookOnDevice, BadPlace, OverwritesFile, OverwritesBookIn}
+use Rattle.program_parts.specs.ProgramError.{IsInputError, IsOutputError}
+use Rattle.program_parts.specs.declared.program_error.ProgramError.{ProgramError}
+use Rattle.program_parts.specs.declared.program_error.ProgramError.TheVariants.{CannotRead, CannotWrite}
+use Rattle.std.specs.declared.io.ErrorKind.{ErrorKind}
 
 -- A run refuses none of the texts, and their reports were written one after the other to standard
 -- output, which held `old` before and holds `new` now.
@@ -51,6 +56,38 @@ pub record ShowsError (old new : Option (List ℕ)) (status : ℕ) : Type 0 wher
   pub error : SolveError
   pub ended : solve_status_of error ≡ status
   pub shown : Appends old new (solve_error_text error)
+
+-- a file that the error names is one of the request: the book that is read or written, a list, or,
+-- without lists, standard input; and standard output, if that can't be written
+abbrev pub NamesFileOf : Request → SolveError → Type 0
+NamesFileOf r (Program (CannotRead name kind)) =
+    (r.book_in ≡ Some name.now)
+    ⊎ ((r.book_out ≡ Some name.now) ⊎ (IsInputError r.files (CannotRead name kind)))
+NamesFileOf r (Program (CannotWrite name kind)) =
+    (r.book_out ≡ Some name.now) ⊎ (name.now ≡ codes "standard output")
+NamesFileOf r (BookOnDevice name) = r.book_in ≡ Some name.now
+NamesFileOf r (BadPlace name kind) = r.book_out ≡ Some name.now
+NamesFileOf r (OverwritesFile name) = r.book_out ≡ Some name.now
+NamesFileOf r (OverwritesBookIn name) = r.book_out ≡ Some name.now
+NamesFileOf r _ = Unit {0}
+
+-- the error names no file but one of a request that the words ask for; without a request, it is
+-- that standard output can't be written
+abbrev pub NamesFileOfWords : List (List ℕ) → SolveError → Type 0
+NamesFileOfWords words error =
+    ((r : Request) × (Asks words r × NamesFileOf r error))
+    ⊎ ((kind : ErrorKind) × (output : ProgramError)
+    × (IsOutputError kind output × (error ≡ Program output)))
+
+-- A call for these words ended with 3: standard error, which held `old` before and holds `new` now,
+-- has the lines of an error of that status. Unless the error is that of writing, standard output is
+-- as it was.
+pub record EndsEarly (words : List (List ℕ)) (old new given made : Option (List ℕ)) : Type 0 where
+  pub error : SolveError
+  pub ended : solve_status_of error ≡ 3
+  pub named : NamesFileOfWords words error
+  pub shown : Appends old new (solve_error_text error)
+  pub unwritten : IsSilent error → made ≡ given
 
 -- What standard error got from a call that reported no progress, by its status: nothing with 0, and
 -- the lines of an error with this status with 1 or 3.

@@ -7,7 +7,7 @@ ghost use Rattle.program_parts.specs.Inputs.{names_of};
 ghost use Rattle.program_parts.specs.Endings.{EndsUnread};
 ghost use Rattle.std.specs.Io.KnownBytes.{Appends};
 ghost use Rattle.book_files.specs.SolveError.{solve_error_text, solve_status_of};
-ghost use Rattle.suite_solver.specs.Programs.{AsksNoProgress, EndsFfosolve, ShowsEnding, ShowsError};
+ghost use Rattle.suite_solver.specs.Programs.{AsksNoProgress, EndsEarly, EndsFfosolve, ShowsEnding, ShowsError};
 
 use crate::ffosolve::program;
 use book_files::SolveError;
@@ -78,6 +78,10 @@ pub fn program_of<T: Files + Clock + Threads + Wait + Sync, R: Read, W: Write, E
         (R.remaining input.old) (W.contents output.old) (W.contents output.new) result.status) }
     ensures shown { IfOk words (λ all. AsksNoProgress (names_of all.items)
         → ShowsEnding (E.contents errors.old) (E.contents errors.new) result.status) }
+    ensures late { IfOk words (λ all. AsksNoProgress (names_of all.items)
+        → result.status ≡ 3 → EndsEarly (names_of all.items)
+        (E.contents errors.old) (E.contents errors.new)
+        (W.contents output.old) (W.contents output.new)) }
     ensures unread { IsErr words
         → EndsUnread 1 (W.contents output.old) (W.contents output.new) result.status }
     ensures unread_shown { IsErr words

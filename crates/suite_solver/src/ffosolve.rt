@@ -1,14 +1,17 @@
 //! The program `ffosolve`.
 
-ghost use Rattle.std.specs.Prelude.{◌≡◌, ◌⊎◌, map, option_map, string_bytes, false, Some, OnOk, IfOk, IfErr, IfSome, IsErr, IsErrOf};
+ghost use Rattle.std.specs.Prelude.{◌≡◌, ◌⊎◌, ◌↔◌, map, option_map, string_bytes, false, None, Some, OnOk, IfOk, IfErr, IfSome, IsErr, IsErrOf};
 ghost use Rattle.std.specs.List.{concat};
 ghost use Rattle.std.specs.Io.KnownBytes.{Appends};
 ghost use Rattle.program_parts.specs.Inputs.{names_of};
-ghost use Rattle.book_files.specs.BookPlace.{IsFree};
+ghost use Rattle.book_files.specs.BookPlace.{IsBookTextOf, IsFree};
+ghost use Rattle.suite_runs.specs.declared.solved_files.SolvedFiles.{SolvedFiles};
+ghost use Rattle.suite_runs.specs.Runs.{AreFilesOf};
 ghost use Rattle.book_files.specs.SolveError.{IsSilent, solve_status_of};
 ghost use Rattle.program_parts.specs.declared.program_error.ProgramError.TheVariants.{BadInput};
 ghost use Rattle.book_files.specs.declared.solve_error.SolveError.TheVariants.{Program};
-ghost use Rattle.suite_solver.specs.Programs.{AsksNoProgress, EndsFfosolve, PrintsReportsOf, PrintsReports, ShowsEnding};
+ghost use Rattle.suite_solver.specs.Programs.{AsksNoProgress, EndsEarly, EndsFfosolve, NamesFileOf, PrintsReportsOf, PrintsReports, ShowsEnding};
+ghost use Rattle.suite_solver.specs.Options.{request_of};
 ghost use Rattle.obf_text.specs.LineText.{texts_of};
 ghost use Rattle.program_settings.specs.InputFault.{refusal_of};
 ghost use Rattle.program_settings.specs.declared.input_fault.InputFault.{InputFault};
@@ -64,6 +67,13 @@ fn solve_and_print<'a, T: Files + Clock + Threads + Wait + Sync, W: Write, E: Wr
     ensures status { IfErr result
         (λ error. (solve_status_of error ≡ 1) ⊎ (solve_status_of error ≡ 3)) }
     ensures quiet { asked.now.progress ≡ false → E.contents errors.new ≡ E.contents errors.old }
+    ensures book { IfOk result (λ book. IfSome book (λ file. (files : SolvedFiles)
+        × (AreFilesOf asked.now.settings (texts_of texts.now) files)
+        × (IsBookTextOf files file.text.items))) }
+    ensures placed { IfOk result (λ book. book ≡ None ↔ place.now ≡ None) }
+    ensures name { IfOk result (λ book. IfSome book
+        (λ file. IfSome place.now (λ p. file.name ≡ p.name))) }
+    ensures error { IfErr result (NamesFileOf (request_of asked.now)) }
 {
     let solved = solve_with_progress(
         rt,
@@ -99,6 +109,7 @@ fn place_of_run<'a, T: Files>(
     ensures free { IfOk result (λ place. IfSome place (λ p. IsFree p.found)) }
     ensures files { (fault : InputFault) → refusal_of (texts_of texts.now) ≡ Some fault
         → IsErrOf result (Program (BadInput fault)) }
+    ensures error { IfErr result (NamesFileOf (request_of asked.now)) }
     ensures silent { IfErr result IsSilent }
     ensures status { IfErr result
         (λ error. (solve_status_of error ≡ 1) ⊎ (solve_status_of error ≡ 3)) }
@@ -125,6 +136,7 @@ fn carry_out<'a, T: Files + Clock + Threads + Wait + Sync, R: Read, W: Write, E:
     ensures reported { OnOk result (PrintsReportsOf asked.now.settings
         (names_of asked.now.files.items)
         (R.remaining input.old) (W.contents output.old) (W.contents output.new)) }
+    ensures error { IfErr result (NamesFileOf (request_of asked.now)) }
     ensures silent { IfErr result
         (λ error. IsSilent error → W.contents output.new ≡ W.contents output.old) }
     ensures unwritten { IfErr result
@@ -173,6 +185,9 @@ pub fn program<T: Files + Clock + Threads + Wait + Sync, R: Read, W: Write, E: E
         (R.remaining input.old) (W.contents output.old) (W.contents output.new) result }
     ensures shown { AsksNoProgress (map (λ word. word.now) words.now)
         → ShowsEnding (E.contents errors.old) (E.contents errors.new) result }
+    ensures late { AsksNoProgress (map (λ word. word.now) words.now) → result ≡ 3
+        → EndsEarly (map (λ word. word.now) words.now) (E.contents errors.old) (E.contents errors.new)
+        (W.contents output.old) (W.contents output.new) }
 {
     match read_options(alloc, words) {
         Ok(asked) => match carry_out(rt, alloc, &asked, input, output, errors) {

@@ -1,6 +1,6 @@
 use Rattle.std.proofs.Common.{rules}
 use Rattle.program_parts.proofs.EndingLemmas.{in_range_of, not_one}
-use Rattle.suite_solver.proofs.ProgramLemmas.{without_options}
+use Rattle.suite_solver.proofs.ProgramLemmas.{late_options, without_options}
 use Rattle.suite_solver.proofs.ffosolve.program.Goals as goal
 
 pub returns-clause-ends : goal.returns-clause-ends
@@ -14,6 +14,10 @@ returns-clause-ends g c = record {
   };
   unwritten = search (rules, not_one);
 }
+
+pub returns-clause-late : goal.returns-clause-late
+returns-clause-late g c =
+    let ended = c.end_without_options.ensures in λ none. late_options _ _ _ _ _ _ ended.failed
 
 pub returns-clause-shown : goal.returns-clause-shown
 returns-clause-shown g c =

@@ -4,7 +4,12 @@ use Rattle.program_settings.specs.Settings.{criteria_of}
 use Rattle.suite_runs.proofs.PartLemmas.{outcome_reports}
 use Rattle.suite_runs.proofs.RunLemmas.{none_refused}
 use Rattle.suite_runs.specs.Part.{part_view_of}
+use Rattle.suite_solver.proofs.ProgramLemmas.{book_of_files}
 use Rattle.suite_solver.proofs.ffosolve.solve_and_print.Goals as goal
+
+pub returns-in-Ok-clause-book : goal.returns-in-Ok-clause-book
+returns-in-Ok-clause-book g c =
+    book_of_files _ _ _ c.in_ok-solved.solved c.in_ok-solved.ensures.solved.1 c.in_ok-book.ensures.text
 
 pub returns-in-Ok-clause-reported : goal.returns-in-Ok-clause-reported
 returns-in-Ok-clause-reported g c =
