@@ -101,8 +101,7 @@ def test_version_is_that_of_the_file_version(pipe, name):
 def test_a_full_or_closed_output_is_reported_even_for_an_empty_report(folder, name, list_):
     for word in ("--help", "--version", list_):
         for output in (">/dev/full", ">&-"):
-            why = f"{name}: no space left\n" if output == ">/dev/full" else ""
-            wanted = (3, "", f"{name}: cannot write standard output\n{why}")
+            wanted = (3, "", f"{name}: cannot write standard output\n")
             ends(wanted, "sh", "-c", f'exec "$0" "$1" {output}', built(name), word)
 
 

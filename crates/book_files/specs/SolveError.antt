@@ -9,7 +9,8 @@ use Rattle.suite_runs.specs.declared.run_fault.RunFault.{RunFault}
 use Rattle.suite_runs.specs.declared.run_fault.RunFault.TheVariants as run
 use Rattle.program_parts.specs.Cause.{cause_line, cause_text, error_line}
 use Rattle.program_parts.specs.ProgramError.{error_cause, error_reason}
-use Rattle.program_parts.specs.declared.program_error.ProgramError.TheVariants.{Memory, BadInput, BadWords, CannotRead, CannotWrite}
+use Rattle.program_parts.specs.declared.program_error.ProgramError.TheVariants.{Memory, BadInput, BadWords, CannotReadInput, CannotWriteOutput}
+use Rattle.program_parts.specs.declared.program_error.ProgramError.TheVariants.{CannotRead, CannotWrite}
 use Rattle.book_files.specs.declared.solve_error.SolveError.{SolveError}
 use Rattle.book_files.specs.declared.solve_error.SolveError.TheVariants.{Program, Mixed, BadBook, BookOnDevice, BadPlace, OverwritesFile, OverwritesBookIn}
 
@@ -62,7 +63,7 @@ IsPlaceErrorOf text (OverwritesFile other) = other.now ≡ text
 IsPlaceErrorOf text (OverwritesBookIn other) = other.now ≡ text
 IsPlaceErrorOf text _ = ⊥
 
--- why a file can't be read or written, or what takes more and larger files
+-- why a file can't be read or written
 abbrev pub solve_error_cause : SolveError → List ℕ
 solve_error_cause (Program error) = error_cause error
 solve_error_cause (BookOnDevice name) = codes "it is neither a file nor a pipe"
@@ -80,6 +81,8 @@ abbrev pub solve_status_of : SolveError → ℕ
 solve_status_of (Program Memory) = 1
 solve_status_of (Program (BadInput fault)) = 1
 solve_status_of (Program BadWords) = 2
+solve_status_of (Program CannotReadInput) = 3
+solve_status_of (Program CannotWriteOutput) = 3
 solve_status_of (Program (CannotRead name kind)) = 3
 solve_status_of (Program (CannotWrite name kind)) = 3
 solve_status_of Mixed = 1
@@ -89,7 +92,8 @@ solve_status_of (BadPlace name kind) = 3
 solve_status_of (OverwritesFile name) = 3
 solve_status_of (OverwritesBookIn name) = 3
 
--- the error comes before anything is printed; each does except `CannotWrite`
+-- the error comes before anything is printed; each does except those of writing
 abbrev pub IsSilent : SolveError → Type 0
+IsSilent (Program CannotWriteOutput) = ⊥
 IsSilent (Program (CannotWrite name kind)) = ⊥
 IsSilent _ = Unit {0}

@@ -129,8 +129,7 @@ pub(crate) fn place_error<'a>(fault: &io::Error, name: &'a str) -> SolveError<'a
 }
 
 impl SolveError<'_> {
-    // Why a file can't be read or written, or what takes more and larger files; empty if nothing is
-    // known of it.
+    // Why a file can't be read or written; empty if nothing is known of it.
     fn cause(&self) -> &'static str
         ensures { result.now ≡ solve_error_cause self.now }
     {

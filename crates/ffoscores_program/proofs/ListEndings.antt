@@ -1,7 +1,6 @@
 -- How the printing of lists ended.
-use Rattle.std.proofs.Common.{◌≡◌, ◌⊎◌, ◌≤◌, ℕ, List, length, inl, inr, refl, sym, ◌∙◌}
+use Rattle.std.proofs.Common.{◌≡◌, ◌⊎◌, ◌≤◌, ℕ, List, length, inl, inr, sym}
 use Rattle.std.specs.Prelude.{Bool, Option, None, Result, Ok, Err, IfOk, OnErr, OnOk, codes}
-use Rattle.std.specs.declared.io.ErrorKind.{ErrorKind}
 use Rattle.std.specs.Io.KnownBytes.{Appends}
 use Rattle.scored_lines.specs.Lines.{lists_right, lists_text}
 use Rattle.list_printer.specs.Output.{AppendsFront}
@@ -9,12 +8,12 @@ use Rattle.program_settings.specs.InputFault.{first_large}
 use Rattle.program_settings.specs.declared.limits.TheConstants.{MOST_FILES}
 use Rattle.program_settings.specs.Settings.{criteria_of}
 use Rattle.ffoscores_program.specs.Options.{AsksLists, ListRequest, ffoscores}
-use Rattle.ffoscores_program.specs.Lists.{AreLists, PrintsLists, ShowsEnding, ShowsError, StopsLists, list_status_of}
+use Rattle.ffoscores_program.specs.Lists.{AreLists, PrintsLists, ShowsEnding, ShowsError, StopsLists}
 use Rattle.program_parts.specs.CommandLine.{IsFaultless}
 use Rattle.program_parts.specs.Inputs.{AreFrontsOf}
-use Rattle.program_parts.specs.ProgramError.{IsOutputError, ShowsOutputError}
+use Rattle.program_parts.specs.ProgramError.{error_text}
 use Rattle.program_parts.specs.declared.program_error.ProgramError.{ProgramError}
-use Rattle.program_parts.specs.declared.program_error.ProgramError.TheVariants.{Memory, BadInput, BadWords, CannotRead, CannotWrite}
+use Rattle.program_parts.specs.declared.program_error.ProgramError.TheVariants.{CannotWriteOutput}
 use Rattle.program_parts.proofs.EndingLemmas.{not_one, whole_texts}
 
 -- what was read is lists, where no limit is passed
@@ -40,16 +39,9 @@ asked_faultless words r a = record { names = a.names; named = a.named; faultless
 
 -- ---- what standard error gets
 
-output_status : (kind : ErrorKind) (error : ProgramError) → IsOutputError kind error → list_status_of error ≡ 3
-output_status kind (CannotWrite name _) is = refl
-output_status kind Memory is = absurd is
-output_status kind (BadInput fault) is = absurd is
-output_status kind BadWords is = absurd is
-output_status kind (CannotRead name _) is = absurd is
-
 -- help or a refusal, or standard output that fails meanwhile
 pub without_options : (old new : Option (List ℕ)) (s : ℕ) → (s ≡ 0) ⊎ ((s ≡ 2) ⊎ (s ≡ 3)) → (s ≡ 0 → new ≡ old)
-    → (s ≡ 3 → (kind : ErrorKind) × ShowsOutputError (codes "ffoscores") kind old new) → ShowsEnding old new s
+    → (s ≡ 3 → Appends old new (error_text (codes "ffoscores") CannotWriteOutput)) → ShowsEnding old new s
 without_options old new s is quiet failed = record { quiet = by; failed = of_output }
   where
     by : (s ≡ 0) ⊎ (s ≡ 1) → new ≡ old
@@ -57,6 +49,4 @@ without_options old new s is quiet failed = record { quiet = by; failed = of_out
     by (inr one) = not_one s (new ≡ old) is one
 
     of_output : s ≡ 3 → ShowsError old new s
-    of_output three =
-        let f = failed three in
-        record { error = f.1.error; ended = output_status f.0 f.1.error f.1.of_output ∙ sym three; shown = f.1.shown }
+    of_output three = record { error = CannotWriteOutput; ended = sym three; shown = failed three }

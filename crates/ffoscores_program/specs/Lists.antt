@@ -14,7 +14,7 @@ use Rattle.program_parts.specs.Endings.{EndsProgram}
 use Rattle.program_parts.specs.Inputs.{AreTextsOf}
 use Rattle.program_parts.specs.ProgramError.{error_text}
 use Rattle.program_parts.specs.declared.program_error.ProgramError.{ProgramError}
-use Rattle.program_parts.specs.declared.program_error.ProgramError.TheVariants.{BadWords, CannotWrite, Memory}
+use Rattle.program_parts.specs.declared.program_error.ProgramError.TheVariants.{BadWords, CannotWriteOutput, Memory}
 use Rattle.ffoscores_program.specs.Options.{AsksLists, ListRequest, ffoscores}
 
 -- These are the texts of the files of these names, or of standard input, and they are within the
@@ -70,9 +70,7 @@ pub record EndsFfoscores (words : List (List ℕ)) (given old new : Option (List
 -- the error of the program for a fault of printing
 abbrev pub IsListError : ListFault → ProgramError → Type 0
 IsListError list.Memory error = error ≡ Memory
-IsListError (list.CannotWrite kind) (CannotWrite name other) =
-    (name.now ≡ codes "standard output") × (other ≡ kind)
-IsListError (list.CannotWrite kind) error = ⊥
+IsListError (list.CannotWrite kind) error = error ≡ CannotWriteOutput
 
 -- the exit status of `ffoscores` after an error
 abbrev pub list_status_of : ProgramError → ℕ

@@ -10,7 +10,7 @@ ghost use Rattle.std.specs.Io.KnownBytes.{Appends};
 ghost use Rattle.ffoscores_program.specs.Lists.{EndsFfoscores, ShowsEnding, ShowsError, list_status_of};
 
 use crate::ffoscores::list_program;
-use program_parts::{ErrorStream, ProgramError, borrow_words, words_error};
+use program_parts::{ErrorStream, ProgramError, borrow_words, memory_or};
 use std::alloc::Global;
 use std::io;
 use std::io::{Eprint, ErrorKind, Read, Write};
@@ -83,7 +83,7 @@ pub fn list_program_of<T: Files + Threads + Wait, R: Read, W: Write, E: ErrorStr
         Ok(words) => words,
         Err(fault) => {
             return ExitStatus {
-                status: print_error(&words_error(&fault), errors),
+                status: print_error(&memory_or(&fault, ProgramError::BadWords), errors),
             };
         }
     };

@@ -29,7 +29,7 @@ fn list_error(fault: ListFault) -> ProgramError<'static>
 {
     match fault {
         ListFault::Memory => ProgramError::Memory,
-        ListFault::CannotWrite(kind) => ProgramError::CannotWrite("standard output", kind),
+        ListFault::CannotWrite(_) => ProgramError::CannotWriteOutput,
     }
 }
 

@@ -3,9 +3,8 @@ use Rattle.std.specs.Prelude.{ℕ, ◌==◌, List, [], ◌∷◌, ◌++◌, code
 use Rattle.std.specs.declared.io.ErrorKind.{ErrorKind}
 use Rattle.std.specs.declared.io.ErrorKind.TheVariants as kind
 
--- the words for the kind of an error; none if it says nothing more
+-- the words for the kind of an error; none if it says nothing more, or if a file is not there
 abbrev pub cause_text : ErrorKind → List ℕ
-cause_text kind.NotFound = codes "no such file or folder"
 cause_text kind.PermissionDenied = codes "permission denied"
 cause_text kind.AlreadyExists = codes "another file is in the way"
 cause_text kind.NotADirectory = codes "a part of its name is not a folder"
@@ -21,12 +20,11 @@ cause_text kind.InvalidFilename = codes "its name is too long"
 cause_text _ = []
 
 -- What is said for each error of the system that says why, by its number in Linux. The names are
--- those of POSIX: EPERM, ENOENT, EACCES, EBUSY, EEXIST, ENOTDIR, EISDIR, EINVAL, EFBIG, ENOSPC, EROFS,
+-- those of POSIX: EPERM, EACCES, EBUSY, EEXIST, ENOTDIR, EISDIR, EINVAL, EFBIG, ENOSPC, EROFS,
 -- ENAMETOOLONG, ELOOP; and EDQUOT.
 abbrev pub system_causes : List (ℕ × List ℕ)
 system_causes =
     (1, codes "permission denied")
-    ∷ (2, codes "no such file or folder")
     ∷ (13, codes "permission denied")
     ∷ (16, codes "it is in use")
     ∷ (17, codes "another file is in the way")

@@ -1,23 +1,23 @@
 -- The errors that end either program early, their reasons and their lines.
-use Rattle.std.specs.Prelude.{◌≡◌, ℕ, List, [], ◌∷◌, ◌++◌, Option, codes, Contains}
-use Rattle.std.specs.Io.KnownBytes.{Appends}
-use Rattle.std.specs.declared.io.ErrorKind.{ErrorKind}
+use Rattle.std.specs.Prelude.{◌≡◌, ℕ, List, [], ◌∷◌, ◌++◌, codes, Contains}
 use Rattle.program_settings.specs.InputFault.{input_fault_text}
 use Rattle.program_parts.specs.Cause.{cause_line, cause_text, error_line}
 use Rattle.program_parts.specs.declared.program_error.ProgramError.{ProgramError}
-use Rattle.program_parts.specs.declared.program_error.ProgramError.TheVariants.{Memory, BadInput, BadWords, CannotRead, CannotWrite}
+use Rattle.program_parts.specs.declared.program_error.ProgramError.TheVariants.{Memory, BadInput, BadWords, CannotReadInput, CannotWriteOutput}
+use Rattle.program_parts.specs.declared.program_error.ProgramError.TheVariants.{CannotRead, CannotWrite}
 
 -- the reason of an error, as its line has it
 unfoldable pub error_reason : ProgramError → List ℕ
 error_reason Memory = codes "out of memory"
 error_reason (BadInput fault) = input_fault_text fault
 error_reason BadWords = codes "cannot read the command line"
+error_reason CannotReadInput = codes "cannot read standard input"
+error_reason CannotWriteOutput = codes "cannot write standard output"
 error_reason (CannotRead name kind) = codes "cannot read " ++ name.now
 error_reason (CannotWrite name kind) = codes "cannot write " ++ name.now
 
--- why a file can't be read or written, or what takes more and larger files
+-- why a file can't be read or written
 abbrev pub error_cause : ProgramError → List ℕ
-error_cause (BadInput fault) = codes "ffosolve-many takes longer lists"
 error_cause (CannotRead name kind) = cause_text kind
 error_cause (CannotWrite name kind) = cause_text kind
 error_cause _ = []
@@ -30,10 +30,11 @@ error_text program error =
 -- the error is one of reading a file or a stream
 abbrev pub IsReadError : ProgramError → Type 0
 IsReadError Memory = Unit {0}
+IsReadError CannotReadInput = Unit {0}
 IsReadError (CannotRead name kind) = Unit {0}
 IsReadError _ = ⊥
 
--- the error is one of reading the file or the stream of this name
+-- the error is one of reading the file of this name
 abbrev pub IsReadErrorOf : List ℕ → ProgramError → Type 0
 IsReadErrorOf text Memory = Unit {0}
 IsReadErrorOf text (CannotRead name kind) = name.now ≡ text
@@ -47,17 +48,7 @@ IsErrorOfOne names _ = ⊥
 
 -- the error is one of reading the files of these names, or standard input if there is none
 abbrev pub IsInputError : List (List ℕ) → ProgramError → Type 0
-IsInputError [] error = IsReadErrorOf (codes "standard input") error
+IsInputError [] Memory = Unit {0}
+IsInputError [] CannotReadInput = Unit {0}
+IsInputError [] _ = ⊥
 IsInputError (name ∷ names) error = IsErrorOfOne (name ∷ names) error
-
--- the error is that of writing standard output, which failed for a reason of this kind
-abbrev pub IsOutputError : ErrorKind → ProgramError → Type 0
-IsOutputError kind (CannotWrite name other) = (name.now ≡ codes "standard output") × (other ≡ kind)
-IsOutputError kind _ = ⊥
-
--- Standard output failed for a reason of this kind, and standard error, which held `old` before and
--- holds `new` now, has the lines of that error.
-pub record ShowsOutputError (program : List ℕ) (kind : ErrorKind) (old new : Option (List ℕ)) : Type 0 where
-  pub error : ProgramError
-  pub of_output : IsOutputError kind error
-  pub shown : Appends old new (error_text program error)

@@ -8,12 +8,11 @@ use crate::streams::ErrorStream;
 use std::io::ErrorKind;
 
 /// Says in words why a file can't be read or written, by the kind of the error. The text is empty
-/// if the kind says nothing more.
+/// if the kind says nothing more, or if the file is not there.
 pub fn cause_text(kind: ErrorKind) -> &'static str
     ensures { result.now ≡ cause_text kind }
 {
     match kind {
-        ErrorKind::NotFound => "no such file or folder",
         ErrorKind::PermissionDenied => "permission denied",
         ErrorKind::AlreadyExists => "another file is in the way",
         ErrorKind::NotADirectory => "a part of its name is not a folder",

@@ -1,6 +1,6 @@
 //! Reads the files of a program, or standard input.
 
-ghost use Rattle.std.specs.Prelude.{◌≡◌, ◌+◌, ◌≤◌, [], ◌∷◌, IfOk, IfErr, IfSome, IsErrOf, Ok, codes, length, min, take, vec_len};
+ghost use Rattle.std.specs.Prelude.{◌≡◌, ◌+◌, ◌≤◌, [], ◌∷◌, IfOk, IfErr, IfSome, IsErrOf, Ok, length, min, take, vec_len};
 ghost use Rattle.std.specs.IoError.{error_kind};
 ghost use Rattle.program_settings.specs.Limits.{most_bytes, most_files};
 ghost use Rattle.program_parts.specs.Inputs.{AreFrontsOf, names_of};
@@ -8,7 +8,7 @@ ghost use Rattle.program_parts.specs.ProgramError.{IsErrorOfOne, IsInputError, I
 ghost use Rattle.program_parts.specs.declared.program_error.ProgramError.TheVariants.{CannotRead, Memory};
 ghost use Rattle.obf_text.specs.LineText.{texts_of};
 
-use crate::program_error::{ProgramError, read_error};
+use crate::program_error::{ProgramError, memory_or, read_error};
 use program_settings::{MOST_BYTES, MOST_FILES};
 use std::alloc::Global;
 use std::io::{ErrorKind, Read};
@@ -31,7 +31,7 @@ fn read_front<R: Read>(alloc: Global, reader: &mut R) -> io::Result<Vec<u8>>
     Ok(bytes)
 }
 
-// The text that was read of the file or the stream of this name, or the error for the fault.
+// The text that was read of the file of this name, or the error for the fault.
 fn text_read<'a>(read: io::Result<Vec<u8>>, name: &'a str) -> Result<Vec<u8>, ProgramError<'a>>
     ensures text { IfOk read (λ text. result ≡ Ok text) }
     ensures memory { IfErr read (λ fault. error_kind fault ≡ ErrorKind.OutOfMemory
@@ -50,9 +50,12 @@ fn text_read<'a>(read: io::Result<Vec<u8>>, name: &'a str) -> Result<Vec<u8>, Pr
 fn read_input<R: Read>(alloc: Global, input: &mut R) -> Result<Vec<Vec<u8>>, ProgramError<'static>>
     ensures ok { IfOk result (λ files. IfSome
         (R.remaining input.old) (λ all. texts_of files.items ≡ take (most_bytes + 1) all ∷ [])) }
-    ensures named { IfErr result (IsReadErrorOf (codes "standard input")) }
+    ensures named { IfErr result (IsInputError []) }
 {
-    let text = text_read(read_front(alloc, input), "standard input")?;
+    let text = match read_front(alloc, input) {
+        Ok(text) => text,
+        Err(fault) => return Err(memory_or(&fault, ProgramError::CannotReadInput)),
+    };
     let mut files = Vec::new(alloc);
     files.push(text)?;
     Ok(files)

@@ -21,6 +21,6 @@ mod words;
 pub use cause::{cause_text, print_cause};
 pub use inputs::read_files;
 pub use option_fault::OptionFault;
-pub use program_error::{ProgramError, read_error, words_error};
+pub use program_error::{ProgramError, memory_or, read_error};
 pub use streams::{ErrorStream, end_without_options};
 pub use words::borrow_words;

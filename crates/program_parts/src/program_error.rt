@@ -4,7 +4,7 @@ ghost use Rattle.std.specs.Prelude.{◌≡◌, ◌⊎◌, Some};
 ghost use Rattle.std.specs.IoError.{error_kind};
 ghost use Rattle.std.specs.Io.KnownBytes.{Appends};
 ghost use Rattle.program_parts.specs.ProgramError.{IsReadError, IsReadErrorOf, error_cause, error_reason, error_text};
-ghost use Rattle.program_parts.specs.declared.program_error.ProgramError.TheVariants.{BadInput, BadWords, CannotRead, Memory};
+ghost use Rattle.program_parts.specs.declared.program_error.ProgramError.TheVariants.{BadInput, CannotRead, Memory};
 
 use crate::cause::{cause_text, print_cause};
 use crate::streams::ErrorStream;
@@ -14,7 +14,7 @@ use std::io::ErrorKind;
 use std::{fmt, io};
 
 /// An error that ends either program early. A name is that of a file, as the command line has it,
-/// or `standard input` or `standard output`.
+/// and the kind of the system's error says why it can't be read or written.
 #[derive(Drop)]
 pub enum ProgramError<'a> {
     /// Memory was refused.
@@ -23,9 +23,13 @@ pub enum ProgramError<'a> {
     BadInput(InputFault),
     /// A word of the command line is not text.
     BadWords,
-    /// The file or the stream of this name can't be read. The kind of the system's error says why.
+    /// Standard input can't be read.
+    CannotReadInput,
+    /// Standard output can't be written.
+    CannotWriteOutput,
+    /// The file of this name can't be read.
     CannotRead(&'a str, ErrorKind),
-    /// The file or the stream of this name can't be written, with the kind of the error as before.
+    /// The file of this name can't be written.
     CannotWrite(&'a str, ErrorKind),
 }
 
@@ -62,14 +66,28 @@ impl fmt::Display for ProgramError<'_> {
             ProgramError::Memory => f.write_str("out of memory"),
             ProgramError::BadInput(fault) => write!(f, "{fault}"),
             ProgramError::BadWords => f.write_str("cannot read the command line"),
+            ProgramError::CannotReadInput => f.write_str("cannot read standard input"),
+            ProgramError::CannotWriteOutput => f.write_str("cannot write standard output"),
             ProgramError::CannotRead(name, _) => write!(f, "cannot read {name}"),
             ProgramError::CannotWrite(name, _) => write!(f, "cannot write {name}"),
         }
     }
 }
 
-/// Makes the error for a failed read of the file or the stream of this name: `Memory` if memory was refused,
-/// otherwise `CannotRead` with the name and the kind.
+/// The error for a fault of the system: `Memory` if memory was refused, otherwise the other error.
+pub fn memory_or<'a>(fault: &io::Error, other: ProgramError<'a>) -> ProgramError<'a>
+    ensures memory { error_kind fault.now ≡ ErrorKind.OutOfMemory → result ≡ Memory }
+    ensures other { (error_kind fault.now ≡ ErrorKind.OutOfMemory → ⊥) → result ≡ other.entry }
+    ensures either { (result ≡ Memory) ⊎ (result ≡ other.entry) }
+{
+    match fault.kind() {
+        ErrorKind::OutOfMemory => ProgramError::Memory,
+        _ => other,
+    }
+}
+
+/// The error for a failed read of the file of this name: `Memory` if memory was refused, otherwise
+/// `CannotRead` with the name and the kind.
 pub fn read_error<'a>(fault: &io::Error, name: &'a str) -> ProgramError<'a>
     ensures memory { error_kind fault.now ≡ ErrorKind.OutOfMemory → result ≡ Memory }
     ensures name { (error_kind fault.now ≡ ErrorKind.OutOfMemory → ⊥)
@@ -77,28 +95,11 @@ pub fn read_error<'a>(fault: &io::Error, name: &'a str) -> ProgramError<'a>
     ensures kind { IsReadError result }
     ensures named { IsReadErrorOf name.entry.now result }
 {
-    match fault.kind() {
-        ErrorKind::OutOfMemory => ProgramError::Memory,
-        kind => ProgramError::CannotRead(name, kind),
-    }
-}
-
-/// The error for a command line that can't be read: `Memory` if memory was refused, otherwise
-/// `BadWords`.
-pub fn words_error(fault: &io::Error) -> ProgramError<'static>
-    ensures memory { error_kind fault.now ≡ ErrorKind.OutOfMemory → result ≡ Memory }
-    ensures words { (error_kind fault.now ≡ ErrorKind.OutOfMemory → ⊥) → result ≡ BadWords }
-    ensures either { (result ≡ Memory) ⊎ (result ≡ BadWords) }
-{
-    match fault.kind() {
-        ErrorKind::OutOfMemory => ProgramError::Memory,
-        _ => ProgramError::BadWords,
-    }
+    memory_or(fault, ProgramError::CannotRead(name, fault.kind()))
 }
 
 impl ProgramError<'_> {
-    /// Says why a file can't be read or written, or what takes more and larger files; empty if
-    /// nothing is known of it.
+    /// Says why a file can't be read or written; empty if nothing is known of it.
     pub fn cause(&self) -> &'static str
         ensures { result.now ≡ error_cause self.now }
     {
@@ -106,7 +107,6 @@ impl ProgramError<'_> {
             ProgramError::CannotRead(_, kind) | ProgramError::CannotWrite(_, kind) => {
                 cause_text(*kind)
             }
-            ProgramError::BadInput(_) => "ffosolve-many takes longer lists",
             _ => "",
         }
     }

@@ -1,12 +1,11 @@
 //! The streams of a program, and what clap returns in place of options, printed.
 
-ghost use Rattle.std.specs.Prelude.{◌≡◌, ◌≢◌, ◌⊎◌, ◌↔◌, IfErr, IfSome, IsOk};
-ghost use Rattle.std.specs.IoError.{error_kind};
-ghost use Rattle.std.specs.declared.io.ErrorKind.{ErrorKind as IoKind};
+ghost use Rattle.std.specs.Prelude.{◌≡◌, ◌≢◌, ◌⊎◌, ◌↔◌, IfSome, IsErr, IsOk};
 ghost use Rattle.std.specs.Io.KnownBytes.{Appends};
 ghost use Rattle.clap.specs.Words.{kind_of};
 ghost use Rattle.program_parts.specs.CommandLine.{IsTextKind};
-ghost use Rattle.program_parts.specs.ProgramError.{ShowsOutputError};
+ghost use Rattle.program_parts.specs.ProgramError.{error_text};
+ghost use Rattle.program_parts.specs.declared.program_error.ProgramError.TheVariants.{CannotWriteOutput};
 
 use crate::program_error::ProgramError;
 use clap::error::ErrorKind;
@@ -42,14 +41,13 @@ fn write_help<W: Write>(output: &mut W, help: &clap::Error) -> io::Result<()> {
 fn end_help<E: ErrorStream>(program: &str, written: io::Result<()>, errors: &mut E) -> u8
     ensures written { IsOk written
         → (result ≡ 0) × (E.contents errors.new ≡ E.contents errors.old) }
-    ensures failed { IfErr written (λ fault. (result ≡ 3) × ShowsOutputError
-        program.now (error_kind fault) (E.contents errors.old) (E.contents errors.new)) }
+    ensures failed { IsErr written → (result ≡ 3) × Appends
+        (E.contents errors.old) (E.contents errors.new) (error_text program.now CannotWriteOutput) }
 {
     match written {
         Ok(()) => 0,
-        Err(fault) => {
-            let error = ProgramError::CannotWrite("standard output", fault.kind());
-            error.print(program, errors);
+        Err(_) => {
+            ProgramError::CannotWriteOutput.print(program, errors);
             3
         }
     }
@@ -69,8 +67,8 @@ pub fn end_without_options<W: Write, E: ErrorStream>(
     ensures helped { (result ≢ 2) ↔ IsTextKind (kind_of error.now) }
     ensures unwritten { result ≡ 2 → W.contents output.new ≡ W.contents output.old }
     ensures quiet { result ≡ 0 → E.contents errors.new ≡ E.contents errors.old }
-    ensures failed { result ≡ 3 → (kind : IoKind) × ShowsOutputError
-        program.now kind (E.contents errors.old) (E.contents errors.new) }
+    ensures failed { result ≡ 3 → Appends
+        (E.contents errors.old) (E.contents errors.new) (error_text program.now CannotWriteOutput) }
 {
     match error.kind() {
         ErrorKind::DisplayHelp | ErrorKind::DisplayVersion => {

@@ -1,23 +1,22 @@
 -- How a call of `ffosolve` ended.
 use Rattle.std.proofs.Common.{◌≡◌, ◌⊎◌, ℕ, List, Option, sym, subst, ◌∙◌, arith, inl, inr, refl}
-use Rattle.std.specs.Prelude.{Result, Ok, Err, IfErr, IfSome, OnOk, Some, None, codes}
+use Rattle.std.specs.Prelude.{Result, Ok, Err, IfErr, IfSome, IsSome, OnOk, Some, None, codes, false}
 use Rattle.program_settings.specs.Settings.{SettingsView}
 use Rattle.suite_runs.specs.Runs.{AreFilesOf}
 use Rattle.suite_runs.specs.declared.solved_files.SolvedFiles.{SolvedFiles}
 use Rattle.book_files.specs.BookPlace.{IsBookTextOf}
 use Rattle.book_files.specs.declared.new_file.NewFile.{NewFile}
 use Rattle.std.specs.Io.KnownBytes.{Appends}
-use Rattle.std.specs.declared.io.ErrorKind.{ErrorKind}
 use Rattle.program_parts.proofs.EndingLemmas.{not_one}
 use Rattle.program_parts.specs.CommandLine.{IsFaultless}
-use Rattle.program_parts.specs.ProgramError.{IsOutputError, ShowsOutputError, error_text}
-use Rattle.program_parts.specs.declared.program_error.ProgramError.{ProgramError}
-use Rattle.program_parts.specs.declared.program_error.ProgramError.TheVariants.{Memory, BadInput, BadWords, CannotRead, CannotWrite}
+use Rattle.program_parts.specs.ProgramError.{error_reason, error_text}
+use Rattle.program_parts.specs.declared.program_error.ProgramError.TheVariants.{Memory, BadInput, BadWords, CannotReadInput, CannotWriteOutput}
+use Rattle.program_parts.specs.declared.program_error.ProgramError.TheVariants.{CannotRead, CannotWrite}
 use Rattle.suite_solver.specs.Options.{Asks, Request, ffosolve}
-use Rattle.suite_solver.specs.Programs.{AsksNoProgress, EndsEarly, ShowsEnding, ShowsError}
+use Rattle.suite_solver.specs.Programs.{EndsEarly, NamesFileOf, NamesFileOfWords, ShowsEnding}
 use Rattle.book_files.specs.SolveError.{IsSilent, solve_error_reason, solve_error_text, solve_status_of}
 use Rattle.book_files.specs.declared.solve_error.SolveError.{SolveError}
-use Rattle.book_files.specs.declared.solve_error.SolveError.TheVariants.{Program}
+use Rattle.book_files.specs.declared.solve_error.SolveError.TheVariants.{Program, Mixed, BadBook, BookOnDevice, BadPlace, OverwritesFile, OverwritesBookIn}
 
 -- the book made ready is that of the files
 pub book_of_files : (o : Option NewFile) (s : SettingsView) (texts : List (List ℕ)) (files : SolvedFiles) → AreFilesOf s texts files
@@ -48,54 +47,66 @@ asked_faultless words r a = record { names = a.names; named = a.named; faultless
 
 -- ---- what standard error gets
 
-output_status : (kind : ErrorKind) (error : ProgramError) → IsOutputError kind error → solve_status_of (Program error) ≡ 3
-output_status kind (CannotWrite name _) is = refl
-output_status kind Memory is = absurd is
-output_status kind (BadInput fault) is = absurd is
-output_status kind BadWords is = absurd is
-output_status kind (CannotRead name _) is = absurd is
-
-output_text : (error : ProgramError) → error_text (codes "ffosolve") error ≡ solve_error_text (Program error)
-unfolding error_text solve_error_text solve_error_reason
-output_text error = refl
-
--- an error of standard output does not come before anything is printed
-output_late : (kind : ErrorKind) (error : ProgramError) → IsOutputError kind error → IsSilent (Program error) → ⊥
-output_late kind (CannotWrite name _) is s = s
-output_late kind Memory is s = is
-output_late kind (BadInput fault) is s = is
-output_late kind BadWords is s = is
-output_late kind (CannotRead name _) is s = is
-
--- help or a refusal ends with 3 only where standard output fails
-pub late_options : (words : List (List ℕ)) (old new given made : Option (List ℕ)) (s : ℕ)
-    → (s ≡ 3 → (kind : ErrorKind) × ShowsOutputError (codes "ffosolve") kind old new) → s ≡ 3 → EndsEarly words old new given made
-late_options words old new given made s failed three =
-    let f = failed three in
-    record {
-      error = Program f.1.error;
-      ended = output_status f.0 f.1.error f.1.of_output;
-      named = inr (f.0, f.1.error, (f.1.of_output, refl));
-      shown = subst (Appends old new) (output_text f.1.error) f.1.shown;
-      unwritten = λ silent. absurd (output_late f.0 f.1.error f.1.of_output silent);
+-- help or a refusal, or standard output that fails meanwhile
+pub without_options : (words : List (List ℕ)) (Seen : Type 0) (old new given made : Option (List ℕ)) (s : ℕ) → (s ≡ 0) ⊎ ((s ≡ 2) ⊎ (s ≡ 3))
+    → (Seen → IsSome old) → (s ≡ 0 → new ≡ old) → (s ≡ 3 → Appends old new (error_text (codes "ffosolve") CannotWriteOutput))
+    → ShowsEnding words Seen old new given made s
+unfolding error_text solve_error_text solve_error_reason error_reason
+without_options words Seen old new given made s is seen quiet failed = record { quiet = λ none. quiet; failed = by }
+  where
+    by : (s ≡ 1) ⊎ (s ≡ 3) → EndsEarly words Seen old new given made s
+    by (inl one) = not_one s (EndsEarly words Seen old new given made s) is one
+    by (inr three) = record {
+      error = Program CannotWriteOutput;
+      ended = sym three;
+      named = tt;
+      held = old;
+      quiet = λ none. refl;
+      seen = seen;
+      shown = failed three;
+      unwritten = λ silent. absurd silent;
     }
 
--- what is said of words is said of the same words
-pub late_words : (old new given made : Option (List ℕ)) (words same : List (List ℕ)) (s : ℕ) → words ≡ same
-    → (AsksNoProgress words → s ≡ 3 → EndsEarly words old new given made) → AsksNoProgress same → s ≡ 3 → EndsEarly same old new given made
-late_words old new given made words same s e h = subst (λ w. AsksNoProgress w → s ≡ 3 → EndsEarly w old new given made) e h
+-- the file that an error names is one of the words, if it is one of the request that they ask for
+named_words : (words : List (List ℕ)) (r : Request) (error : SolveError) → Asks words r → NamesFileOf r error → NamesFileOfWords words error
+named_words words r (Program Memory) asks names = tt
+named_words words r (Program CannotWriteOutput) asks names = tt
+named_words words r (Program (BadInput fault)) asks names = (r, (asks, names))
+named_words words r (Program BadWords) asks names = (r, (asks, names))
+named_words words r (Program CannotReadInput) asks names = (r, (asks, names))
+named_words words r (Program (CannotRead name kind)) asks names = (r, (asks, names))
+named_words words r (Program (CannotWrite name kind)) asks names = (r, (asks, names))
+named_words words r Mixed asks names = (r, (asks, names))
+named_words words r (BadBook fault) asks names = (r, (asks, names))
+named_words words r (BookOnDevice name) asks names = (r, (asks, names))
+named_words words r (BadPlace name kind) asks names = (r, (asks, names))
+named_words words r (OverwritesFile name) asks names = (r, (asks, names))
+named_words words r (OverwritesBookIn name) asks names = (r, (asks, names))
 
--- help or a refusal, or standard output that fails meanwhile
-pub without_options : (old new : Option (List ℕ)) (s : ℕ) → (s ≡ 0) ⊎ ((s ≡ 2) ⊎ (s ≡ 3)) → (s ≡ 0 → new ≡ old)
-    → (s ≡ 3 → (kind : ErrorKind) × ShowsOutputError (codes "ffosolve") kind old new) → ShowsEnding old new s
-without_options old new s is quiet failed = record { quiet = quiet; failed = by }
-  where
-    by : (s ≡ 1) ⊎ (s ≡ 3) → ShowsError old new s
-    by (inl one) = not_one s (ShowsError old new s) is one
-    by (inr three) =
-        let f = failed three in
-        record {
-          error = Program f.1.error;
-          ended = output_status f.0 f.1.error f.1.of_output ∙ sym three;
-          shown = subst (Appends old new) (output_text f.1.error) f.1.shown;
-        }
+not_zero : (n s : ℕ) → (n ≡ 1) ⊎ (n ≡ 3) → n ≡ s → s ≡ 0 → ⊥
+not_zero n s (inl one) e zero = omega (arith, one, e, zero)
+not_zero n s (inr three) e zero = omega (arith, three, e, zero)
+
+-- an error of the run, which came when standard error held `held`
+pub by_error : (words : List (List ℕ)) (Seen : Type 0) (old held new given made : Option (List ℕ)) (s : ℕ) (r : Request) (error : SolveError)
+    → Asks words r → NamesFileOf r error → solve_status_of error ≡ s → (r.progress ≡ false → held ≡ old) → (Seen → IsSome held)
+    → Appends held new (solve_error_text error) → (IsSilent error → made ≡ given) → (solve_status_of error ≡ 1) ⊎ (solve_status_of error ≡ 3)
+    → ShowsEnding words Seen old new given made s
+by_error words Seen old held new given made s r error asks names ended quiet seen shown unwritten status = record {
+  quiet = λ none zero. absurd (not_zero _ s status ended zero);
+  failed = λ is. record {
+    error = error;
+    ended = ended;
+    named = named_words words r error asks names;
+    held = held;
+    quiet = λ none. quiet (none r asks);
+    seen = seen;
+    shown = shown;
+    unwritten = unwritten;
+  };
+}
+
+-- what is said of words is said of the same words
+pub ending_words : (words same : List (List ℕ)) (Seen : Type 0) (old new given made : Option (List ℕ)) (s : ℕ) → words ≡ same
+    → ShowsEnding words Seen old new given made s → ShowsEnding same Seen old new given made s
+ending_words words same Seen old new given made s e h = subst (λ w. ShowsEnding w Seen old new given made s) e h

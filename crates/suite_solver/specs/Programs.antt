@@ -1,5 +1,5 @@
 -- The reports of `ffosolve`, and its exit statuses.
-use Rattle.std.specs.Prelude.{◌≡◌, ◌⊎◌, ℕ, ◌≤◌, false, List, length, codes, Option, Some, None}
+use Rattle.std.specs.Prelude.{◌≡◌, ◌⊎◌, ℕ, ◌≤◌, false, List, length, Option, Some, None, IsSome}
 use Rattle.std.specs.Io.KnownBytes.{Appends}
 use Rattle.std.specs.List.{concat}
 use Rattle.program_parts.specs.Endings.{EndsProgram}
@@ -12,10 +12,8 @@ use Rattle.program_settings.specs.Limits.{most_files}
 use Rattle.book_files.specs.SolveError.{IsSilent, solve_error_text, solve_status_of}
 use Rattle.book_files.specs.declared.solve_error.SolveError.{SolveError}
 use Rattle.book_files.specs.declared.solve_error.SolveError.TheVariants.{Program, BookOnDevice, BadPlace, OverwritesFile, OverwritesBookIn}
-use Rattle.program_parts.specs.ProgramError.{IsInputError, IsOutputError}
-use Rattle.program_parts.specs.declared.program_error.ProgramError.{ProgramError}
-use Rattle.program_parts.specs.declared.program_error.ProgramError.TheVariants.{CannotRead, CannotWrite}
-use Rattle.std.specs.declared.io.ErrorKind.{ErrorKind}
+use Rattle.program_parts.specs.ProgramError.{IsInputError}
+use Rattle.program_parts.specs.declared.program_error.ProgramError.TheVariants.{Memory, CannotReadInput, CannotWriteOutput, CannotRead, CannotWrite}
 
 -- A run refuses none of the texts, and their reports were written one after the other to standard
 -- output, which held `old` before and holds `new` now.
@@ -50,47 +48,52 @@ pub record EndsFfosolve (words : List (List ℕ)) (given old new : Option (List 
 abbrev pub AsksNoProgress : List (List ℕ) → Type 0
 AsksNoProgress words = (r : Request) → Asks words r → r.progress ≡ false
 
--- An error with this status ended the call: standard error, which held `old` before and holds `new`
--- now, has the lines of the error, and nothing else is new.
+-- An error with this status ended a call before it had words: standard error, which held `old` before
+-- and holds `new` now, has the lines of the error, and nothing else is new.
 pub record ShowsError (old new : Option (List ℕ)) (status : ℕ) : Type 0 where
   pub error : SolveError
   pub ended : solve_status_of error ≡ status
   pub shown : Appends old new (solve_error_text error)
 
--- a file that the error names is one of the request: the book that is read or written, a list, or,
--- without lists, standard input; and standard output, if that can't be written
+-- a file that the error names is one of the request: the book that is read or written, or a list;
+-- and standard input is read only without lists
 abbrev pub NamesFileOf : Request → SolveError → Type 0
 NamesFileOf r (Program (CannotRead name kind)) =
     (r.book_in ≡ Some name.now)
     ⊎ ((r.book_out ≡ Some name.now) ⊎ (IsInputError r.files (CannotRead name kind)))
-NamesFileOf r (Program (CannotWrite name kind)) =
-    (r.book_out ≡ Some name.now) ⊎ (name.now ≡ codes "standard output")
+NamesFileOf r (Program CannotReadInput) = IsInputError r.files CannotReadInput
+NamesFileOf r (Program (CannotWrite name kind)) = r.book_out ≡ Some name.now
 NamesFileOf r (BookOnDevice name) = r.book_in ≡ Some name.now
 NamesFileOf r (BadPlace name kind) = r.book_out ≡ Some name.now
 NamesFileOf r (OverwritesFile name) = r.book_out ≡ Some name.now
 NamesFileOf r (OverwritesBookIn name) = r.book_out ≡ Some name.now
 NamesFileOf r _ = Unit {0}
 
--- the error names no file but one of a request that the words ask for; without a request, it is
--- that standard output can't be written
+-- the error is out of memory or that of standard output, or the words ask for a request, and a file
+-- that the error names is one of it
 abbrev pub NamesFileOfWords : List (List ℕ) → SolveError → Type 0
-NamesFileOfWords words error =
-    ((r : Request) × (Asks words r × NamesFileOf r error))
-    ⊎ ((kind : ErrorKind) × (output : ProgramError)
-    × (IsOutputError kind output × (error ≡ Program output)))
+NamesFileOfWords words (Program Memory) = Unit {0}
+NamesFileOfWords words (Program CannotWriteOutput) = Unit {0}
+NamesFileOfWords words error = (r : Request) × (Asks words r × NamesFileOf r error)
 
--- A call for these words ended with 3: standard error, which held `old` before and holds `new` now,
--- has the lines of an error of that status. Unless the error is that of writing, standard output is
--- as it was.
-pub record EndsEarly (words : List (List ℕ)) (old new given made : Option (List ℕ)) : Type 0 where
+-- An error with this status ended a call for these words. Standard error held `held` when the error
+-- came, the same as before the call unless progress was reported, and then got the lines of the
+-- error: it holds `new` now. With `Seen` its bytes are known throughout. Unless the error is one of
+-- writing, standard output is as it was.
+pub record EndsEarly (words : List (List ℕ)) (Seen : Type 0)
+    (old new given made : Option (List ℕ)) (status : ℕ) : Type 0 where
   pub error : SolveError
-  pub ended : solve_status_of error ≡ 3
+  pub ended : solve_status_of error ≡ status
   pub named : NamesFileOfWords words error
-  pub shown : Appends old new (solve_error_text error)
+  pub held : Option (List ℕ)
+  pub quiet : AsksNoProgress words → held ≡ old
+  pub seen : Seen → IsSome held
+  pub shown : Appends held new (solve_error_text error)
   pub unwritten : IsSilent error → made ≡ given
 
--- What standard error got from a call that reported no progress, by its status: nothing with 0, and
--- the lines of an error with this status with 1 or 3.
-pub record ShowsEnding (old new : Option (List ℕ)) (status : ℕ) : Type 0 where
-  pub quiet : status ≡ 0 → new ≡ old
-  pub failed : (status ≡ 1) ⊎ (status ≡ 3) → ShowsError old new status
+-- What standard error got from a call for these words, by its status: nothing with 0, unless
+-- progress was reported, and the lines of an error with this status with 1 or 3.
+pub record ShowsEnding (words : List (List ℕ)) (Seen : Type 0)
+    (old new given made : Option (List ℕ)) (status : ℕ) : Type 0 where
+  pub quiet : AsksNoProgress words → status ≡ 0 → new ≡ old
+  pub failed : (status ≡ 1) ⊎ (status ≡ 3) → EndsEarly words Seen old new given made status

@@ -1,17 +1,17 @@
 //! The exit status of `ffosolve`.
 
-ghost use Rattle.std.specs.Prelude.{◌≡◌, IfErr, IfOk, IsErr};
+ghost use Rattle.std.specs.Prelude.{◌≡◌, IfErr, IfOk, IsErr, IsSome};
 ghost use Rattle.std.specs.IoError.{error_kind};
 ghost use Rattle.std.specs.Process.{exit_status};
 ghost use Rattle.program_parts.specs.Inputs.{names_of};
 ghost use Rattle.program_parts.specs.Endings.{EndsUnread};
 ghost use Rattle.std.specs.Io.KnownBytes.{Appends};
 ghost use Rattle.book_files.specs.SolveError.{solve_error_text, solve_status_of};
-ghost use Rattle.suite_solver.specs.Programs.{AsksNoProgress, EndsEarly, EndsFfosolve, ShowsEnding, ShowsError};
+ghost use Rattle.suite_solver.specs.Programs.{EndsFfosolve, ShowsEnding, ShowsError};
 
 use crate::ffosolve::program;
 use book_files::SolveError;
-use program_parts::{ErrorStream, ProgramError, borrow_words, words_error};
+use program_parts::{ErrorStream, ProgramError, borrow_words, memory_or};
 use std::alloc::Global;
 use std::io;
 use std::io::{Eprint, ErrorKind, Read, Write};
@@ -44,7 +44,12 @@ fn error_status(error: &SolveError<'_>) -> u8
         SolveError::Program(ProgramError::Memory | ProgramError::BadInput(_)) | SolveError::Mixed =>
             1,
         SolveError::Program(ProgramError::BadWords) => 2,
-        SolveError::Program(ProgramError::CannotRead(_, _) | ProgramError::CannotWrite(_, _))
+        SolveError::Program(
+            ProgramError::CannotReadInput
+            | ProgramError::CannotWriteOutput
+            | ProgramError::CannotRead(_, _)
+            | ProgramError::CannotWrite(_, _),
+        )
         | SolveError::BadBook(_)
         | SolveError::BookOnDevice(_)
         | SolveError::BadPlace(_, _)
@@ -76,12 +81,9 @@ pub fn program_of<T: Files + Clock + Threads + Wait + Sync, R: Read, W: Write, E
 ) -> ExitStatus
     ensures read { IfOk words (λ all. EndsFfosolve (names_of all.items)
         (R.remaining input.old) (W.contents output.old) (W.contents output.new) result.status) }
-    ensures shown { IfOk words (λ all. AsksNoProgress (names_of all.items)
-        → ShowsEnding (E.contents errors.old) (E.contents errors.new) result.status) }
-    ensures late { IfOk words (λ all. AsksNoProgress (names_of all.items)
-        → result.status ≡ 3 → EndsEarly (names_of all.items)
-        (E.contents errors.old) (E.contents errors.new)
-        (W.contents output.old) (W.contents output.new)) }
+    ensures shown { IfOk words (λ all. ShowsEnding (names_of all.items)
+        ((stream : E) → IsSome (E.contents stream)) (E.contents errors.old) (E.contents errors.new)
+        (W.contents output.old) (W.contents output.new) result.status) }
     ensures unread { IsErr words
         → EndsUnread 1 (W.contents output.old) (W.contents output.new) result.status }
     ensures unread_shown { IsErr words
@@ -94,7 +96,7 @@ pub fn program_of<T: Files + Clock + Threads + Wait + Sync, R: Read, W: Write, E
     let words = match words {
         Ok(words) => words,
         Err(fault) => {
-            let error = SolveError::Program(words_error(&fault));
+            let error = SolveError::Program(memory_or(&fault, ProgramError::BadWords));
             return ExitStatus {
                 status: print_error(&error, errors),
             };

@@ -1,6 +1,6 @@
 //! The program `ffosolve`.
 
-ghost use Rattle.std.specs.Prelude.{◌≡◌, ◌⊎◌, ◌↔◌, map, option_map, string_bytes, false, None, Some, OnOk, IfOk, IfErr, IfSome, IsErr, IsErrOf};
+ghost use Rattle.std.specs.Prelude.{◌≡◌, ◌⊎◌, ◌↔◌, map, option_map, string_bytes, false, None, Some, OnOk, IfOk, IfErr, IfSome, IsErrOf, IsSome};
 ghost use Rattle.std.specs.List.{concat};
 ghost use Rattle.std.specs.Io.KnownBytes.{Appends};
 ghost use Rattle.program_parts.specs.Inputs.{names_of};
@@ -10,7 +10,7 @@ ghost use Rattle.suite_runs.specs.Runs.{AreFilesOf};
 ghost use Rattle.book_files.specs.SolveError.{IsSilent, solve_status_of};
 ghost use Rattle.program_parts.specs.declared.program_error.ProgramError.TheVariants.{BadInput};
 ghost use Rattle.book_files.specs.declared.solve_error.SolveError.TheVariants.{Program};
-ghost use Rattle.suite_solver.specs.Programs.{AsksNoProgress, EndsEarly, EndsFfosolve, NamesFileOf, PrintsReportsOf, PrintsReports, ShowsEnding};
+ghost use Rattle.suite_solver.specs.Programs.{EndsFfosolve, NamesFileOf, PrintsReportsOf, PrintsReports, ShowsEnding};
 ghost use Rattle.suite_solver.specs.Options.{request_of};
 ghost use Rattle.obf_text.specs.LineText.{texts_of};
 ghost use Rattle.program_settings.specs.InputFault.{refusal_of};
@@ -88,16 +88,13 @@ fn solve_and_print<'a, T: Files + Clock + Threads + Wait + Sync, W: Write, E: Wr
     let reports = solved.reports(alloc)?;
     match write_reports(output, &reports) {
         Ok(()) => Ok(book),
-        Err(fault) => {
-            let error = ProgramError::CannotWrite("standard output", fault.kind());
-            Err(SolveError::Program(error))
-        }
+        Err(_) => Err(SolveError::Program(ProgramError::CannotWriteOutput)),
     }
 }
 
 // The place of the book that is to be written. Files that are too many or too large are refused
-// first, and then a place where the book can't be put or would destroy what is there. `run` checks
-// the files again, since its callers may pass any.
+// first, and then a place where the book can't be put or would destroy what is there. `solve_files`
+// checks the files again, since its callers may pass any.
 fn place_of_run<'a, T: Files>(
     rt: &T,
     alloc: Global,
@@ -183,11 +180,9 @@ pub fn program<T: Files + Clock + Threads + Wait + Sync, R: Read, W: Write, E: E
 ) -> u8
     ensures ends { EndsFfosolve (map (λ word. word.now) words.now)
         (R.remaining input.old) (W.contents output.old) (W.contents output.new) result }
-    ensures shown { AsksNoProgress (map (λ word. word.now) words.now)
-        → ShowsEnding (E.contents errors.old) (E.contents errors.new) result }
-    ensures late { AsksNoProgress (map (λ word. word.now) words.now) → result ≡ 3
-        → EndsEarly (map (λ word. word.now) words.now) (E.contents errors.old) (E.contents errors.new)
-        (W.contents output.old) (W.contents output.new) }
+    ensures shown { ShowsEnding (map (λ word. word.now) words.now)
+        ((stream : E) → IsSome (E.contents stream)) (E.contents errors.old) (E.contents errors.new)
+        (W.contents output.old) (W.contents output.new) result }
 {
     match read_options(alloc, words) {
         Ok(asked) => match carry_out(rt, alloc, &asked, input, output, errors) {

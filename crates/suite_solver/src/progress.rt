@@ -170,9 +170,9 @@ impl<C: Clock + Sync, E: Write + Send> Gate for ProgressGate<'_, C, E> {
     }
 }
 
-/// Solves files on threads, as `solve_files` does. With `progress`, lines on `errors` report the
-/// number of solved positions: at most one every five seconds, and one at the end.
-pub fn solve_with_progress<T: Clock + Threads + Wait + Sync, E: Write + Send>(
+// Solves files on threads, as `solve_files` does. With `progress`, lines on `errors` report the
+// number of solved positions: at most one every five seconds, and one at the end.
+pub(crate) fn solve_with_progress<T: Clock + Threads + Wait + Sync, E: Write + Send>(
     rt: &T,
     alloc: Global,
     files: &[Vec<u8>],

@@ -158,7 +158,7 @@ def check_book_out(program: Path, name: str, source: Name, *options: str) -> Non
             raise misused(f"--book-out {shown(name)} is {what}: name another file")
     with open("/dev/full", "wb") as full:  # so that the program tests the file, and writes nothing
         _, _, errors = try_run(program, *options, f"--book-out={name}", os.devnull, to=full.fileno())
-    if errors != "cannot write standard output: no space left":
+    if errors != "cannot write standard output":
         raise Refusal(errors.replace(os.fsencode(name).decode(errors="replace"), shown(name)))
 
 

@@ -1,6 +1,7 @@
-use Rattle.std.proofs.Common.{rules}
+use Rattle.std.proofs.Common.{rules, sym}
 use Rattle.program_parts.proofs.EndingLemmas.{in_range_of, not_one}
-use Rattle.suite_solver.proofs.ProgramLemmas.{late_options, without_options}
+use Rattle.suite_solver.proofs.ProgramLemmas.{by_error, without_options}
+use Rattle.suite_solver.specs.Options.{request_of}
 use Rattle.suite_solver.proofs.ffosolve.program.Goals as goal
 
 pub returns-clause-ends : goal.returns-clause-ends
@@ -15,10 +16,13 @@ returns-clause-ends g c = record {
   unwritten = search (rules, not_one);
 }
 
-pub returns-clause-late : goal.returns-clause-late
-returns-clause-late g c =
-    let ended = c.end_without_options.ensures in λ none. late_options _ _ _ _ _ _ ended.failed
-
 pub returns-clause-shown : goal.returns-clause-shown
 returns-clause-shown g c =
-    let ended = c.end_without_options.ensures in λ none. without_options _ _ _ ended.status ended.quiet ended.failed
+    let ended = c.end_without_options.ensures in
+    without_options _ _ _ _ _ _ _ ended.status (λ seen. seen c.args.errors.now) ended.quiet ended.failed
+
+pub returns-in-Ok-clause-shown : goal.returns-in-Ok-clause-shown
+returns-in-Ok-clause-shown g c =
+    let run = c.in-Err.ensures in
+    by_error _ _ _ (g.E.Write.contents c.carry_out.new.errors) _ _ _ _ (request_of c.in-Ok.asked) c.in-Err.error c.in-Ok.ensures.asked run.error
+    (sym c.print_error.ensures.status) run.quiet (λ seen. seen c.carry_out.new.errors) c.print_error.ensures.shown run.silent run.status

@@ -1,5 +1,5 @@
 use Rattle.std.proofs.Common.{rules}
-use Rattle.program_parts.proofs.program_error.read_error.Goals as goal
+use Rattle.program_parts.proofs.program_error.memory_or.Goals as goal
 
 pub returns-in_default : goal.returns-in_default
 returns-in_default c = search rules
