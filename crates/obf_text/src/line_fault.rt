@@ -47,7 +47,7 @@ impl From<AllocError> for LineFault {
     }
 }
 
-/// Why a position is not solved: the number of its empty squares, and the limit, which is below it.
+/// Why a position is not solved: the number of its empty squares, and a limit below it.
 /// Reports and lists print the text as their reason.
 #[derive(Clone, Copy, PartialEq, Eq, Debug, Drop)]
 pub struct ManyEmpties {
