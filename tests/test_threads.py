@@ -1,4 +1,5 @@
 """Threads of the programs: how many run, that the output is the same for any number, and that they end."""
+import itertools
 import os
 import random
 import signal
@@ -47,6 +48,20 @@ def test_64_files_with_64_workers_always_have_the_same_report():
     assert solve(*words, preexec_fn=refuse_threads) == (wanted, 0)
     for _ in range(100):
         assert solve(*words)[0] == wanted
+
+
+CASES = [*itertools.product(("winner", "discs", "sign"), (0, 16, 65_536))]
+
+
+@pytest.mark.parametrize("case", range(len(CASES)))
+def test_threads_that_share_a_position_give_the_report_and_book_of_one_thread(case):
+    scoring, entries = CASES[case]
+    words = ("--scoring", scoring, "--table", entries, "--workers")
+    for line in positions(200, 14, 18).splitlines(True)[case::len(CASES)]:
+        wanted, _ = solve(*words, 0, input=line)
+        assert wanted[0].endswith(b"solved 1 refused 0\n")
+        for workers in (1, 3, 7):
+            assert solve(*words, workers, input=line)[0] == wanted
 
 
 def shuffled(seed):
@@ -129,15 +144,26 @@ def lines(empties, count=8):
     pytest.param(b"".join(b" \t" * 32 + line for line in lines(12).splitlines(True)), 8, id="blanks don't count"),
     pytest.param(b"".join(b" %% %b\n" % (b"-" * 16) for _ in range(8)), 0, id="nor do comments"),
     pytest.param(HOURS * 8, 0, id="nor lines that are refused"),
+    pytest.param(lines(16, 1), 1, id="one thread scores a line of 16"),
+    pytest.param(HARD, 8, id="eight threads share a line of 17"),
+    pytest.param(lines(12) + HARD, 16, id="once the lines before have their threads"),
 ])
 def test_seven_workers_score_a_list(folder, text, threads):
     ran = run(built("ffoscores"), "--workers", 7, input=text, env=preload(folder, COUNTED="yes"))
     assert (ran.stdout.count(b"\n"), ran.stderr) == (text.count(b"\n"), b"thread " * threads)
 
 
-def test_hundreds_of_lines_behind_one_that_takes_hours_are_scored_meanwhile(folder, start):
+@pytest.mark.parametrize(("entries", "threads"), [(0, 1), (4095, 1), (4096, 4)])
+def test_a_line_is_shared_over_a_table_of_4096_entries(folder, entries, threads):
+    ran = run(built("ffoscores"), "--workers", 3, "--table", entries, input=HARD, env=preload(folder, COUNTED="yes"))
+    assert (ran.stdout[:67], ran.stderr) == (HARD[:66] + b";", b"thread " * threads)
+
+
+def test_hundreds_of_lines_behind_one_that_takes_hours_are_scored_before_more_threads_share_it(folder, start):
     write("list.obf", HOURS + lines(12, 25) * 20)
     with open("threads", "wb") as to:
         words = built("ffoscores"), "--max-empties", 60, "--workers", 3, "list.obf"
         start(*words, stderr=to, env=preload(folder, COUNTED="yes"))
-    wait_until(lambda: (folder / "threads").read_text().count("thread ") == 501)
+    wait_until(lambda: (folder / "threads").read_text().count("thread ") == 504)
+    time.sleep(1)  # in which one thread too many could start
+    assert (folder / "threads").read_text().count("thread ") == 504
