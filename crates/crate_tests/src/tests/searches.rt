@@ -4,6 +4,7 @@ mod claims;
 mod counts;
 mod orders;
 mod probes;
+mod shared;
 
 ghost use Rattle.std.specs.Prelude.{◌≡◌};
 ghost use Rattle.othello_rules.specs.declared.scoring.Scoring.TheVariants.{Winner};

@@ -21,28 +21,21 @@ use suite_runs::worker::Worker;
 use suite_solver::laws::client_part;
 use suite_solver::{Gate, NoGate};
 
-// Lines of positions with 18 empty squares, and their scores. The same search in plain Rust gives them.
-const HARD: (&[u8], i8) = (
-    b"---OOO-O-OOOOOO--OOOXO--OXOXXXOOXXOXXOOOXXOXOXX-XXOO-OO---O--O-- X\n",
-    26,
-);
+// A line of a position with 18 empty squares, and its score. The same search in plain Rust gives it.
+const EIGHTEEN: &[u8] = b"-OXX-X---XX--XX-OXXO-X-O-XXXOXOOXOOXXXO-O-OOOOXO-XOOOXX-X-OO-OX- X\n";
 
-const EASY: (&[u8], i8) = (
-    b"-OXX-X---XX--XX-OXXO-X-O-XXXOXOOXOOXXXO-O-OOOOXO-XOOOXX-X-OO-OX- X\n",
-    14,
-);
+const SCORE: i8 = 14;
 
 // Lines of positions with 16 and 15 empty squares.
 const SIXTEEN: &[u8] = b"X---OO--XXXXOO--XXXXOO-X--XXOOX--XXOOXXOXXOXOXOOXOOOOXXO---OOO-X X\n";
 
 const FIFTEEN: &[u8] = b"XOOOO---XOOO----XOOOO--XXOOXO-X-XXXXXXO-OXOOXOO-OXXXOOOOOX-XXXX- O\n";
 
-// A table that counts stores and evaluations, how often a thread asked whether another one searches a
-// position and one did, and how often a thread came to the desk: each time it asks whether to help.
+// A table that counts evaluations, how often a thread asked whether another one searches a position and
+// one did, and how often a thread came to the desk: each time it asks whether to help.
 #[derive(Drop)]
 struct Counter {
     table: BoundTable,
-    stores: AtomicU32,
     evaluations: AtomicU32,
     begun: AtomicU32,
     visits: AtomicU32,
@@ -60,7 +53,6 @@ impl Bounds for Counter {
     }
 
     fn store(&self, position: &Pos, range: Range) {
-        self.stores.fetch_add(1, Ordering::SeqCst);
         self.table.store(position, range);
     }
 
@@ -135,7 +127,6 @@ struct Scene<'a> {
 #[derive(Clone, Copy, PartialEq, Eq, Debug)]
 struct Counts {
     score: Option<i8>,
-    stores: u32,
     evaluations: u32,
     begun: u32,
     visits: u32,
@@ -200,7 +191,6 @@ fn count<R: Threads + Wait + Clock + Sync>(
         desk: Desk::new(alloc, 1)?,
         counter: Counter {
             table: BoundTable::new(alloc, entries, Scoring::Winner)?,
-            stores: AtomicU32::new(0),
             evaluations: AtomicU32::new(0),
             begun: AtomicU32::new(0),
             visits: AtomicU32::new(0),
@@ -219,23 +209,21 @@ fn count<R: Threads + Wait + Clock + Sync>(
     let counter = &scene.counter;
     Ok(Counts {
         score: scores.first().copied().flatten(),
-        stores: counter.stores.load(Ordering::SeqCst),
         evaluations: counter.evaluations.load(Ordering::SeqCst),
         begun: counter.begun.load(Ordering::SeqCst),
         visits: counter.visits.load(Ordering::SeqCst),
     })
 }
 
-// Sixteen threads leave positions to one another, and together search at most twice as many as one. What
-// they search they store, if at least 10 squares are empty.
+// A client and three workers leave positions to one another, and together make at most twice the
+// evaluations of one thread.
 #[test]
 fn threads_share_a_position(rt: HostRuntime) -> Result<(), Fail> {
-    let (text, score) = HARD;
-    let alone = count(&rt, rt.alloc(), text, 65_536, 1, 0, None)?;
-    let shared = count(&rt, rt.alloc(), text, 65_536, 16, 0, None)?;
-    assert!(rt; alone.score == Some(score) && shared.score == Some(score));
+    let alone = count(&rt, rt.alloc(), EIGHTEEN, 65_536, 1, 0, None)?;
+    let shared = count(&rt, rt.alloc(), EIGHTEEN, 65_536, 4, 0, None)?;
+    assert!(rt; alone.score == Some(SCORE) && shared.score == Some(SCORE));
     assert!(rt; alone.begun == 0 && shared.begun > 0);
-    assert!(rt; shared.stores <= alone.stores.saturating_mul(2));
+    assert!(rt; shared.evaluations <= alone.evaluations.saturating_mul(2));
     Ok(())
 }
 
@@ -243,9 +231,8 @@ fn threads_share_a_position(rt: HostRuntime) -> Result<(), Fail> {
 // then waits at the desk.
 #[test]
 fn threads_that_have_helped_wait(rt: HostRuntime) -> Result<(), Fail> {
-    let (text, score) = EASY;
-    let shared = count(&rt, rt.alloc(), text, 65_536, 4, 1_000, None)?;
-    assert!(rt; shared.score == Some(score) && shared.begun > 0 && shared.visits <= 12);
+    let shared = count(&rt, rt.alloc(), EIGHTEEN, 65_536, 4, 1_000, None)?;
+    assert!(rt; shared.score == Some(SCORE) && shared.begun > 0 && shared.visits <= 12);
     Ok(())
 }
 
@@ -264,7 +251,7 @@ fn threads_help_where_it_is_of_use(rt: HostRuntime) -> Result<(), Fail> {
     Ok(())
 }
 
-// A book that claims a lower score of the easy position, in its canonical form.
+// A book that claims a lower score of that position, in its canonical form.
 const WRONG_BOOK: &[u8] = b"% ffobook 2 winner\n\
 X-OX-O---X-OXXXOOOOOXXXXOOOXXO-X-OOXO---OXOXXXXXXXXOO-X---O-OO-- X; H1:+10;\n";
 
@@ -272,9 +259,8 @@ X-OX-O---X-OXXXOOOOOXXXXOOOXXO-X-OOXO---OXOXXXXXXXXOO-X---O-OO-- X; H1:+10;\n";
 #[test]
 fn threads_share_a_claim(rt: HostRuntime) -> Result<(), Fail> {
     let claims = Claims::read(rt.alloc(), WRONG_BOOK)?;
-    let (text, score) = EASY;
-    let shared = count(&rt, rt.alloc(), text, 65_536, 4, 0, Some(&claims))?;
-    assert!(rt; shared.score == Some(score) && shared.begun > 0);
+    let shared = count(&rt, rt.alloc(), EIGHTEEN, 65_536, 4, 0, Some(&claims))?;
+    assert!(rt; shared.score == Some(SCORE) && shared.begun > 0);
     Ok(())
 }
 
@@ -284,7 +270,7 @@ const REPORT: &[u8] = b"[1]\n1 +14 A1 unlisted\nsolved 1 refused 0\n";
 #[test]
 fn sixty_four_workers_share_a_position(rt: HostRuntime) -> Result<(), Fail> {
     let alloc = rt.alloc();
-    let files = files_of(alloc, &[EASY.0])?;
+    let files = files_of(alloc, &[EIGHTEEN])?;
     let settings = settings_of(64, 65_536);
     let outcome = suite_solver::run(&rt, alloc, &files, &settings, None, &NoGate)?;
     let (reports, _) = texts_of(alloc, outcome)?;
