@@ -26,7 +26,7 @@ const EIGHTEEN: &[u8] = b"-OXX-X---XX--XX-OXXO-X-O-XXXOXOOXOOXXXO-O-OOOOXO-XOOOX
 
 const SCORE: i8 = 14;
 
-// Lines of positions with 16 and 15 empty squares.
+// Lines of positions with 16 and 15 empty squares. The first one is worth 6, by H4 alone.
 const SIXTEEN: &[u8] = b"X---OO--XXXXOO--XXXXOO-X--XXOOX--XXOOXXOXXOXOXOOXOOOOXXO---OOO-X X\n";
 
 const FIFTEEN: &[u8] = b"XOOOO---XOOO----XOOOO--XXOOXO-X-XXXXXXO-OXOOXOO-OXXXOOOOOX-XXXX- O\n";
@@ -264,13 +264,13 @@ fn threads_share_a_claim(rt: HostRuntime) -> Result<(), Fail> {
     Ok(())
 }
 
-const REPORT: &[u8] = b"[1]\n1 +14 A1 unlisted\nsolved 1 refused 0\n";
+const REPORT: &[u8] = b"[1]\n1 +06 H4 unlisted\nsolved 1 refused 0\n";
 
 // As many workers as there may be solve one position.
 #[test]
 fn sixty_four_workers_share_a_position(rt: HostRuntime) -> Result<(), Fail> {
     let alloc = rt.alloc();
-    let files = files_of(alloc, &[EIGHTEEN])?;
+    let files = files_of(alloc, &[SIXTEEN])?;
     let settings = settings_of(64, 65_536);
     let outcome = suite_solver::run(&rt, alloc, &files, &settings, None, &NoGate)?;
     let (reports, _) = texts_of(alloc, outcome)?;
