@@ -12,7 +12,7 @@ from unittest import mock
 import pytest
 
 from ffosolve import _command_line
-from ffosolve._many import books, engine, folder
+from ffosolve._many import books, engine, folder, solve
 from tests.many import ACTING, BOARD, WORDS, files
 from tests.support import (NOBODY, ROOT, SECONDS, cannot_write, ends, limited, positions, run, stored, wait_until,
                            worked_rows, write)
@@ -30,7 +30,7 @@ def test_report_and_book_are_those_of_one_run(case):
 
 def test_the_program_is_found_in_a_checkout_and_through_a_link_and_names_may_have_blanks_or_not_be_utf_8(case):
     case.many("work", "list.obf", by=ROOT / "bin/ffosolve-many")
-    assert stored("out/ffosolve") in [path.read_bytes() for path in Path("work").glob("program-*")]
+    assert stored("out/ffosolve") in [path.read_bytes() for path in Path("work").glob("ffosolve-*")]
     os.symlink(case.ACTS, "link")
     for name, *place in ("a  list;$x'.obf", "a folder ;'$y"), (os.fsdecode(b"\xff.obf"),):
         os.rename("list.obf", name)
@@ -64,7 +64,8 @@ def test_the_limit_of_empty_squares_is_by_default_that_of_the_program(case):
     case.write_list(case.SMALL, "--max-empties=3")
     case.many(*WORDS, by=by)
     case.many(*WORDS, "--max-empties=3", message=", 3 of them solved before")
-    case.refused(2, "work was begun with --max-empties 3: use another folder", *WORDS)
+    assert "limit 3" in case.one.decode()
+    case.many(*WORDS[:3], "--max-empties=4", by=by, message=", 0 of them solved before", output=mock.ANY)
 
 
 def test_lines_of_each_kind_and_none_at_all_are_solved(case):
@@ -80,7 +81,7 @@ def test_lines_of_each_kind_and_none_at_all_are_solved(case):
 def test_scores_and_status_are_those_of_one_run(case):
     remarked = case.SMALL + b"% remark\r\n\n" + case.SMALL.rstrip(b"\n")
     kinds = stored("examples/kinds.obf") + case.SMALL
-    for status, count, text, *words in (0, 3, remarked), (1, 2, kinds, "--complete"):
+    for status, count, text, *words in (0, 2, remarked), (1, 2, kinds, "--complete"):
         write("list.obf", text)
         one = run(case.MANY.with_name("ffoscores"), *words, "list.obf")
         assert one.returncode == status
@@ -100,7 +101,7 @@ def test_cut_parts_are_solved_by_a_command_that_needs_only_python(case):
         ends((0, "", ""), *command, *words, cwd="/", env={"PATH": "/usr/bin:/bin"})
     before = files()
     ends((0, "", ""), *command, "0-4")  # which solves part 1 alone
-    assert {path.name for path in before.keys() ^ files().keys()} == {"0000001"}
+    assert before.keys() ^ files().keys() == {case.record(1, "my work")}
     assert before.items() <= files().items()
     ends((0, line.format(7, "5 8-9"), ""), *cut)
     for words in (("10",), ("-1",), (), ("3", "10-12"), ("4-3",), ("00000003",)):
@@ -206,6 +207,7 @@ REFUSED = [
     (2, "--book-out is not an option of --scores", "--scores", "list.obf", "--book-out=b"),
     (2, "--jobs is not an option of --scheduler", "list.obf", "--scheduler=tcp://h1:8786", "--jobs=3"),
     (2, "--cut is not an option of --scheduler", "list.obf", "--scheduler=tcp://h1:8786", "--cut"),
+    (2, "--prune is not an option of --cut", "list.obf", "--prune", "--cut"),
     (2, "--book-out out is standard output", "list.obf", "--book-out", "out"),
     (2, "--book-out ./list.obf is the list", "list.obf", "--book-out", "./list.obf"),
     (3, "cannot write none/book: no such file or folder", "list.obf", "--book-out", "none/book"),
@@ -390,14 +392,14 @@ def progress(weights, lines=1):
     """Returns an engine.Progress (what is left to do) for parts with these weights, each of `lines` lines."""
     one = folder.Run.__new__(folder.Run)
     one.statuses, one.count = {}, len(weights) * lines
-    one.parts = [folder.Part(number, 0, 0, 1 + number * lines, lines, 0, "", weight)
+    one.parts = [folder.Part(number, 0, 0, 1 + number * lines, lines, 0, f"of {number}", weight)
                  for number, weight in enumerate(weights)]
     return engine.Progress(one, types.SimpleNamespace(running={}, trouble=""))
 
 
 def at_work(one, hosts, ended={}):
     """Sets which parts are at work: {part: its host, of two threads}; and which have ended: {part: seconds}."""
-    one.run.statuses.update(dict.fromkeys(ended, 0))
+    one.run.statuses.update({f"of {number}": 0 for number in ended})
     one.done += sum(one.run.parts[number].weight for number in ended)
     one.seconds += sum(ended.values())
     running = one.engine.running
@@ -410,7 +412,7 @@ def test_the_time_left_is_known_within_a_factor_of_two_from_a_tenth_of_the_work_
     lines, ends = positions(264, 8, 18, 3).splitlines(keepends=True), []
     mixed = zip([b"".join(lines[at:at + 6]) for at in range(0, 264, 6)], TOOK)
     texts, took = zip(*(mixed if order == "mixed" else EASY + HARD if order == "easy first" else HARD + EASY))
-    one = progress([folder.weight_of(folder.FRONT.findall(text), 20) for text in texts], 6)
+    one = progress([folder.weight_of(solve.empties_of(solve.FRONT.findall(text)), 20) for text in texts], 6)
     waiting, running, whole = list(range(len(took))), {}, sum(part.weight for part in one.run.parts)
     while one.run.unsolved():
         while waiting and len(running) < 2:
@@ -476,7 +478,8 @@ def test_work_grows_with_the_empty_squares_of_both_spellings():
     growth = folder.GROWTH
     for empty in (b"-", b"."):
         text = (BOARD + b" X\n\n% -----\n" + b"-" * 30 + b"X" * 34 + b" X\n").replace(b"-", empty)
-        assert folder.weight_of(folder.FRONT.findall(text), 20) == folder.PART + 2 * folder.LINE + growth ** 2
+        empties = solve.empties_of(solve.FRONT.findall(text))
+        assert folder.weight_of(empties, 20) == folder.PART + 2 * folder.LINE + growth ** 2
     for empties, seconds in ((6, 0.83 / 0.0083), (8, 7.6 / 0.0083)):  # 20 and 22 empty squares against 14
         assert 0.5 < growth ** empties / seconds < 2
 

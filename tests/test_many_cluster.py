@@ -104,7 +104,7 @@ class Cluster:
 
     def leaves_nothing(self):
         wait_until(lambda: not self.programs() and not self.packs())
-        assert {path.parts[0] for path in Path(".").rglob("program-?")} <= {"work", "scores"}
+        assert {path.parts[0] for path in Path(".").rglob("ffosolve-?")} <= {"work", "scores"}
 
     def programs(self, worker=None):
         """Returns the IDs of the processes that solve parts on a worker or, by default, anywhere."""
@@ -304,7 +304,7 @@ def test_a_full_disk_ends_the_run_and_it_goes_on_when_there_is_room(cluster, cas
 
 
 def test_what_is_sent_needs_no_certain_python_and_no_package_but_dask():
-    about = (Path(solve.__file__).read_text(), {"programs": []}, {"program-0": b"it"})
+    about = (Path(solve.__file__).read_text(), {"programs": {}}, {"ffosolve-0": b"it"})
     sent = solve.Pack(*about).__reduce__()
     one = eval(*pickle.loads(pickle.dumps(sent[1])))
     assert type(one) is not solve.Pack and one.__reduce__() == sent

@@ -74,8 +74,8 @@ status:
   4  the library or ffosolve-many can't be found
 """
 MANY = (  # options of ffosolve-many that check passes on: (name, value if it has one)
-    ("--jobs", "N"), ("--scheduler", "ADDRESS"), ("--cut", None), ("--quiet", None), ("--workers", "N"),
-    ("--table", "N"), ("--book-in", "FILE"))
+    ("--jobs", "N"), ("--scheduler", "ADDRESS"), ("--cut", None), ("--prune", None), ("--quiet", None),
+    ("--workers", "N"), ("--table", "N"), ("--book-in", "FILE"))
 MOST_LINES = 10_000  # in a part of ffosolve-many
 
 
@@ -277,17 +277,17 @@ def compare(options: argparse.Namespace, messages: Messages) -> Iterator[bytes]:
 
 
 def folders_of(found: List[Found], options: argparse.Namespace) -> Dict[str, List[Position]]:
-    """The folders of `check`, each with the positions that are to be solved there."""
-    folders: Dict[str, List[Position]] = {}
+    """The folders of `check`, each with the positions that are to be solved there, none of them twice."""
+    folders: Dict[str, Dict[Position, None]] = {}
     paths: Dict[str, str] = {}
-    for file in options.files:
+    for file in sorted(options.files):  # so that their order does not matter
         folder = f"{file}.check" if options.folder is None else options.folder
         wanted = [it.position for it in found if it.file == file and it.position]
         if options.max_empties is not None:
             wanted = [position for position in wanted if position.empties <= options.max_empties]
         if wanted:
-            folders.setdefault(paths.setdefault(os.path.realpath(folder), folder), []).extend(wanted)
-    return folders
+            folders.setdefault(paths.setdefault(os.path.realpath(folder), folder), {}).update(dict.fromkeys(wanted))
+    return {folder: [*positions] for folder, positions in folders.items()}
 
 
 def scored_games(options: argparse.Namespace, messages: Messages) -> List[Found]:

@@ -90,7 +90,7 @@ class Cluster:
         self.kept: Set[int] = set()
         self.left_out: Set[Worker] = set()
         self.unfit: Set[Worker] = set()
-        self.failed: DefaultDict[Worker, Set[int]] = defaultdict(set)
+        self.failed: DefaultDict[Worker, Set[str]] = defaultdict(set)
         self.running: Dict[int, Tuple[str, float]] = {}
         # Runs a coroutine in Dask's thread. No call waits for Dask, which may be silent for any time.
         self.in_dask: Any = functools.partial(asyncio.run_coroutine_threadsafe, loop=self.client.loop.asyncio_loop)
@@ -177,10 +177,10 @@ class Cluster:
             self.workers = {one: threads for one, threads in self.workers.items() if one != worker}
             return part, None, "", []
         found, why = await asyncio.get_running_loop().run_in_executor(None, self.run.keep, part, record, why)
-        counts = self.counts(worker, part.number, bool(found), bool(failed))
+        counts = self.counts(worker, part.digest, bool(found), bool(failed))
         return part, found, why if counts else "", [worker[0]]
 
-    def counts(self, worker: Worker, part: int, is_solved: bool, has_failed: bool) -> bool:
+    def counts(self, worker: Worker, part: str, is_solved: bool, has_failed: bool) -> bool:
         """Notes whether a worker has solved a part, which `has_failed` before. Returns whether that counts."""
         if is_solved:
             self.failed.pop(worker, None)

@@ -27,30 +27,34 @@ class Progress:
     def __init__(self, run: Run, engine: Any) -> None:
         self.run, self.engine, self.done, self.seconds = run, engine, 0.0, 0.0
 
+    def running(self) -> List[Tuple[Part, str, float]]:
+        """Returns the parts at work, longest first, each with its host and when it began."""
+        found = [(self.run.parts[number], host, start) for number, (host, start) in self.engine.running.items()]
+        return sorted([one for one in found if one[0].digest not in self.run.statuses], key=lambda one: one[2])
+
     def left(self) -> Optional[float]:
         """Returns the expected seconds until all is solved, or None before a tenth of this command's work is done."""
-        work = sum(part.weight for part in self.run.unsolved())
+        work = sum({part.digest: part.weight for part in self.run.unsolved()}.values())
         if not self.done or self.done * 9 < work:
             return None
         rate, now, threads = self.seconds / self.done, time.monotonic(), self.engine.threads
-        running = [(self.run.parts[number].weight, start) for number, (_, start) in self.engine.running.items()
-                   if number not in self.run.statuses]
+        running = [(part.weight, start) for part, _, start in self.running()]
         rests = [max(0, weight * rate - now + start) for weight, start in running]
         waiting = work - sum(weight for weight, _ in running)
         return float(max(rests + [(waiting * rate + sum(rests)) / max(1, min(threads, len(running)))]))
 
     def text(self) -> str:
         """Returns the line to show, with any trouble. It names the longest part, from LONG_SECONDS on."""
-        run, running = self.run, sorted(self.engine.running.items(), key=lambda one: float(one[1][1]))
-        hosts, lines = {host for _, (host, _) in running}, sum(part.lines for part in run.unsolved())
+        run, running = self.run, self.running()
+        hosts, lines = {host for host, _ in self.engine.running.values()}, sum(part.lines for part in run.unsolved())
         left = self.left() if hosts and not self.engine.trouble else None
         text = f"{100 * (run.count - lines) // run.count}%, "
         text += f"{timedelta(seconds=round(left))} left, " if left is not None else ""
         text += self.engine.trouble or f"{counted(len(hosts), 'machine') if hosts else 'no machine'} at work"
-        text += f", parts {len(run.statuses)} of {len(run.parts)}"
-        for number, (host, start) in running[:1]:
+        text += f", parts {run.solved_count} of {len(run.parts)}"
+        for part, host, start in running[:1]:
             if (seconds := time.monotonic() - start) >= LONG_SECONDS:
-                text += f"; {run.parts[number]} has been running for {timedelta(seconds=round(seconds))} on {host}"
+                text += f"; {part} has been running for {timedelta(seconds=round(seconds))} on {host}"
         return text
 
 
@@ -100,7 +104,7 @@ def jobs_that_fit(jobs: int, threads: int) -> int:
 def solve_parts(run: Run, engine: Any, quiet: bool) -> None:
     """Solves a run's unsolved parts, except those that fail `engine.tries` times. One that has failed twice is tried
     once more after all others, alone. If `quiet`, shows only failures."""
-    waiting, progress = deque(run.unsolved()), Progress(run, engine)
+    waiting, progress = deque({part.digest: part for part in run.unsolved()}.values()), Progress(run, engine)
     last: Deque[Part] = deque()
     failures: DefaultDict[int, List[str]] = defaultdict(list)  # {number: where that part failed}
     done: queue.SimpleQueue[Future[Outcome]] = queue.SimpleQueue()
