@@ -81,7 +81,7 @@ def test_lines_of_each_kind_and_none_at_all_are_solved(case):
 def test_scores_and_status_are_those_of_one_run(case):
     remarked = case.SMALL + b"% remark\r\n\n" + case.SMALL.rstrip(b"\n")
     kinds = stored("examples/kinds.obf") + case.SMALL
-    for status, count, text, *words in (0, 2, remarked), (1, 2, kinds, "--complete"):
+    for status, count, text, *words in (0, 2, remarked), (1, 1, kinds, "--complete"):
         write("list.obf", text)
         one = run(case.MANY.with_name("ffoscores"), *words, "list.obf")
         assert one.returncode == status

@@ -10,7 +10,6 @@ import shutil
 import signal
 import socket
 import sys
-from collections import defaultdict
 from pathlib import Path
 from unittest import mock
 
@@ -201,7 +200,8 @@ def test_a_silent_worker_keeps_none_that_joins_from_work(cluster, case, others):
     wait_until(lambda: messages().count(" is left out: ") == len(others) and cluster.programs("worker2"))
     cluster.signal(signal.SIGSTOP, "worker2")  # which alone has the program
     cluster.start_workers("worker3")
-    wait_until(lambda: case.parts_solved() == 14)
+    wait_until(lambda: case.parts_solved() == 15)
+    assert ", waiting for 1 silent worker, " in messages()
     cluster.signal(signal.SIGCONT, "worker2")
     cluster.ended(ran)
 
@@ -324,11 +324,14 @@ def one(monkeypatch):
     """The product's Cluster, with a mock of Dask's client. It knows three fit workers of one thread: a, b and c."""
     pytest.importorskip("distributed")
     from ffosolve._many import cluster
-    one = cluster.Cluster.__new__(cluster.Cluster)
-    one.client, one.run = mock.Mock(status="running"), mock.Mock(statuses={}, files={}, task={})
+    with contextlib.ExitStack() as stack:
+        for what in ("logging.disable", "warnings.simplefilter", "asyncio.run_coroutine_threadsafe"):
+            stack.enter_context(mock.patch(what))
+        stack.enter_context(mock.patch.object(cluster.Cluster, "ask", mock.Mock()))
+        stack.enter_context(mock.patch.object(cluster, "client_of", return_value=mock.Mock(status="running")))
+        one = cluster.Cluster("tcp://h1:1", mock.Mock(statuses={}, files={}, task={}))
     one.workers, one.count, one.threads, one.key = {(name, name): 1 for name in "abc"}, 3, 3, "ffosolve-key"
-    one.left_out, one.unfit, one.kept, one.running, one.failed = set(), set(), set(), {}, defaultdict(set)
-    one.pack, one.said = None, mock.Mock()
+    one.said = mock.Mock()
     monkeypatch.setattr(cluster, "say", one.said)
     return one
 
@@ -356,7 +359,8 @@ def test_workers_are_left_out_for_parts_that_others_solve_not_for_those_that_fai
 
 
 def test_a_worker_that_is_silent_or_not_fit_gets_no_part_and_the_only_pack_is_not_left_to_it(one):
-    about = {name: {"local_directory": name, "nthreads": 2, "host": "h1", "last_seen": 100} for name in "abc"}
+    about = {name: {"local_directory": name, "nthreads": 2, "host": "h1", "last_seen": 100, "metrics": {}}
+             for name in "abc"}
     about["b"]["last_seen"] = 69  # more than 30 seconds before the others
     one.client.scheduler.identity = mock.AsyncMock(return_value={"workers": about})
     one.client.processing = mock.AsyncMock(return_value={"a": ["ffosolve-key-3-x"], "b": ["ffosolve-key-7-x"]})
@@ -366,7 +370,8 @@ def test_a_worker_that_is_silent_or_not_fit_gets_no_part_and_the_only_pack_is_no
         one.client.who_has = mock.AsyncMock(return_value={"pack": [*holders]})
         asyncio.run(one.ask())
         assert (one.workers, one.count, one.threads, {*one.running}) == ({("a", "a"): 2}, 3, 2, {3, 7})
-        assert (one.kept, one.pack is pack) == ({7}, holders != "b")
+        assert (one.held, one.kept) == ({"ffosolve-key-3-x"}, {"ffosolve-key-7-x"})
+        assert (one.silent, one.pack is pack) == (1, holders != "b")
 
 
 @pytest.mark.parametrize("workers, count, most, alone", [("", 0, 100, 1), ("", 2, 0, 0), ("ab", 2, 104, 1),
@@ -378,39 +383,87 @@ def test_parts_are_sent_ahead_unless_some_workers_may_not_have_them(one, workers
     assert one.most(is_alone=False) == 0
 
 
-@pytest.mark.parametrize("change, is_cancelled", [
-    ({}, False), ({"workers": {("a", "a"): 1, ("b", "b"): 1}}, True), ({"pack": "another"}, True),
-    ({"workers": {("a", "a"): 1, ("b", "b"): 1}, "running": {7: ("h1", 0.0)}}, False),
-    ({"count": 1, "workers": {("a", "a"): 1, ("b", "b"): 1}}, False), ({"pack": "another", "kept": {7}}, False)])
-def test_a_part_is_sent_after_the_pack_and_again_if_it_waits_for_workers_that_are_not_alone(one, change, is_cancelled):
+TWO = {("a", "a"): 1, ("b", "b"): 1}
+
+
+@pytest.mark.parametrize("change, at, copies, cancelled", [
+    ({}, "", 0, 0), ({"workers": TWO}, "", 1, 1), ({"pack": "another"}, "", 1, 1), ({"workers": TWO}, "held", 0, 0),
+    ({"pack": "another"}, "held", 0, 0), ({"count": 1, "workers": TWO}, "", 0, 0), ({"workers": TWO}, "kept", 1, 0),
+    ({"workers": {}}, "kept", 0, 0), ({"workers": TWO, "left_out": {*TWO}}, "kept", 0, 0)])
+def test_a_part_is_sent_after_the_pack_and_again_if_no_fit_worker_has_it(one, change, at, copies, cancelled):
+    """The part is `held` by a fit worker, or `kept` by another one, or waits, and is cancelled then. The first answer
+    counts."""
     class Sent(asyncio.Future):  # what Dask's client returns for a part
         async def cancel(self):
             super().cancel()
 
-    async def first_second():
-        one.client.submit.side_effect = [mock.Mock(status="pending"), *(Sent() for _ in range(3))]
+    def submit(*words, key="", **how):
+        made = Sent() if key else mock.Mock(status="pending")
+        made.key = key
+        return made
+
+    async def first_seconds():
         sent = [asyncio.ensure_future(one.solve(mock.Mock(number=7), failed)) for failed in ([], ["a"], ["a", "b"])]
         await asyncio.sleep(0.5)
-        vars(one).update(change)
+        vars(one).update(change, **{at: {made.key for made in made_parts()}} if at else {})
         await asyncio.sleep(0.8)
-        return [future.done() for future in sent]
+        made, said = made_parts(), one.client.submit.call_args_list
+        is_done = [future.done() for future in sent]
+        made[-1].set_result((("a", "a"), "unfit", b"", ""))
+        await asyncio.sleep(0.1)
+        return made, is_done, sent[-1].done(), [call[1] for call in said]
 
+    def made_parts():
+        return [made for made in results if made.key]
+
+    results = []
+    one.client.submit.side_effect = lambda *words, **how: (results.append(submit(*words, **how)), results[-1])[1]
     one.workers, one.count, one.ask = {("a", "a"): 1}, change.get("count", 3), mock.AsyncMock()
-    assert (asyncio.run(first_second()), one.ask.call_count) == ([is_cancelled] * 3, 2)
-    pack, *parts = [call[1] for call in one.client.submit.call_args_list]
-    assert [part.get("priority", 0) for part in parts] == [0, 1, 2] and pack.get("priority", 0) > 2
-    assert [part["workers"] for part in parts] == [["a"] if one.count > 1 else None] * 3
+    made, is_done, is_answered, (pack, *parts) = asyncio.run(first_seconds())
+    assert (is_done, is_answered, one.ask.call_count) == ([False] * 3, True, 2)
+    assert (len(made), sum(it.cancelled() for it in made[:3])) == (3 + 3 * copies, 3 * cancelled)
+    parts = [part for part in parts if "key" in part]
+    assert [part.get("priority", 0) for part in parts[:3]] == [0, 1, 2] and pack.get("priority", 0) > 2
+    assert [part["workers"] for part in parts[:3]] == [["a"] if one.count > 1 else None] * 3
 
 
 def test_workers_that_end_with_the_program_and_a_book_alone_end_the_run(one):
     import distributed
-    one.pack, worker = mock.Mock(key="pack"), mock.Mock(address="tcp://h1:1")
-    one.answer = mock.AsyncMock(side_effect=distributed.KilledWorker("part", worker, 3))
-    ended = asyncio.run(one.solve("part", []))
-    assert ended == ("part", None, "4 workers ended that had it", 2 * ["tcp://h1:1"])
-    one.answer.side_effect = distributed.KilledWorker("pack", worker, 3)
+    worker, part = mock.Mock(address="tcp://h1:1", local_directory="a", host="h1"), mock.Mock(digest="it")
+    one.answer = mock.AsyncMock(side_effect=distributed.KilledWorker("pack", worker, 3))
     with pytest.raises(Refusal, match="^4 workers .* memory too small"):
-        asyncio.run(one.solve("part", []))
+        asyncio.run(one.solve(part, []))
+    one.tested = {("tcp://h1:1", "a")}
+    one.answer.side_effect = distributed.KilledWorker("ffosolve-key-7-x", worker, 3)
+    ended = asyncio.run(one.solve(part, []))
+    assert ended == (part, None, "4 workers ended that had it", 2 * ["tcp://h1:1"])
+
+
+@pytest.mark.parametrize("allowed, count", [(0, 4), (1, 2), (3, 1), (9, 1)])
+def test_no_part_is_to_blame_before_four_workers_have_ended_and_a_machine_whose_workers_solve_no_known_line_is(
+        one, allowed, count):
+    """A Pack that ended workers counts once, for all parts that waited for it."""
+    import distributed
+    part, ends = mock.Mock(digest="it"), (allowed + 1) * count
+    worker = mock.Mock(address="tcp://h1:1", local_directory="a", host="h1")
+    for place, why, at in (("new", "", []), ("a", f"{ends} workers ended that had it", 2 * ["tcp://h1:1"])):
+        worker.local_directory = place
+        one.tested = {("tcp://h1:1", "a")}
+        told = [one.blame(part, distributed.KilledWorker(f"ffosolve-key-7-{place}{number}", worker, allowed))
+                for number in range(count)]
+        assert told == [("", [])] * (count - 1) + [(why, at)]
+    (said,), = (call[0] for call in one.said.call_args_list)
+    assert said.startswith(f"h1 is left out: {ends} workers ended before they had solved a known line")
+    about = {"local_directory": "b", "nthreads": 2, "host": "h1", "last_seen": 1, "metrics": {}}
+    about = {"a": {**about, "local_directory": "a"}, "b": about}
+    one.client.scheduler.identity = mock.AsyncMock(return_value={"workers": about})
+    one.client.processing, one.tested = mock.AsyncMock(return_value={}), {("a", "a")}
+    asyncio.run(one.ask())
+    assert one.workers == {("a", "a"): 2}  # which has solved one
+    one.ends.clear()
+    for _ in range(100):
+        assert one.blame(part, distributed.KilledWorker("pack", worker, 0)) == ("", [])
+    assert one.ends == {"h1": 1}
 
 
 def test_the_adaptive_cluster_of_the_document_starts_and_ends_workers_by_need(case, many_python):

@@ -51,6 +51,7 @@ class Progress:
         text = f"{100 * (run.count - lines) // run.count}%, "
         text += f"{timedelta(seconds=round(left))} left, " if left is not None else ""
         text += self.engine.trouble or f"{counted(len(hosts), 'machine') if hosts else 'no machine'} at work"
+        text += f", waiting for {counted(self.engine.silent, 'silent worker')}" if self.engine.silent else ""
         text += f", parts {run.solved_count} of {len(run.parts)}"
         for part, host, start in running[:1]:
             if (seconds := time.monotonic() - start) >= LONG_SECONDS:
@@ -62,7 +63,8 @@ class Threads:
     """An engine for `solve_parts`: solves parts on threads of this machine, each running one program at a time.
     `running` has the parts at work, of which some may have been solved since: {number: (host, start time)}."""
 
-    tries, trouble = 1, ""  # after how many a part is not solved; why nothing is known of the machines at work, or ""
+    # After how many tries a part is not solved; why nothing is known of the machines at work, or ""; silent workers.
+    tries, trouble, silent = 1, "", 0
 
     def __init__(self, run: Run, jobs: int) -> None:
         most = resource.getrlimit(resource.RLIMIT_NOFILE)[1]
@@ -83,7 +85,9 @@ class Threads:
     def send(self, part: Part, failed: List[str]) -> Future[Outcome]:
         """Begins to solve a part, if possible elsewhere than where it has `failed`."""
         self.running[part.number] = HERE, time.monotonic()
-        return self.pool.submit(lambda: (part, *self.run.solve(part), [HERE]))
+        future = self.pool.submit(lambda: (part, *self.run.solve(part), [HERE]))
+        future.add_done_callback(lambda _: self.running.pop(part.number))
+        return future
 
 
 def jobs_that_fit(jobs: int, threads: int) -> int:
@@ -126,7 +130,6 @@ def solve_parts(run: Run, engine: Any, quiet: bool) -> None:
         except queue.Empty:
             continue
         sent, failed = sent - 1, failures[part.number]
-        engine.running.pop(part.number, None)
         if why:
             say(f"{machines[0]} failed {part}: {why}")
             failed += machines

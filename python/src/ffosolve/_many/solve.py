@@ -11,6 +11,7 @@ import os
 import re
 import subprocess
 import sys
+import tempfile
 import threading
 import time
 import zlib
@@ -108,6 +109,16 @@ def read_record(digest: str, record: bytes) -> Optional[Solved]:
     return Solved(int(status), results[:int(size)], results[int(size):], float(seconds))
 
 
+def unnamed(content: bytes) -> BinaryIO:
+    """Returns a file without a name, which may be a program; in memory, unless this Python can't have one there."""
+    has_memory = hasattr(os, "memfd_create")
+    with open(os.memfd_create("ffosolve"), "w+b") if has_memory else tempfile.TemporaryFile() as file:
+        file.write(content)
+        file.flush()
+        os.fchmod(file.fileno(), 0o700)
+        return open(f"/proc/self/fd/{file.fileno()}", "rb")  # no program runs while its file may be written
+
+
 def solve(task: Task, files: Files, program: str, text: bytes,
           is_wanted: Callable[[], bool] = lambda: True) -> Tuple[bytes, str]:
     """Solves the lines `text` of a part with the program of that path, and kills it once `is_wanted` returns false.
@@ -117,10 +128,8 @@ def solve(task: Task, files: Files, program: str, text: bytes,
     words = [program, *words_of(task, files.get("book-in")), *["--book-out=/dev/stderr"] * has_book]
     command = ["choom", "-n", "1000", "--", *GUARD, *words]  # out of memory, it is killed before this process
     start = time.monotonic()
-    try:  # after a timeout, `communicate` loses the rest of the input, so the lines are a file in memory
-        with open(os.memfd_create("part"), "w+b") as file:
-            file.write(text)
-            file.seek(0)
+    try:  # after a timeout, `communicate` loses the rest of the input, so the lines are a file
+        with unnamed(text) as file:
             process = subprocess.Popen(command, start_new_session=True, stdin=file, stdout=subprocess.PIPE,
                                        stderr=subprocess.PIPE)
     except OSError as why:
@@ -179,18 +188,24 @@ class Pack:
         names = {"source": self.source, "names": {"__name__": "ffosolve"}, "task": self.task, "contents": contents}
         return eval, ("exec(source, names) or names['Pack'](source, task, contents)", {}, names)
 
-    def __call__(self, number: int, text: bytes) -> Tuple[Tuple[str, str], str, bytes, str]:
-        """Solves a part until Dask takes it. Returns the worker (address, folder), its fault, and what `solve` does."""
+    def __call__(self, topic: str, text: bytes) -> Tuple[Tuple[str, str], str, bytes, str]:
+        """Solves a part until Dask takes it. Returns the worker (address, folder), its fault, and what `solve` does. If
+        the worker solves KNOWN, first tells those who asked for the topic."""
         from distributed import get_worker
         worker, record, why = get_worker(), b"", ""
+        name = worker.address, worker.local_directory
         key, tasks = worker.get_current_task(), getattr(worker, "state", worker).tasks
         self.test()
-        if not self.fault:
-            record, why = solve(self.task, self.files, self.program, text,
-                                lambda: getattr(tasks.get(key), "state", None) == "executing")
+        try:
+            if not self.fault:
+                worker.log_event(topic, name)
+                record, why = solve(self.task, self.files, self.program, text,
+                                    lambda: getattr(tasks.get(key), "state", None) == "executing")
+        except Exception as fault:
+            self.fault = repr(fault)
         if why:
             self.test(is_due=True)
-        return (worker.address, worker.local_directory), self.fault, record, why
+        return name, self.fault, record, why
 
     def test(self, is_due: bool = False) -> None:
         """Sets the program, or the fault of this machine, unless that is done and no test `is_due`."""
@@ -199,14 +214,14 @@ class Pack:
                 return
             try:
                 for name, content in self.contents.items():
-                    self.memory.append(open(os.memfd_create("ffosolve"), "w+b"))
+                    self.memory.append(unnamed(content))
                     self.files[name] = f"/proc/{os.getpid()}/fd/{self.memory[-1].fileno()}"
-                    self.memory[-1].write(content)
-                    self.memory[-1].flush()
                 self.contents = {}
                 self.program = fit_program(self.task, self.files)
             except OSError as fault:
                 self.fault = str(fault)
+            except Exception as fault:
+                self.fault = repr(fault)
 
 
 def content_of(path: Path, most: float = math.inf) -> bytes:
