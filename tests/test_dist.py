@@ -286,6 +286,10 @@ def test_at_the_release_the_version_is_plain_and_of_a_shallow_clone_it_names_the
     run("git", "clone", "-q", "--depth=1", f"file://{checkout}", "shallow", check=True)
     head = run("git", "rev-parse", "HEAD", cwd=checkout, text=True).stdout
     ends((0, f"{VERSION}+g{head[:7]}\n", ""), sys.executable, "shallow/python/src/ffosolve/_version.py")
+    run("sh", "-c", "mkdir archive; git -C shallow archive HEAD | tar -xC archive", check=True)
+    ends((0, f"{VERSION}+g{head[:7]}\n", ""), sys.executable, "archive/python/src/ffosolve/_version.py")
+    write("archive/VERSION", "1.2.3+4.g0123456")  # as `make install` writes it
+    ends((0, "1.2.3+4.g0123456\n", ""), sys.executable, "archive/python/src/ffosolve/_version.py")
 
 
 @pytest.mark.parametrize("target", ("dist", "wheel", "deb"))

@@ -40,7 +40,7 @@ def test_results_are_complete_with_a_row_for_each_line_and_on_the_disk_if_they_t
     whole = b"\n".join(lines) + b"\n"
     for output in (whole, whole[:-1], b"", whole + b"\n", b"".join(whole.splitlines(keepends=True)[1:])):
         for seconds in (0.9, 1.0):
-            record = solve.record_of(part.digest, solve.Solved(0, output, book, seconds))
+            record = solve.sealed(part.digest, b"0 %d %.3f\n" % (len(output), seconds) + output + book)
             with mock.patch.object(os, "fsync") as synced:
                 assert bool(one.keep(part, record, "")[0]) == (output == whole)
             assert synced.call_count == (output == whole and seconds == 1)
@@ -118,7 +118,8 @@ def test_a_part_whose_results_are_not_complete_is_solved_again(case):
 
     def record(text=text, found=found, **options):
         """Returns a record, with the right digest, of other results or for other lines or options."""
-        return solve.record_of(solve.digest_of({**task["options"], **options}, text), found)
+        head = b"%d %d %.3f\n" % (found.status, len(found.output), found.seconds)
+        return solve.sealed(solve.digest_of({**task["options"], **options}, text), head + found.output + found.book)
 
     assert record() == whole
     for spoiled in (None, b"", whole[:-1], whole[:whole[:-1].rindex(b"\n") + 1], bytes(len(whole)), whole + b"\n",

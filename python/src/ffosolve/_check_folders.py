@@ -6,19 +6,11 @@ import subprocess
 import sys
 from typing import Dict, List, Mapping
 
-from ._books import scores_in
-from ._command_line import MISSING, MISUSED, UNREADABLE, Refusal, file_of, refusing
+from ._command_line import MISSING, MISUSED, UNREADABLE, Refusal, refusing
 from ._library import MOST_EMPTIES
 from ._positions import Position
-from ._text import shown, text_lines
 
 SOLVER = "ffosolve-many"
-
-
-def scores_of(book: str) -> Dict[Position, int]:
-    """Returns {canonical position: score for its mover} for a book; `-` is standard input."""
-    with file_of(book) as file:
-        return scores_in(text_lines(file, shown(book)), shown(book))
 
 
 def exact_scores(folders: Mapping[str, List[Position]], lines: int, words: List[str]) -> Dict[Position, int]:

@@ -7,14 +7,15 @@ import sys
 import warnings
 from typing import Any, Callable, Dict, Iterator, List, NamedTuple, NoReturn, Optional
 
-from ._check_folders import exact_scores, scores_of
+from ._books import scores_in
+from ._check_folders import exact_scores
 from ._command_line import DONE, MISSING, MISUSED, REMARKED, UNREADABLE
 from ._command_line import Parser, Refusal, file_of, print_all, run, say, write_whole
 from ._games import (MOST_DISCS, REAL, SCORE, Game, GameRefused, corrected, discs_of_black, games_in, position_with,
                      positions_of)
 from ._library import MOST_EMPTIES, LibraryNotFound, load
 from ._positions import Position
-from ._text import NotText, ReadingWarning, shown
+from ._text import NotText, ReadingWarning, shown, text_lines
 
 NAME = "ffosolve-games"
 USAGE = f"""{NAME} [--empties N] [FILE ...]
@@ -274,6 +275,12 @@ def compare(options: argparse.Namespace, messages: Messages) -> Iterator[bytes]:
     if differ or unsolved:
         messages.status = max(messages.status, REMARKED)
     yield b"compared %d differ %d unsolved %d" % (compared, len(differ), unsolved)
+
+
+def scores_of(book: str) -> Dict[Position, int]:
+    """{canonical position: score for its mover} for a book; `-` is standard input."""
+    with file_of(book) as file:
+        return scores_in(text_lines(file, shown(book)), shown(book))
 
 
 def folders_of(found: List[Found], options: argparse.Namespace) -> Dict[str, List[Position]]:

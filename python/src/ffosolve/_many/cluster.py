@@ -7,6 +7,7 @@ import json
 import logging
 import os
 import re
+import subprocess
 import sys
 import time
 import warnings
@@ -29,6 +30,9 @@ try:
     import distributed
     import toolz
 except ImportError as fault:
+    other = "/usr/bin/python3"  # Debian's
+    if sys.executable != other and subprocess.run([other, "-c", "import distributed"], stderr=-3).returncode == 0:
+        os.execv(other, [other, *sys.argv])
     raise Refusal(f"--scheduler needs the package distributed, which {sys.executable} lacks ({fault}): apt-get install "
                   f"python3-distributed for Debian's Python, or {sys.executable} -m pip install distributed",
                   MISSING) from None
@@ -57,34 +61,29 @@ def address_of(name: str) -> str:
 
 
 def client_of(address: str) -> Any:
-    """Returns a client of the scheduler at an address. Refuses if there is another server of Dask's, or none; or if it
-    or all its workers have another version of Dask."""
-    async def kind_and_versions() -> Tuple[str, List[Any]]:
+    """Returns a client of the scheduler at an address. Refuses another server of Dask's, or none; and if the scheduler
+    or all its workers have another version."""
+    async def kind_and_versions() -> Tuple[str, List[str]]:
         security = distributed.Security().get_connection_args("client")
         async with distributed.rpc(address, timeout=LOST_SECONDS, connection_args=security) as server:
-            if (kind := str((await server.identity())["type"])) != "Scheduler":
-                return kind, []
-            versions, words = [[await server.versions()]], {"msg": {"op": "versions"}, "on_error": "ignore"}
-            with contextlib.suppress(Exception):  # a worker does not answer
-                versions.append([*(await asyncio.wait_for(server.broadcast(**words), SILENT_SECONDS)).values()])
-            return kind, versions
+            kind, versions = str((await server.identity())["type"]), [await server.versions()]
+            with contextlib.suppress(Exception):  # this is a worker, or has one that does not answer
+                told = server.broadcast(msg={"op": "versions"}, on_error="ignore")
+                versions += (await asyncio.wait_for(told, SILENT_SECONDS)).values()
+            return kind, [about["packages"]["distributed"] for about in versions]
     try:
-        kind, versions = asyncio.run(asyncio.wait_for(kind_and_versions(), 2 * LOST_SECONDS))
-        for who, abouts in zip(("the scheduler {}", "each worker of {}"), versions):
-            found, here = {about["packages"]["distributed"] for about in abouts}, distributed.__version__
-            if found and here not in found:
-                theirs = f"{who.format(address)} has distributed {' or '.join(found)}"
-                raise ImportError(f"{theirs}, and {sys.executable} {here}")
-        if kind == "Scheduler":
+        kind, (theirs, *workers) = asyncio.run(asyncio.wait_for(kind_and_versions(), 2 * LOST_SECONDS))
+        is_same = (here := distributed.__version__) == theirs and (not workers or here in workers)
+        if kind == "Scheduler" and is_same:
             return distributed.Client(address, timeout=LOST_SECONDS, set_as_default=False)
-    except ImportError as why:
-        raise Refusal(f"{why}: the versions have to be the same") from None
     except Exception as why:
         reason = " ".join(str(why).split()) or repr(why)
         if "handshake" in reason or isinstance(why, asyncio.TimeoutError):
             reason = "it does not answer as a scheduler does (the address of one with TLS begins with tls://)"
         raise Refusal(f"cannot reach the scheduler {address}: {reason}") from None
-    raise Refusal(f"{address} is not a scheduler, but a {kind.lower()}")
+    raise Refusal(f"{address} is not a scheduler, but a {kind.lower()}" if is_same else
+                  f"the scheduler {address} has distributed {theirs}, its workers {' and '.join({*workers}) or 'none'}"
+                  f", {sys.executable} {here}: they have to be the same")
 
 
 class Cluster:
@@ -192,29 +191,23 @@ class Cluster:
         return task, workers if some else None, self.pack
 
     def is_in_hand(self, sent: Sent, failed: List[str]) -> bool:
-        """Returns whether a part that was sent is to be waited for: a fit worker has it, or no other one may have it."""
+        """Returns whether it is of no use to send a part again: a fit worker has it, or no other worker could."""
         task, workers, pack = sent
-        if task.key in self.held:
-            return True
         if task.key in self.kept:
             return not self.workers.keys() - self.left_out
-        return self.pack is pack and not (workers and self.chosen(failed) - workers)
+        return task.key in self.held or self.pack is pack and not (workers and self.chosen(failed) - workers)
 
     async def answer(self, part: Part, failed: List[str]) -> Any:
         """Returns what a Pack does for a part. Sends it again while it is not in hand: the first answer counts."""
         copies: Dict[Any, Sent] = {}
+        done: Set[Any] = set()
         try:
-            while True:
+            while not done:
                 if not any(self.is_in_hand(sent, failed) for sent in copies.values()):
-                    for result, (task, *_) in [*copies.items()]:
-                        if task.key not in self.kept:
-                            del copies[result]
-                            await task.cancel()
                     sent = self.submitted(part, failed)
                     copies[asyncio.ensure_future(sent[0])] = sent
                 done, _ = await asyncio.wait(copies, timeout=1, return_when=asyncio.FIRST_COMPLETED)
-                for result in done:
-                    return await result
+            return await done.pop()
         finally:
             for result, (task, *_) in copies.items():
                 if not result.done():
@@ -246,19 +239,19 @@ class Cluster:
         """Returns why a part failed whose workers ended, and where; or "" while that may be a chance, or is due to the
         machine of the last one, which had not solved a known line."""
         last, is_part = end.last_worker, end.task.startswith(self.key)
-        is_tested = is_part and (last.address, last.local_directory) in self.tested
-        what = part.digest if is_tested else str(last.host)
+        what = part.digest if is_part and (last.address, last.local_directory) in self.tested else str(last.host)
         if end.task not in self.ended:  # otherwise, another part has waited for the same Pack
             self.ends[what] += end.allowed_failures + 1
         self.ended.add(end.task)
-        if (count := self.ends[what]) < MOST_ENDS:
+        why = f"{self.ends[what]} workers ended"
+        if self.ends[what] < MOST_ENDS:
             return "", []
-        if is_tested:
-            return f"{self.ends.pop(what)} workers ended that had it", 2 * [last.address]
+        if what == part.digest:
+            del self.ends[what]
+            return f"{why} that had it", 2 * [last.address]
         if not is_part and not self.tested:
-            raise Refusal(f"{count} workers ended that had only the program and any --book-in: is their memory too "
-                          "small?")
-        self.leave_out((what, ""), f"{count} workers ended before they had solved a known line, the last one there")
+            raise Refusal(f"{why} that had only the program and any --book-in: is their memory too small?")
+        self.leave_out((what, ""), f"{why} before they had solved a known line, the last one there")
         return "", []
 
     def counts(self, worker: Worker, part: str, is_solved: bool, has_failed: bool) -> bool:

@@ -13,10 +13,10 @@ from typing import Any, Dict, Iterable, List, Optional, Tuple
 
 from .._command_line import (DONE, MISSING, REMARKED, UNREADABLE, Name, Parser, Refusal, counted, is_same, misused,
                              path_of, print_all, refusing, regular, replace, run as run_program, say)
-from .._text import BOOK_HEADER, shown
+from .._text import BOOK_HEADER, shown, typed
 from .books import book_of, merged
 from .engine import Threads, solve_parts
-from .folder import Run, inspect, typed
+from .folder import Run, inspect
 from .solve import GUARD, Task, opened, program_of, sha256, without_folder, words_of
 
 NAME = "ffosolve-many"
@@ -202,7 +202,7 @@ def run_of(command: argparse.Namespace, programs: str) -> Run:
     task["options"]["--max-empties"] = limit_of(program, words)
     if command.book_out:
         check_book_out(program, command.book_out, path, *words)
-    run = Run(folder, task, source, name)
+    run = Run(folder, task, source, name, is_remote=bool(command.scheduler))
     run.begin(builds_of(program), book, claims)
     return run
 

@@ -10,7 +10,7 @@ from concurrent.futures import Future, ThreadPoolExecutor
 from datetime import timedelta
 from typing import Any, DefaultDict, Deque, Dict, List, Optional, Tuple
 
-from .._command_line import counted, say, show
+from .._command_line import Refusal, counted, say, show
 from .folder import Part, Run
 from .solve import Solved
 
@@ -85,7 +85,10 @@ class Threads:
     def send(self, part: Part, failed: List[str]) -> Future[Outcome]:
         """Begins to solve a part, if possible elsewhere than where it has `failed`."""
         self.running[part.number] = HERE, time.monotonic()
-        future = self.pool.submit(lambda: (part, *self.run.solve(part), [HERE]))
+        try:
+            future = self.pool.submit(lambda: (part, *self.run.solve(part), [HERE]))
+        except RuntimeError as why:
+            raise Refusal(f"{why}: too little memory, or too few processes, are allowed (ulimit -v, -u)") from None
         future.add_done_callback(lambda _: self.running.pop(part.number))
         return future
 

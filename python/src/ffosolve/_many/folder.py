@@ -5,17 +5,16 @@ import contextlib
 import filecmp
 import json
 import os
-import shlex
 import stat
 from pathlib import Path
-from typing import BinaryIO, Dict, Iterable, Iterator, List, NamedTuple, Optional, Tuple, Union
+from typing import BinaryIO, Dict, Iterable, Iterator, List, NamedTuple, Optional, Tuple
 
 from . import solve
 from .._command_line import MISSING, MISUSED, Refusal, lock_file, refusing, say
 from .._obf import SIDE, side_as_read
-from .._text import shown, text_lines
-from .solve import (FORM, FRONT, MOST_RECORD, Solved, Task, content_of, digest_of, empties_of, files_in, fit_program,
-                    opened, parts_of, program_of, read_record, read_task, sealed, sha256)
+from .._text import shown, text_lines, typed
+from .solve import (FORM, FRONT, Pack, Solved, Task, content_of, digest_of, empties_of, files_in, opened, parts_of,
+                    program_of, read_record, read_task, sealed, sha256)
 
 LOCK = "run.lock"
 GROWTH = 2.35  # factor of the work for each further empty square, as measured from 14 to 22 of them
@@ -84,12 +83,6 @@ def digests(files: Dict[str, bytes]) -> Dict[str, str]:
     return {name: sha256(content) for name, content in files.items()}
 
 
-def typed(path: Union[str, "os.PathLike[str]"]) -> str:
-    """A path as a word of a command for a shell."""
-    path = os.path.join("." if os.fspath(path)[:1] == "-" else "", path)
-    return shlex.quote(path) if path.isprintable() else shown(path)
-
-
 def inspect(folder: Path) -> None:
     """Refuses a folder that has files but no LOCK or task, or that another user, except root, owns or may write."""
     place = opened(folder)
@@ -121,11 +114,12 @@ def lock(folder: Path) -> Path:
 
 class Run:
     """A list, `source`, that is solved in a folder, in `parts`: see `cut`. `place` is the folder as `lock` returns it;
-    `statuses` has the program's status for the digest of each solved part; `is_old` is true if another program is
-    installed."""
+    `statuses` has the program's status for the digest of each solved part. It `is_old` if another program is installed,
+    and `is_remote` if other machines solve it."""
 
-    def __init__(self, folder: Path, task: Task, source: Path, name: str) -> None:
-        self.folder, self.task, self.source, self.name, self.is_old = folder, task, source, name, False
+    def __init__(self, folder: Path, task: Task, source: Path, name: str, is_remote: bool) -> None:
+        self.folder, self.task, self.source, self.name = folder, task, source, name
+        self.is_old, self.is_remote = False, is_remote
         self.statuses: Dict[str, int] = {}
         with refusing("read", name), source.open("rb") as file:
             self.parts = [*cut(file, name, task)]
@@ -173,11 +167,13 @@ class Run:
 
     def test(self) -> None:
         """Sets `files` and `program`, the path of one that works on this machine; refuses if none does."""
-        self.files = files_in(self.place, self.task)
-        try:
-            self.program = fit_program(self.task, self.files)
-        except ChildProcessError as why:
-            raise Refusal(f"on this machine {why}", MISSING) from None
+        files = files_in(self.place, self.task)
+        contents = {name: content_of(Path(path)) for name, path in files.items()} if self.is_remote else {}
+        self.pack = Pack("", self.task, contents, files)  # in memory, so that no program has to run in the folder
+        self.pack.test()
+        if self.pack.fault:
+            raise Refusal(f"on this machine {self.pack.fault}", MISSING)
+        self.files, self.program = self.pack.files, self.pack.program
 
     def path(self, part: Part) -> Path:
         return self.place / "results" / part.digest
@@ -186,7 +182,7 @@ class Run:
         """Returns what the file of a part's results has, or b"" if that can't be a record. Refuses a folder there."""
         if self.path(part).is_dir():
             raise Refusal(f"{shown(self.folder / 'results' / part.digest)} is a folder: remove it")
-        return content_of(self.path(part), MOST_RECORD)
+        return content_of(self.path(part))
 
     def text(self, part: Part) -> bytes:
         """Returns the bytes of a part's lines, as they are in the folder's list."""

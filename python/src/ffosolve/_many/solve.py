@@ -6,7 +6,6 @@ if __name__ == "__main__" and signal.getsignal(signal.SIGINT) is signal.default_
 import functools
 import hashlib
 import json
-import math
 import os
 import re
 import subprocess
@@ -24,7 +23,7 @@ KNOWN_SECONDS = 30  # in which a machine has to solve it; that takes 0.01, but a
 GUARD = ("setpriv", "--pdeathsig", "KILL")  # before the path of a program, which is then killed when this process ends
 PASSED_ON = ("--max-empties", "--scoring", "--workers", "--table", "--book-in", "--complete")  # to the program
 MOST_BYTES = 1_048_576  # in a part; the programs take as many
-MOST_RECORD = MOST_BYTES << 7  # bytes of a part's record
+MOST_READ = MOST_BYTES << 9  # bytes of a file in a folder, if it is not the list
 # Of a line that a report does not leave out: its squares, if it has a position, and two letters if these follow.
 FRONT = re.compile(rb"^(?![ \t]*(?:%|\r?$))[ \t]*((?:[-.*xobw]{64}(?=[ \t]*[*xobw])(?:[ \t]*[a-z]{2})?)?)", re.M | re.I)
 
@@ -42,21 +41,21 @@ def sha256(content: bytes) -> str:
     return hashlib.sha256(content).hexdigest()
 
 
-def sealed(about: object, content: bytes) -> bytes:
-    """Returns a content after a line with a digest: the SHA-256 of what it is `about`, as JSON, and of the content."""
-    return sha256(json.dumps(about, sort_keys=True).encode() + content).encode() + b"\n" + content
+def sealed(about: str, content: bytes) -> bytes:
+    """Returns a content after a line with a digest: the SHA-256 of what it is `about` and of the content."""
+    return sha256(about.encode() + content).encode() + b"\n" + content
 
 
-def unsealed(about: object, text: bytes) -> bytes:
+def unsealed(about: str, text: bytes) -> bytes:
     """Returns the content in a text from `sealed`, or b"" if it is damaged or about something else."""
     content = text.partition(b"\n")[2]
     return content if text == sealed(about, content) else b""
 
 
 def parts_of(lines: Iterable[bytes], usual: int) -> Iterator[List[bytes]]:
-    """Cuts a list by what its lines are, so that a change moves hardly an end of a part beside it. A part has `usual`
-    lines on average, seven quarters of that at most, and MOST_BYTES at most. Of the lines that may be its last one, it
-    ends with that of the least checksum; but if the list ends before, with the list."""
+    """Cuts a list by what its lines are, so that few parts end elsewhere after a change. A part has at most 7/4 of the
+    `usual` number of lines, and MOST_BYTES. Of the lines that may be its last, the one of the least checksum is, unless
+    the list ends before."""
     found: List[bytes] = []
     size, most = 0, max(1, 7 * usual // 4)
     for line in lines:
@@ -94,14 +93,8 @@ def words_of(task: Task, book_in: Optional[str]) -> List[str]:
     return [name if given[name] == "" else f"{name}={given[name]}" for name in PASSED_ON if given[name] is not None]
 
 
-def record_of(digest: str, solved: Solved) -> bytes:
-    """Returns a record: the results of a part, sealed with what `digest_of` returns for it."""
-    head = b"%d %d %.3f\n" % (solved.status, len(solved.output), solved.seconds)
-    return sealed(digest, head + solved.output + solved.book)
-
-
 def read_record(digest: str, record: bytes) -> Optional[Solved]:
-    """Returns the results in a record, or None if it is damaged or of another part. `digest`: see `record_of`."""
+    """Returns the results in a record from `solve`, or None if it is damaged or of a part with another `digest_of`."""
     head, _, results = unsealed(digest, record).partition(b"\n")
     if not head:
         return None
@@ -122,7 +115,7 @@ def unnamed(content: bytes) -> BinaryIO:
 def solve(task: Task, files: Files, program: str, text: bytes,
           is_wanted: Callable[[], bool] = lambda: True) -> Tuple[bytes, str]:
     """Solves the lines `text` of a part with the program of that path, and kills it once `is_wanted` returns false.
-    Returns (record, "") or, if the program fails, (b"", the reason)."""
+    Returns (record, "") or, if the program fails, (b"", the reason). A record has the results under their digest."""
     # The program writes its book to the pipe of standard error, so that it needs no room on a disk.
     has_book = task["options"]["--scores"] is None
     words = [program, *words_of(task, files.get("book-in")), *["--book-out=/dev/stderr"] * has_book]
@@ -148,8 +141,8 @@ def solve(task: Task, files: Files, program: str, text: bytes,
         said = re.sub(rb"^(% ffobook|[XO-]{64}) .*\n", b"", errors, flags=re.MULTILINE).decode(errors="replace").strip()
         return b"", without_folder((said or name).splitlines()[0])
     book = errors[max(0, errors.find(b"% ffobook ")):] if has_book else b""
-    digest = digest_of(task["options"], text)
-    return record_of(digest, Solved(status, output, book, time.monotonic() - start)), ""
+    head = b"%d %d %.3f\n" % (status, len(output), time.monotonic() - start)
+    return sealed(digest_of(task["options"], text), head + output + book), ""
 
 
 def fit_program(task: Task, files: Files) -> str:
@@ -195,16 +188,16 @@ class Pack:
         worker, record, why = get_worker(), b"", ""
         name = worker.address, worker.local_directory
         key, tasks = worker.get_current_task(), getattr(worker, "state", worker).tasks
-        self.test()
         try:
+            self.test()
             if not self.fault:
                 worker.log_event(topic, name)
                 record, why = solve(self.task, self.files, self.program, text,
                                     lambda: getattr(tasks.get(key), "state", None) == "executing")
-        except Exception as fault:
+            if why:
+                self.test(is_due=True)
+        except Exception as fault:  # such as a lack of memory
             self.fault = repr(fault)
-        if why:
-            self.test(is_due=True)
         return name, self.fault, record, why
 
     def test(self, is_due: bool = False) -> None:
@@ -220,14 +213,12 @@ class Pack:
                 self.program = fit_program(self.task, self.files)
             except OSError as fault:
                 self.fault = str(fault)
-            except Exception as fault:
-                self.fault = repr(fault)
 
 
-def content_of(path: Path, most: float = math.inf) -> bytes:
-    """Returns what a regular file has, or b"" if there is none, or it has more than `most` bytes."""
+def content_of(path: Path) -> bytes:
+    """Returns what a regular file has, or b"" if there is none, or one of more than MOST_READ bytes."""
     try:
-        return path.read_bytes() if path.is_file() and path.stat().st_size <= most else b""
+        return path.read_bytes() if path.is_file() and path.stat().st_size < MOST_READ else b""
     except OSError:
         return b""
 
@@ -271,7 +262,7 @@ def solve_into(folder: Path, mode: int, task: Task, files: Files, program: str, 
     path = folder / digest
     new = f"{path}.{os.urandom(4).hex()}.new"
     try:
-        if path.is_file() and path.stat().st_size < MOST_RECORD and read_record(digest, path.read_bytes()):
+        if path.is_file() and path.stat().st_size < MOST_READ and read_record(digest, path.read_bytes()):
             return ""
         with open(os.open(new, os.O_WRONLY | os.O_CREAT | os.O_EXCL, 0o600), "wb") as file:
             os.posix_fallocate(file.fileno(), 0, 4 * len(text) + 1000)
