@@ -14,7 +14,7 @@ import pytest
 
 from bench import player
 from tests.games import NAMES, PROGRAM, book_of, discs_of_black, games, positions_of, random_games, record, wthor
-from tests.support import NOBODY, ROOT, SECONDS, built, limited, run, stored, wait_until, write
+from tests.support import NOBODY, ROOT, SECONDS, built, limited, run, stored, unshared, wait_until, write
 from ffosolve import ReadingWarning, read_games
 from ffosolve._games import corrected
 
@@ -508,6 +508,10 @@ def test_scores_are_not_taken_from_a_folder_that_others_own_or_may_write():
     refused(*CHECK, "--fix=new.wtb", why="other users may write it.wtb.check: name another folder, or type "
                                          "chmod go-w it.wtb.check")
     os.chmod("it.wtb.check", 0o755)
+    unshare, *words = unshared()
+    mount = 'mount --bind . . && mount -o remount,bind,ro . && cd "$PWD" && ! echo >new && exec "$@"'
+    ran = run(unshare, *words, "sh", "-c", mount, "sh", sys.executable, PROGRAM, *CHECK, text=True)
+    assert (ran.returncode, ran.stdout) == (1, both() + counts()), ran.stderr  # on a disk that may only be read
     if NOBODY:
         os.chown("it.wtb.check", NOBODY["user"], -1)
         refused(*CHECK, "--fix=new.wtb", why="it.wtb.check belongs to another user: name another folder")
@@ -533,6 +537,8 @@ OPTIONS = ("--jobs=x", "--scheduler=h1:8786", "--cut", "--quiet", "--workers=2",
     (("--folder", "a", "22.wtb"), "--max-empties=60 --lines=10", "a"),
     (("--max-empties=21", "22.wtb", "--lines=20", "--quiet"), "--max-empties=60 --lines=20 --quiet", "it.wtb.check"),
     (OPTIONS, " ".join(("--max-empties=60 --lines=10", *OPTIONS)), "it.wtb.check"),
+    (("./it.wtb",), "--max-empties=60 --lines=10", "./it.wtb.check"),  # two names of one folder
+    (("--max-empties=22", "22.wtb"), "--max-empties=60 --lines=10 --cut", "22.wtb.check"),  # the first of two
 ))
 def test_ffosolve_many_gets_the_options(alone, words, given, folder_named):
     write("22.wtb", wthor([record(PLAYED[0])], empties=22))

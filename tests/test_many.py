@@ -109,6 +109,11 @@ def test_cut_parts_are_solved_by_a_command_that_needs_only_python(case):
         ends((1, "", error), *command, *words)
     ends((0, "", ""), *command, "8-99", "5")
     ends((0, "10 parts, 10 of them solved\n", ""), *cut)
+    run(case.MANY, "--cut", "--lines=3", *WORDS[1:])
+    ends((0, "", ""), sys.executable, "work/solve.py", *range(0, 20, 2))
+    others = "1 3 5 7 9 11 13 15 17 19"
+    wanted = f"20 parts, 10 of them solved; python3 work/solve.py {others} solves the others\n"
+    ends((0, wanted, ""), case.MANY, "--cut", "--lines=3", *WORDS[1:])
     case.many("--lines=6", *WORDS[1:], message="in 10 parts, 10 of them solved before")
 
 
@@ -123,6 +128,8 @@ def test_a_book_goes_through_a_link_or_into_a_pipe_and_a_file_keeps_its_permissi
     case.many(*WORDS[:-1], "pipe")
     assert Path("pipe").is_fifo()
     assert reader.communicate(timeout=SECONDS)[0] == Path("one.book").read_bytes()
+    case.many("-c", '"$0" work list.obf --book-out >(cat >through)', case.MANY, by="bash")
+    wait_until(lambda: Path("through").read_bytes() == Path("one.book").read_bytes())
     case.folder.chmod(0o777)
     ends((0, None, b""), case.MANY, "--quiet", *WORDS[:-1], os.devnull, stdout=subprocess.DEVNULL, **NOBODY)
 
@@ -158,6 +165,9 @@ def test_progress_rises_in_a_log_and_on_a_terminal(case):
         assert (counts, is_one_line) == (sorted(counts), place == "terminal")
         assert len(set(counts)) > 2 and "%, 0:00:0" in lines, lines
     assert case.many("--quiet", "--lines=6", "list.obf", by=by, places={"PAUSE": "0.3"}) == ""
+    ran = run("script", "/dev/null", "-qec", f"'{by}' --jobs=2 --lines=6 both list.obf", env={
+        **os.environ, "PAUSE": "0.3", "SHELL": "/bin/sh"})  # the report takes the place of the progress
+    assert b" at work, parts " in ran.stdout and re.search(rb"\r\x1b\[K\[1\]\r\n1 ", ran.stdout)
 
 
 def test_output_that_fails_is_reported_and_closed_or_full_errors_do_no_harm(case):
@@ -173,11 +183,14 @@ def test_output_that_fails_is_reported_and_closed_or_full_errors_do_no_harm(case
     assert {os.readlink(f"/proc/{ran.pid}/fd/{number}") for number in (0, 2)} == {os.devnull}
 
 
-@pytest.mark.parametrize("count, limits, who", [("2. of 300", {"RLIMIT_NOFILE": 256}, {}),
-                                                ("[0-9]+ of 900", {"RLIMIT_NPROC": 400}, NOBODY)])
-def test_jobs_are_limited_by_the_files_and_processes_that_there_may_be(case, count, limits, who):
+@pytest.mark.parametrize("count, workers, limits, who", [
+    ("2. of 300", 0, {"RLIMIT_NOFILE": 256}, {}), ("[0-9]+ of 900", 0, {"RLIMIT_NPROC": 400}, NOBODY),
+    ("[1-3]?[0-9] of 900", 8, {"RLIMIT_NPROC": 400}, NOBODY)])
+def test_jobs_are_limited_by_the_files_and_processes_that_there_may_be(case, count, workers, limits, who):
+    """With eight extra threads for each part, at most 40 parts at a time have ten threads each."""
     case.folder.chmod(0o777)
-    told = case.many("--jobs", count[-3:], "--lines=1", *WORDS[1:], preexec_fn=limited(**limits), **who)
+    told = case.many("--jobs", count[-3:], "--lines=1", *WORDS[1:], "--workers", workers,
+                     preexec_fn=limited(**limits), **who)
     assert re.search(f": {count} jobs work at a time, since no more files or processes are allowed", told)
     assert "failed" not in told
 
@@ -349,6 +362,9 @@ def test_books_that_cannot_be_merged_are_named(case):
     first, lying = ROOT / "examples/first.book", ROOT / "examples/lying.book"
     case.refused(3, f"{first} line 2 and {lying} line 2 disagree: -XOOOOO-", "--merge-books", first, lying)
     header, *entries = Path("one.book").read_bytes().splitlines(keepends=True)
+    at, several = next((at, entry) for at, entry in enumerate(entries, 2) if entry.count(b":") > 1)
+    write("fewer.book", header + several[:several.rindex(b" ")] + b"\n")  # without the last of its best moves
+    case.refused(3, f"one.book line {at} and fewer.book line 2 disagree: ", "--merge-books", "one.book", "fewer.book")
     for text, message in ((entries[1] + entries[0], "3: not in order"), (entries[0] * 2, "3: not in order"),
                           (b"?\n", "2: bad square at column 1"), (entries[0][:66] + b"\n", "2: no moves"),
                           (entries[0].replace(b" X;", b" O;"), "2: not canonical"),
@@ -394,7 +410,7 @@ def progress(weights, lines=1):
     one.statuses, one.count = {}, len(weights) * lines
     one.parts = [folder.Part(number, 0, 0, 1 + number * lines, lines, 0, f"of {number}", weight)
                  for number, weight in enumerate(weights)]
-    return engine.Progress(one, types.SimpleNamespace(running={}, trouble=""))
+    return engine.Progress(one, types.SimpleNamespace(running={}, trouble="", silent=0))
 
 
 def at_work(one, hosts, ended={}):
@@ -448,6 +464,9 @@ LOST = [(0, {}, {0: "h1", 1: "h2"}), (100, {0: 100}, {1: "h2", 2: "h1"}), (190, 
     (4 * [1], 1, LOST, "25%, no machine at work, parts 1 of 4"),
     (4 * [1], 3, [*LOST[:1], (720, {}, LOST[0][2])],
      "0%, 2 machines at work, parts 0 of 4; part 0000000 (lines 1 to 3) has been running for 0:12:00 on h1"),
+    (4 * [1], 3, [*LOST[:1], (720, {0: 720}, LOST[0][2])],  # part 0 has been solved since it was seen at work
+     "25%, 0:36:00 left, 2 machines at work, parts 1 of 4; part 0000001 (lines 4 to 6) has been running for 0:12:00 on "
+     "h2"),
     (1200 * [1], 200, [(0, {}, {659: "h1"}), (55.4, dict.fromkeys(range(659), 55.4), {659: "h1"})],
      "54%, 8:18:36 left, 1 machine at work, parts 659 of 1200"),
 ])
@@ -456,6 +475,8 @@ def test_progress_shows_the_time_left_the_machines_and_a_part_that_runs_long(clo
     for clock.now, ended, hosts in times:
         at_work(one, hosts, ended)
     assert one.text() == text
+    one.engine.silent = 2
+    assert re.search(" at work, waiting for 2 silent workers, parts ", one.text())
     one.engine.trouble = "silence"
     assert re.search("^[0-9]+%, silence, parts ", one.text())
 
@@ -469,9 +490,26 @@ def test_a_part_that_has_failed_twice_is_tried_once_more_after_all_others_alone(
         done.set_result((part, *((types.SimpleNamespace(seconds=1), "") if part.number else (None, "why")), ["h1"]))
         return done
 
-    made = types.SimpleNamespace(tries=3, trouble="", running={}, look=lambda: None, most=most, send=send)
+    made = types.SimpleNamespace(tries=3, trouble="", silent=0, running={}, look=lambda: None, most=most, send=send)
     engine.solve_parts(run, made, quiet=True)
     assert sent == [(0, False), (0, False), (1, False), (2, False), (3, False), (0, True)]
+
+
+def test_trouble_is_told_at_once_in_a_log_and_again_after_a_minute(clock, monkeypatch):
+    run, done, told, times = progress([1]).run, Future(), [], iter((5, 10, 30, 66, 70, 200))
+
+    def look():
+        clock.now = next(times)
+        made.trouble = "silence" * (clock.now >= 10)
+        if clock.now == 200:
+            done.set_result((run.parts[0], types.SimpleNamespace(seconds=1), "", ["h1"]))
+
+    made = types.SimpleNamespace(tries=3, trouble="", silent=0, running={}, look=look, most=mock.Mock(return_value=1),
+                                 send=lambda *_: done)
+    monkeypatch.setattr(os, "isatty", lambda _: False)
+    monkeypatch.setattr(engine, "say", lambda text: told.append((clock.now, "silence" in text)))
+    engine.solve_parts(run, made, quiet=False)
+    assert told == [(10, True), (70, True)]
 
 
 def test_work_grows_with_the_empty_squares_of_both_spellings():

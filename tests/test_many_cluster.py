@@ -10,6 +10,8 @@ import shutil
 import signal
 import socket
 import sys
+import time
+from concurrent.futures import Future
 from pathlib import Path
 from unittest import mock
 
@@ -20,7 +22,7 @@ from ffosolve._command_line import Refusal
 from ffosolve._many import solve
 from tests import many
 from tests.many import ACTING, INTERRUPTED
-from tests.support import SECONDS, limited, need, processes_in, run, stored, wait_until, write
+from tests.support import SECONDS, limited, need, processes_in, run, stored, unshared, wait_until, write
 
 WORDS = ("--lines=4", "--book-in=one.book", *many.WORDS[1:])  # 15 parts
 # A server of Dask's that prints its address, and never answers what it is.
@@ -220,6 +222,63 @@ def test_a_worker_that_fails_three_parts_in_a_row_is_left_out_but_not_the_last_o
     assert told.count("failed part 0000000 ") == 3
 
 
+def test_a_worker_whose_program_breaks_is_left_out_and_fails_no_part(cluster, case):
+    broken = "lambda text: sys.exit('broken') if os.path.exists('broken') else text"
+    cluster.start_workers("worker1", PAUSE="0.5", SPOIL=broken, SPOIL_KNOWN=broken)
+    cluster.start_workers("worker2", PAUSE="1")
+    ran = cluster.begin(solved=2)
+    write("broken", "")
+    told = cluster.ended(ran)
+    why = " is left out: the program can't solve a known line: broken\n"
+    assert (told.count(why), " failed " in told) == (1, False)
+
+
+@pytest.mark.parametrize("fault", ["del os.memfd_create", "os.memfd_create = [].index"])
+def test_a_worker_on_which_this_code_raises_an_error_is_left_out_and_one_without_files_in_memory_is_not(cluster, fault):
+    write("lib/sitecustomize.py", f"import os\n{fault}\n")
+    cluster.start_workers("worker1", PYTHONPATH=f"{cluster.case.folder}/lib", PAUSE="0.2")
+    cluster.start_workers("worker2", PAUSE="0.4")
+    told = cluster.ended(cluster.begin())
+    assert (" failed " in told, told.count(" is left out: ValueError(")) == (False, "del" not in fault)
+
+
+@pytest.mark.parametrize("allowed", ["0", "3"])
+def test_a_machine_whose_workers_end_before_they_solve_a_known_line_is_named_and_no_part_fails(cluster, allowed):
+    """All are on one machine, but the other worker has solved one."""
+    cluster.signal(signal.SIGKILL, "scheduler")
+    cluster.start_scheduler(DASK_DISTRIBUTED__SCHEDULER__ALLOWED_FAILURES=allowed)
+    cluster.start_workers("worker1", PAUSE="2")
+    ran = cluster.begin(solved=1)
+    cluster.start_workers("worker2", SPOIL_KNOWN="lambda text: os.kill(os.getppid(), 9)")
+    told = cluster.ended(ran)
+    assert (" failed " in told, " memory " in told) == (False, False)
+    named = told.count("127.0.0.1 is left out: 4 workers ended before they had solved a known line")
+    assert named == 1 if allowed == "0" else named <= 1  # otherwise, it may be chance that parts end elsewhere
+
+
+def test_another_version_of_dask_is_refused_at_the_start_by_both_versions(cluster, case):
+    write("lib/sitecustomize.py", "import distributed\ndistributed.__version__ = '1.2.3'\n")
+    cluster.start_workers("worker1", PYTHONPATH=f"{case.folder}/lib")
+    words = ("--scheduler=scheduler.json", "work", "list.obf")
+    told = case.many(*words, status=3, message=": they have to be the same\n")
+    assert re.search(r" has distributed (\d\S+), its workers 1\.2\.3, \S+ \1: they", told)
+    cluster.start_workers("worker2")
+    wait_until(lambda: "Registered to" in Path("worker2.log").read_text())
+    cluster.signal(signal.SIGKILL, "scheduler", "worker1", "worker2")
+    cluster.start_scheduler(PYTHONPATH=f"{case.folder}/lib")
+    told = case.many(*words, status=3, message=" has distributed 1.2.3, its workers none, ")
+
+
+def test_a_folder_where_no_program_may_run_is_fine_and_a_finished_one_needs_no_scheduler(cluster, case):
+    cluster.start_workers("worker1")
+    mount = ('mkdir work && mount -t tmpfs -o noexec,mode=755 none work && "$@" --scheduler=scheduler.json >report &&'
+             ' cmp report work.report && "$@" --scheduler=tcp://127.0.0.1:1')
+    write("work.report", case.one)
+    unshare, *words = unshared()
+    case.many(*words, "sh", "-c", mount, "sh", case.MANY, *WORDS, by=unshare, message=", 15 of them solved before")
+    cluster.leaves_nothing()
+
+
 def test_a_worker_that_fails_now_and_then_is_not_left_out(cluster, case):
     count = f"open('{case.folder}/count', 'a').write('.'), os.path.getsize('{case.folder}/count')"
     cluster.start_workers("worker1", SPOIL=f"lambda text: text[:-5] if ({count})[1] % 2 else text")
@@ -363,8 +422,9 @@ def test_a_worker_that_is_silent_or_not_fit_gets_no_part_and_the_only_pack_is_no
              for name in "abc"}
     about["b"]["last_seen"] = 69  # more than 30 seconds before the others
     one.client.scheduler.identity = mock.AsyncMock(return_value={"workers": about})
-    one.client.processing = mock.AsyncMock(return_value={"a": ["ffosolve-key-3-x"], "b": ["ffosolve-key-7-x"]})
-    one.unfit = {("c", "c")}
+    at_work = {"a": ["ffosolve-other-5-x", "ffosolve-key-3-x"], "b": ["ffosolve-key-7-x"]}  # one part of another run
+    one.client.processing = mock.AsyncMock(return_value=at_work)
+    one.unfit, begun = {("c", "c")}, set()
     for holders in ("b", "bc", "ab"):
         one.pack = pack = mock.Mock(key="pack", status="finished")
         one.client.who_has = mock.AsyncMock(return_value={"pack": [*holders]})
@@ -372,6 +432,49 @@ def test_a_worker_that_is_silent_or_not_fit_gets_no_part_and_the_only_pack_is_no
         assert (one.workers, one.count, one.threads, {*one.running}) == ({("a", "a"): 2}, 3, 2, {3, 7})
         assert (one.held, one.kept) == ({"ffosolve-key-3-x"}, {"ffosolve-key-7-x"})
         assert (one.silent, one.pack is pack) == (1, holders != "b")
+        begun.add(one.running[3])
+    assert len(begun) == 1  # a part goes on
+
+
+def test_a_worker_that_begins_none_of_its_parts_is_stuck_and_named(one, monkeypatch):
+    """Its parts are for others, until it begins one. The others have no parts, or are at work, or have brief parts."""
+    clock = mock.Mock(return_value=0.0)
+    monkeypatch.setattr("time.monotonic", clock)
+    about = {name: {"local_directory": name, "nthreads": 1, "host": "h1", "last_seen": 0} for name in "abcd"}
+    one.client.scheduler.identity = mock.AsyncMock(return_value={"workers": about})
+    for second in range(0, 60, 5):
+        clock.return_value = second
+        for name, count in (("a", second > 50), ("b", 0), ("c", 1), ("d", 0)):
+            about[name].update(last_seen=second, metrics={"task_counts": {"executing": int(count)}})
+        one.client.processing = mock.AsyncMock(return_value={
+            "a": ["ffosolve-key-1-x"], "c": ["ffosolve-key-2-x"], "d": [f"ffosolve-key-{second}-x"]})
+        asyncio.run(one.ask())
+        assert (("a", "a") in one.workers) == ("ffosolve-key-1-x" in one.held) == (not 30 < second <= 50)
+        assert ("ffosolve-key-1-x" in one.kept) == (30 < second <= 50) and {("b", "b"), ("c", "c")} < one.workers.keys()
+    assert [call[0][0] for call in one.said.call_args_list] == [
+        "a is left out: it begins no part: is its memory too small for the program and any --book-in?"]
+
+
+def test_a_question_that_fails_is_asked_again_and_the_seconds_in_which_this_process_is_stopped_do_not_count(
+        one, monkeypatch):
+    """A scheduler that answers no question is lost after 30 seconds."""
+    clock = mock.Mock(return_value=time.monotonic())
+    monkeypatch.setattr("time.monotonic", clock)
+    one.asked, one.ask, one.in_dask = Future(), mock.Mock(), mock.Mock(return_value=Future())
+    one.asked.set_exception(OSError("Timed out"))
+    one.look()
+    assert one.in_dask.call_count == 1
+    for stopped in (0, 60, 600):
+        clock.return_value += stopped
+        one.look()
+        assert one.trouble == ""
+    for second in range(1, 31):
+        clock.return_value += 1
+        one.look()
+        assert one.trouble == (f"the scheduler has been silent for {second} s" if second > 5 else "")
+    clock.return_value += 1
+    with pytest.raises(Refusal, match="^the scheduler tcp://h1:1 is lost; the same command goes on "):
+        one.look()
 
 
 @pytest.mark.parametrize("workers, count, most, alone", [("", 0, 100, 1), ("", 2, 0, 0), ("ab", 2, 104, 1),
@@ -437,6 +540,8 @@ def test_workers_that_end_with_the_program_and_a_book_alone_end_the_run(one):
     one.answer.side_effect = distributed.KilledWorker("ffosolve-key-7-x", worker, 3)
     ended = asyncio.run(one.solve(part, []))
     assert ended == (part, None, "4 workers ended that had it", 2 * ["tcp://h1:1"])
+    one.answer.side_effect = ValueError("Dask can't run it\nat all")
+    assert asyncio.run(one.solve(part, [])) == (part, None, "Dask can't run it", ["a worker"])
 
 
 @pytest.mark.parametrize("allowed, count", [(0, 4), (1, 2), (3, 1), (9, 1)])

@@ -246,8 +246,7 @@ def test_options_that_change_results_keep_theirs_beside_and_others_change_nothin
         for before in (0, 3):
             case.many("--scores", *words, *WORDS[:3], output=scores, message=f", {before} of them solved before")
     case.write_list(case.SMALL)
-    for words in (("--book-in=one.book",), ("--book-in=other.book",), ("--table=9", "--workers=1", "--jobs=3"), (),
-                  ("--scheduler=tcp://127.0.0.1:1",)):
+    for words in (("--book-in=one.book",), ("--book-in=other.book",), ("--table=9", "--workers=1", "--jobs=3"), ()):
         case.many(*WORDS, *words, message=", 3 of them solved before")
     case.many("--lines=6", *WORDS[1:], message=" in 10 parts, 0 of them solved before")
     case.many(*WORDS, message=" in 3 parts, 3 of them solved before")
@@ -597,10 +596,12 @@ def test_as_many_parts_are_solved_at_once_as_there_are_jobs_by_default_one_for_e
 
 
 def test_signals_that_the_caller_ignores_do_not_end_the_run_such_as_that_of_a_terminal_that_closes_after_nohup(case):
-    ran = begin(case, "sh", "-c", 'trap "" INT; exec nohup "$@"', "sh", case.ACTS)
-    wait_until(lambda: case.parts_solved() > 0)
-    output, _ = end(case, ran, signal.SIGINT, signal.SIGHUP)
-    assert (output, ran.returncode) == (case.one, 0)
+    for number in (signal.SIGKILL, signal.SIGTERM):  # the former ends the programs, too
+        ran = begin(case, "sh", "-c", 'trap "" INT TERM; exec nohup "$@"', "sh", case.ACTS)
+        wait_until(lambda: programs(case))
+        output, _ = end(case, ran, signal.SIGINT, signal.SIGHUP, number)
+        wanted = (b"", -number) if number == signal.SIGKILL else (case.one, 0)
+        assert (output, ran.returncode) == wanted
 
 
 def test_control_c_on_a_terminal_is_no_signal_for_the_programs_and_they_end_first_if_memory_is_short(case):
