@@ -408,7 +408,7 @@ def progress(weights, lines=1):
     """Returns an engine.Progress (what is left to do) for parts with these weights, each of `lines` lines."""
     one = folder.Run.__new__(folder.Run)
     one.statuses, one.count = {}, len(weights) * lines
-    one.parts = [folder.Part(number, 0, 0, 1 + number * lines, lines, 0, f"of {number}", weight)
+    one.parts = [folder.Part(number, 0, 0, 1 + number * lines, lines, 0, 0, f"of {number}", weight)
                  for number, weight in enumerate(weights)]
     return engine.Progress(one, types.SimpleNamespace(running={}, trouble="", silent=0))
 

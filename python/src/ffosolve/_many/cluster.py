@@ -186,8 +186,8 @@ class Cluster:
                                            allow_other_workers=bool(some))
         key = f"{self.key}-{part.number}-{os.urandom(4).hex()}"
         # A part that has failed is urgent, since it may show which worker is to blame.
-        task = self.client.submit(toolz.apply, self.pack, self.key, self.run.text(part), key=key, workers=some,
-                                  priority=len(failed))
+        task = self.client.submit(toolz.apply, self.pack, self.key, self.run.text(part), part.most, key=key,
+                                  workers=some, priority=len(failed))
         return task, workers if some else None, self.pack
 
     def is_in_hand(self, sent: Sent, failed: List[str]) -> bool:

@@ -30,7 +30,8 @@ def weight_of(empties: List[int], most: int) -> float:
 
 class Part(NamedTuple):
     """A part of a list: its number, from 0; its offset and its size in bytes; the number of its first line, from 1, and
-    how many lines it has; how many the program prints for them; their `digest_of`; and the expected work."""
+    how many lines it has; how many the program prints for them; the greatest number of empty squares in them; their
+    `digest_of`; and the expected work."""
 
     number: int
     start: int
@@ -38,6 +39,7 @@ class Part(NamedTuple):
     first: int
     lines: int
     printed: int
+    most: int
     digest: str
     weight: float
 
@@ -54,11 +56,10 @@ def cut(file: BinaryIO, name: str, task: Task) -> Iterator[Part]:
         if not is_warned and max(map(len, fronts), default=0) > 64 and (side := SIDE.search(text)):
             say(f"{name} line {first + text[:side.start()].count(10)}: {side_as_read(side[1])}")
             is_warned = True
-        empties = empties_of(fronts)
+        empties = empties_of(fronts) or [0]
         printed = len(fronts) + 2 if options["--scores"] is None else len(lines)
-        digest = digest_of(options, text, max(empties, default=0))
-        yield Part(number, start, len(text), first, len(lines), printed, digest,
-                   weight_of(empties, int(options["--max-empties"])))
+        yield Part(number, start, len(text), first, len(lines), printed, max(empties),
+                   digest_of(options, text, max(empties)), weight_of(empties, int(options["--max-empties"])))
         start, first = start + len(text), first + len(lines)
 
 
@@ -217,7 +218,7 @@ class Run:
 
     def solve(self, part: Part) -> Tuple[Optional[Solved], str]:
         """Solves a part on this machine. Returns its results, or None and the reason; then a known line is tested."""
-        found, why = self.keep(part, *solve.solve(self.task, self.files, self.program, self.text(part)))
+        found, why = self.keep(part, *solve.solve(self.task, self.files, self.program, self.text(part), part.most))
         if not found:
             self.test()
         return found, why

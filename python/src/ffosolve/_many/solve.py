@@ -25,7 +25,9 @@ PASSED_ON = ("--max-empties", "--scoring", "--workers", "--table", "--book-in", 
 MOST_BYTES = 1_048_576  # in a part; the programs take as many
 MOST_READ = MOST_BYTES << 9  # bytes of a file in a folder, if it is not the list
 # Of a line that a report does not leave out: its squares, if it has a position, and two letters if these follow.
-FRONT = re.compile(rb"^(?![ \t]*(?:%|\r?$))[ \t]*((?:[-.*xobw]{64}(?=[ \t]*[*xobw])(?:[ \t]*[a-z]{2})?)?)", re.M | re.I)
+LETTER = b"*XxOoBbWw"  # of a disc or of a side; without regard to case, the pattern would take twice as long
+FRONT = re.compile(rb"^(?![ \t]*(?:%%|\r?$))[ \t]*((?:[-.%b]{64}(?=[ \t]*[%b])(?:[ \t]*[A-Za-z]{2})?)?)"
+                   % (LETTER, LETTER), re.M)
 
 # What a run's file `task` has. "options": {option that decides the results: value}, "" for an option without value and
 # None for one that is not given; "speed", the like for other options; "lines", how many a part has on average; "parts",
@@ -57,16 +59,17 @@ def parts_of(lines: Iterable[bytes], usual: int) -> Iterator[List[bytes]]:
     `usual` number of lines, and MOST_BYTES. Of the lines that may be its last, the one of the least checksum is, unless
     the list ends before."""
     found: List[bytes] = []
+    sums: List[int] = []
     size, most = 0, max(1, 7 * usual // 4)
     for line in lines:
-        while found and (len(found) == most or size + len(line) > MOST_BYTES):
-            sums = [*map(zlib.crc32, found)]
-            end = len(sums) - sums[::-1].index(min(sums))
-            yield found[:end]
-            del found[:end]
-            size = sum(map(len, found))
-        found.append(line)
         size += len(line)
+        while found and (len(found) == most or size > MOST_BYTES):
+            sums += map(zlib.crc32, found[len(sums):])
+            end = len(sums) - sums[::-1].index(min(sums))
+            size -= sum(map(len, found[:end]))
+            yield found[:end]
+            del found[:end], sums[:end]
+        found.append(line)
     if found:
         yield found
 
@@ -77,7 +80,8 @@ def empties_of(fronts: List[bytes]) -> List[int]:
 
 def digest_of(options: Dict[str, Any], text: bytes, most: Optional[int] = None) -> str:
     """Returns what the results of lines are kept under: a SHA-256 of the lines and of the options that decide what is
-    printed. The limit of empty squares does so only if a line is refused for it: `most` is the greatest number."""
+    printed. Their limit of empty squares is one if the lines have a position with more: `most` is the greatest number,
+    which is found if it is not given."""
     most = max(empties_of(FRONT.findall(text)), default=0) if most is None else most
     limits = {} if most > int(options["--max-empties"]) else {"--max-empties": None}
     return sha256(json.dumps({**options, **limits}, sort_keys=True).encode() + text)
@@ -112,10 +116,11 @@ def unnamed(content: bytes) -> BinaryIO:
         return open(f"/proc/self/fd/{file.fileno()}", "rb")  # no program runs while its file may be written
 
 
-def solve(task: Task, files: Files, program: str, text: bytes,
+def solve(task: Task, files: Files, program: str, text: bytes, most: Optional[int] = None,
           is_wanted: Callable[[], bool] = lambda: True) -> Tuple[bytes, str]:
     """Solves the lines `text` of a part with the program of that path, and kills it once `is_wanted` returns false.
-    Returns (record, "") or, if the program fails, (b"", the reason). A record has the results under their digest."""
+    Returns (record, "") or, if the program fails, (b"", the reason). A record has the results under their digest. For
+    `most`, see `digest_of`."""
     # The program writes its book to the pipe of standard error, so that it needs no room on a disk.
     has_book = task["options"]["--scores"] is None
     words = [program, *words_of(task, files.get("book-in")), *["--book-out=/dev/stderr"] * has_book]
@@ -142,7 +147,7 @@ def solve(task: Task, files: Files, program: str, text: bytes,
         return b"", without_folder((said or name).splitlines()[0])
     book = errors[max(0, errors.find(b"% ffobook ")):] if has_book else b""
     head = b"%d %d %.3f\n" % (status, len(output), time.monotonic() - start)
-    return sealed(digest_of(task["options"], text), head + output + book), ""
+    return sealed(digest_of(task["options"], text, most), head + output + book), ""
 
 
 def fit_program(task: Task, files: Files) -> str:
@@ -154,7 +159,7 @@ def fit_program(task: Task, files: Files) -> str:
         if sha256(Path(program).read_bytes()) not in task["programs"].values():
             why = "is damaged"
             continue
-        record, fault = solve(task, files, program, KNOWN, lambda: time.monotonic() < end)
+        record, fault = solve(task, files, program, KNOWN, is_wanted=lambda: time.monotonic() < end)
         results = record.partition(b"\n")[2].partition(b"\n")[2].decode("latin-1")
         digest = digest_of(task["options"], KNOWN)
         if record and results == task["known"].setdefault(digest, results):
@@ -181,7 +186,7 @@ class Pack:
         names = {"source": self.source, "names": {"__name__": "ffosolve"}, "task": self.task, "contents": contents}
         return eval, ("exec(source, names) or names['Pack'](source, task, contents)", {}, names)
 
-    def __call__(self, topic: str, text: bytes) -> Tuple[Tuple[str, str], str, bytes, str]:
+    def __call__(self, topic: str, text: bytes, most: int) -> Tuple[Tuple[str, str], str, bytes, str]:
         """Solves a part until Dask takes it. Returns the worker (address, folder), its fault, and what `solve` does. If
         the worker solves KNOWN, first tells those who asked for the topic."""
         from distributed import get_worker
@@ -192,7 +197,7 @@ class Pack:
             self.test()
             if not self.fault:
                 worker.log_event(topic, name)
-                record, why = solve(self.task, self.files, self.program, text,
+                record, why = solve(self.task, self.files, self.program, text, most,
                                     lambda: getattr(tasks.get(key), "state", None) == "executing")
             if why:
                 self.test(is_due=True)
