@@ -22,8 +22,8 @@ KNOWN = b"-OXXXXX-XXXXXXXOXXXXXXXXXXXXXXXXXXXOXXXXXXXXXXXXXXXXXXXXXXXXXXXX X; H1
 KNOWN_SECONDS = 30  # in which a machine has to solve it; that takes 0.01, but a busy machine starts programs late
 GUARD = ("setpriv", "--pdeathsig", "KILL")  # before the path of a program, which is then killed when this process ends
 PASSED_ON = ("--max-empties", "--scoring", "--workers", "--table", "--book-in", "--complete")  # to the program
-MOST_BYTES = 1_048_576  # in a part; the programs take as many
-MOST_READ = MOST_BYTES << 9  # bytes of a file in a folder, if it is not the list
+PART_BYTES = 1_048_576  # in a part; the programs take as many
+MOST_READ = PART_BYTES << 9  # bytes of a file in a folder, if it is not the list
 # Of a line that a report does not leave out: its squares, if it has a position, and two letters if these follow.
 LETTER = b"*XxOoBbWw"  # of a disc or of a side; without regard to case, the pattern would take twice as long
 FRONT = re.compile(rb"^(?![ \t]*(?:%%|\r?$))[ \t]*((?:[-.%b]{64}(?=[ \t]*[%b])(?:[ \t]*[A-Za-z]{2})?)?)"
@@ -56,14 +56,14 @@ def unsealed(about: str, text: bytes) -> bytes:
 
 def parts_of(lines: Iterable[bytes], usual: int) -> Iterator[List[bytes]]:
     """Cuts a list by what its lines are, so that few parts end elsewhere after a change. A part has at most 7/4 of the
-    `usual` number of lines, and MOST_BYTES. Of the lines that may be its last, the one of the least checksum is, unless
+    `usual` number of lines, and PART_BYTES. Of the lines that may be its last, the one of the least checksum is, unless
     the list ends before."""
     found: List[bytes] = []
     sums: List[int] = []
     size, most = 0, max(1, 7 * usual // 4)
     for line in lines:
         size += len(line)
-        while found and (len(found) == most or size > MOST_BYTES):
+        while found and (len(found) == most or size > PART_BYTES):
             sums += map(zlib.crc32, found[len(sums):])
             end = len(sums) - sums[::-1].index(min(sums))
             size -= sum(map(len, found[:end]))
