@@ -11,10 +11,10 @@ from unittest import mock
 
 import pytest
 
-from ffosolve import _command_line
+from ffosolve import __version__, _command_line
 from ffosolve._many import books, engine, folder, solve
 from tests.many import ACTING, BOARD, WORDS, files
-from tests.support import (NOBODY, ROOT, SECONDS, cannot_write, ends, limited, positions, run, stored, wait_until,
+from tests.support import (NOBODY, ROOT, SECONDS, cannot_write, ends, limited, need, positions, run, stored, wait_until,
                            worked_rows, write)
 
 
@@ -312,6 +312,23 @@ def test_missing_or_wrong_programs_and_tools_are_named(case):
         case.refused(4, f"{name} is missing: it has to be next to ffosolve-many", *words, "list.obf", by=by)
     places = {"PATH": os.environ["PATH"].partition(":")[0]}  # which has only Python
     case.refused(4, "choom or setpriv is not on the path: apt-get install ", "work", "list.obf", places=places)
+
+
+@pytest.mark.parametrize("name", ["ffosolve-many", "ffosolve-games"])
+def test_debians_python_takes_the_place_of_one_that_is_too_old(name):
+    need("/usr/bin/python3")
+    code = ("import runpy, sys; sys.version_info, sys.executable = (3, 9), sys.argv[1]; del sys.argv[:2]; "
+            "runpy.run_path(sys.argv[0])")
+    for python, wanted in (("other", (0, f"{name} {__version__}\n", "")),
+                           ("/usr/bin/python3", (1, "", f"{name} needs Python 3.10 or later, and this is "))):
+        ran = run(sys.executable, "-c", code, python, ROOT / "bin" / name, "--version", text=True)
+        assert (ran.returncode, ran.stdout, ran.stderr[:len(wanted[2])]) == wanted
+
+
+def test_a_lack_of_memory_is_told_without_a_traceback(case):
+    for size in (20, 25, 30):
+        told = run(case.MANY, f"work{size}", "list.obf", preexec_fn=limited(RLIMIT_AS=size << 20)).stderr.decode()
+        assert "Traceback" not in told and re.search("^ffosolve-many: .*memory.*\n", told.splitlines(True)[-1])
 
 
 def test_output_onto_the_list_or_the_book_is_refused(case):

@@ -145,8 +145,7 @@ def test_files_that_are_damaged_or_missing_or_links_or_pipes_are_written_again_a
                       lambda path: (path.unlink(), path.symlink_to(case.folder / "other"))):
             for path in spoiled:
                 spoil(path)
-            solved, by = (2, case.ACTS) if record in spoiled else (3, case.MANY)  # by the program of the folder
-            case.many(*words, by=by, message=f"in 3 parts, {solved} of them solved before;")
+            case.many(*words, message=f"in 3 parts, {2 if record in spoiled else 3} of them solved before;")
             before[record] = files()[record] if record in spoiled else before[record]
             assert files() == before
     for task in (Path("work/task").read_bytes(), b""):
@@ -214,7 +213,6 @@ def test_a_list_may_change_and_only_the_parts_that_hold_the_change_are_solved(ca
     assert {*Path("work/results").iterdir()} == results | {Path("work/results/mine.txt")}
     for by, status in ((case.ACTS, 1), (case.MANY, 0)):
         case.write_list(case.SMALL + b"% FAIL\n")
-        Path("work/ffosolve-0").unlink()
         before = len(results)
         case.many("--prune", *WORDS, by=by, status=status)
     kept = {case.record(number) for number in range(len(os.listdir("work/results")) - 1)}
@@ -281,7 +279,6 @@ def test_only_the_parts_that_failed_are_solved_again(case):
             assert re.search(f": this machine failed {part}: {why}\n", errors)
         assert [case.record(number).exists() for number in range(count)].count(False) == 2
         assert not any(case.record(int(number)).exists() for _, number in failed) and not os.path.exists("joined.book")
-    Path("work", "ffosolve-0").unlink()
     case.many(*WORDS, message=f", {count - 2} of them solved before")
     case.many("--scores", "--lines=20", "work2", "list.obf", by=case.ACTS, status=3,
               message=f"not solved: 2 of {count} parts: ")
@@ -404,12 +401,9 @@ def test_copies_of_files_that_others_may_not_read_may_not_be_read_by_others(case
 
 
 def test_a_finished_folder_that_may_not_be_written_prints_its_report(case):
-    """A folder keeps its program, and a newer one is named."""
     case.many(*WORDS[:3])
     Path("work", folder.LOCK).unlink()
-    assert "program" not in case.many(*WORDS, message=", 3 of them solved before")
-    told = ", 3 of them solved before; folder work, with the program that it was begun with, not the present one\n"
-    case.many(*WORDS, by=case.ACTS, message=told)
+    case.many(*WORDS, message=", 3 of them solved before")
     write("work/solve.py", "of an earlier version")
     Path("work", folder.LOCK).unlink()
     case.folder.chmod(0o777)

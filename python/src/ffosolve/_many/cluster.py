@@ -66,8 +66,10 @@ def client_of(address: str) -> Any:
     async def kind_and_versions() -> Tuple[str, List[str]]:
         security = distributed.Security().get_connection_args("client")
         async with distributed.rpc(address, timeout=LOST_SECONDS, connection_args=security) as server:
-            kind, versions = str((await server.identity())["type"]), [await server.versions()]
-            with contextlib.suppress(Exception):  # this is a worker, or has one that does not answer
+            if (kind := str((await server.identity())["type"])) != "Scheduler":
+                return kind, [distributed.__version__]
+            versions = [await server.versions()]
+            with contextlib.suppress(Exception):  # a worker does not answer
                 told = server.broadcast(msg={"op": "versions"}, on_error="ignore")
                 versions += (await asyncio.wait_for(told, SILENT_SECONDS)).values()
             return kind, [about["packages"]["distributed"] for about in versions]
@@ -130,8 +132,8 @@ class Cluster:
         stuck = {name for name, about in workers.items() if about["last_seen"] < last - LOST_SECONDS
                  or self.is_stuck((name, about["local_directory"]), about, parts[name], now)}
         fit = {(name, about["local_directory"]) for name, about in workers.items() if name not in stuck} - self.unfit
-        self.workers = {worker: workers[worker[0]]["nthreads"] for worker in fit
-                        if worker in self.tested or self.ends[workers[worker[0]]["host"]] < MOST_ENDS}
+        good = {one for one in fit if one in self.tested or self.ends[workers[one[0]]["host"]] < MOST_ENDS}
+        self.workers = {worker: workers[worker[0]]["nthreads"] for worker in good or fit}
         self.count, self.threads = len(workers), sum(self.workers.values())
         self.held = {key for name, _ in self.workers for key in parts[name]}
         self.kept = {key for name in workers for key in parts[name]} - self.held
@@ -243,15 +245,15 @@ class Cluster:
         if end.task not in self.ended:  # otherwise, another part has waited for the same Pack
             self.ends[what] += end.allowed_failures + 1
         self.ended.add(end.task)
-        why = f"{self.ends[what]} workers ended"
-        if self.ends[what] < MOST_ENDS:
+        if (count := self.ends[what]) < MOST_ENDS:
             return "", []
         if what == part.digest:
             del self.ends[what]
-            return f"{why} that had it", 2 * [last.address]
-        if not is_part and not self.tested:
-            raise Refusal(f"{why} that had only the program and any --book-in: is their memory too small?")
-        self.leave_out((what, ""), f"{why} before they had solved a known line, the last one there")
+            return f"{count} workers ended that had it", 2 * [last.address]
+        why = f"{count} workers ended before they had solved a known line, the last one there"
+        if not self.tested:
+            raise Refusal(f"{what}: {why}: is its memory too small for the program and any --book-in?")
+        self.leave_out((what, ""), why)
         return "", []
 
     def counts(self, worker: Worker, part: str, is_solved: bool, has_failed: bool) -> bool:

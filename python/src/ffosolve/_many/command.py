@@ -226,9 +226,8 @@ def solve_list(command: argparse.Namespace, programs: str) -> int:
         return print_cut(run)
     parts = counted(len(run.parts), "part")
     if not command.quiet:
-        old = ", with the program that it was begun with, not the present one" if run.is_old else ""
         say(f"{run.name}: {counted(run.count, 'line')} in {parts}, {run.solved_count} of them solved before; folder "
-            f"{shown(run.folder)}{old}")
+            f"{shown(run.folder)}")
     if run.unsolved():
         jobs = command.jobs or len(os.sched_getaffinity(0))
         solve_parts(run, Cluster(command.scheduler, run) if command.scheduler else Threads(run, jobs), command.quiet)

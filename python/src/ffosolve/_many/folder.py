@@ -80,10 +80,6 @@ def renew(path: Path, content: bytes, mode: int = 0o666) -> None:
         store(path, [content], mode)
 
 
-def digests(files: Dict[str, bytes]) -> Dict[str, str]:
-    return {name: sha256(content) for name, content in files.items()}
-
-
 def inspect(folder: Path) -> None:
     """Refuses a folder that has files but no LOCK or task, or that another user, except root, owns or may write."""
     place = opened(folder)
@@ -115,12 +111,10 @@ def lock(folder: Path) -> Path:
 
 class Run:
     """A list, `source`, that is solved in a folder, in `parts`: see `cut`. `place` is the folder as `lock` returns it;
-    `statuses` has the program's status for the digest of each solved part. It `is_old` if another program is installed,
-    and `is_remote` if other machines solve it."""
+    `statuses` has the program's status for each solved part's digest. It `is_remote` if other machines solve it."""
 
     def __init__(self, folder: Path, task: Task, source: Path, name: str, is_remote: bool) -> None:
-        self.folder, self.task, self.source, self.name = folder, task, source, name
-        self.is_old, self.is_remote = False, is_remote
+        self.folder, self.task, self.source, self.name, self.is_remote = folder, task, source, name, is_remote
         self.statuses: Dict[str, int] = {}
         with refusing("read", name), source.open("rb") as file:
             self.parts = [*cut(file, name, task)]
@@ -132,8 +126,8 @@ class Run:
         --book-in, and `claims` its content."""
         with refusing("write", self.folder):
             self.place = lock(self.folder)
-            before = read_task(self.place)
-            self.task.update(programs=before.get("programs", {}), known=before.get("known", {}))
+            known = read_task(self.place).get("known", {})
+            self.task.update(programs=[*map(sha256, programs)], known=known)
             for part in self.parts:
                 if part.digest not in self.statuses:
                     self.check(part, self.record(part))
@@ -143,8 +137,8 @@ class Run:
                 if self.unsolved():
                     raise
 
-    def keep_files(self, found: List[bytes], book: Optional[Path], claims: Optional[bytes]) -> None:
-        """Writes what solves the parts into the folder. It keeps its programs, unless they are damaged."""
+    def keep_files(self, programs: List[bytes], book: Optional[Path], claims: Optional[bytes]) -> None:
+        """Writes what solves the parts into the folder."""
         (self.place / "results").mkdir(0o755, exist_ok=True)
         path = self.place / "list"
         if not (path.is_file() and filecmp.cmp(path, self.source, shallow=False)):
@@ -153,16 +147,8 @@ class Run:
         if book and claims is not None:
             renew(self.place / "book-in", claims, book.stat().st_mode & 0o666)
         renew(self.place / "solve.py", Path(solve.__file__).read_bytes())
-        name = program_of(self.task)
-        kept = {path.name: content_of(path) for path in sorted(self.place.glob(f"{name}-?"))}
-        known = {key: digest for key, digest in self.task["programs"].items() if key.startswith(name)}
-        self.is_old = bool(known) and digests(kept) == known and [*kept.values()] != found
-        if not self.is_old:
-            kept = {f"{name}-{number}": content for number, content in enumerate(found)}
-        others = self.task["programs"].items() - known.items()
-        self.task["programs"] = {**dict(others), **digests(kept)}
-        for key, content in kept.items():
-            renew(self.place / key, content, 0o777)
+        for number, content in enumerate(programs):
+            renew(self.place / f"{program_of(self.task)}-{number}", content, 0o777)
         self.test()
         renew(self.place / "task", sealed(FORM, json.dumps(self.task, indent=1).encode()))
 
@@ -170,11 +156,12 @@ class Run:
         """Sets `files` and `program`, the path of one that works on this machine; refuses if none does."""
         files = files_in(self.place, self.task)
         contents = {name: content_of(Path(path)) for name, path in files.items()} if self.is_remote else {}
-        self.pack = Pack("", self.task, contents, files)  # in memory, so that no program has to run in the folder
-        self.pack.test()
-        if self.pack.fault:
-            raise Refusal(f"on this machine {self.pack.fault}", MISSING)
-        self.files, self.program = self.pack.files, self.pack.program
+        for self.pack in Pack("", self.task, {}, files), Pack("", self.task, contents, files):
+            self.pack.test()
+            if not self.pack.fault:  # the first one in the folder; in memory, if the folder may have no programs
+                self.files, self.program = self.pack.files, self.pack.program
+                return
+        raise Refusal(f"on this machine {self.pack.fault}", MISSING)
 
     def path(self, part: Part) -> Path:
         return self.place / "results" / part.digest

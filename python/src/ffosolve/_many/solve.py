@@ -31,7 +31,7 @@ FRONT = re.compile(rb"^(?![ \t]*(?:%%|\r?$))[ \t]*((?:[-.%b]{64}(?=[ \t]*[%b])(?
 
 # What a run's file `task` has. "options": {option that decides the results: value}, "" for an option without value and
 # None for one that is not given; "speed", the like for other options; "lines", how many a part has on average; "parts",
-# how many there are; "programs", {name: SHA-256}; "known", {digest of KNOWN: its results}.
+# how many there are; "programs", the SHA-256 of each; "known", {digest of KNOWN: its results}.
 Task = Dict[str, Any]
 Files = Dict[str, str]  # {name: path in this process} of a run's programs, ffosolve-0 and so on, and of any book-in
 
@@ -156,7 +156,7 @@ def fit_program(task: Task, files: Files) -> str:
     why = "is missing"
     for _, program in sorted(file for file in files.items() if file[0] != "book-in"):
         end = time.monotonic() + KNOWN_SECONDS
-        if sha256(Path(program).read_bytes()) not in task["programs"].values():
+        if sha256(Path(program).read_bytes()) not in task["programs"]:
             why = "is damaged"
             continue
         record, fault = solve(task, files, program, KNOWN, is_wanted=lambda: time.monotonic() < end)
