@@ -388,7 +388,7 @@ def one(monkeypatch):
             stack.enter_context(mock.patch(what))
         stack.enter_context(mock.patch.object(cluster.Cluster, "ask", mock.Mock()))
         stack.enter_context(mock.patch.object(cluster, "client_of", return_value=mock.Mock(status="running")))
-        one = cluster.Cluster("tcp://h1:1", mock.Mock(statuses={}, files={}, task={}))
+        one = cluster.Cluster("tcp://h1:1", mock.Mock(statuses={}, pack=solve.Pack("", {}, {})))
     one.workers, one.count, one.threads, one.key = {(name, name): 1 for name in "abc"}, 3, 3, "ffosolve-key"
     one.said = mock.Mock()
     monkeypatch.setattr(cluster, "say", one.said)

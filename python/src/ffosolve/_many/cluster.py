@@ -18,10 +18,9 @@ from typing import Any, Counter, DefaultDict, Dict, List, Optional, Sequence, Se
 
 from .._command_line import MISSING, Refusal, say
 from .._text import shown
-from . import solve
 from .engine import Outcome
 from .folder import Part, Run
-from .solve import Pack, content_of
+from .solve import content_of
 
 try:
     import dask
@@ -182,7 +181,7 @@ class Cluster:
         workers = self.chosen(failed)
         some = [*workers] if len(workers) < self.count else None
         if not self.pack or self.pack.status in ("cancelled", "error"):
-            make, words = Pack(Path(solve.__file__).read_text(), self.run.task, {}, self.run.files).__reduce__()
+            make, words = self.run.pack.__reduce__()
             # If all workers end, parts that wait in the scheduler's queue must not come before what they need.
             self.pack = self.client.submit(make, *words, pure=False, priority=self.tries, workers=some,
                                            allow_other_workers=bool(some))

@@ -17,7 +17,7 @@ from .._text import BOOK_HEADER, shown, typed
 from .books import book_of, merged
 from .engine import Threads, solve_parts
 from .folder import Run, inspect
-from .solve import GUARD, Task, opened, program_of, sha256, without_folder, words_of
+from .solve import GUARD, Task, opened, sha256, without_folder, words_of
 
 NAME = "ffosolve-many"
 NO_DISCS = b"-" * 64 + b" X;"  # refused with any options; the message has the limit of empty squares
@@ -115,7 +115,8 @@ def task_of(command: argparse.Namespace, claims: Optional[bytes]) -> Task:
                         "--scores": "" if command.scores else None, "--complete": "" if command.complete else None},
             # The parts keep all processors busy, so none of them needs more than one thread.
             "speed": {"--workers": command.workers or "0", "--table": command.table,
-                      "--book-in": None if claims is None else sha256(claims)}, "lines": command.lines or 1000}
+                      "--book-in": None if claims is None else sha256(claims)},
+            "program": "ffoscores" if command.scores else "ffosolve", "lines": command.lines or 1000}
 
 
 def builds_of(program: Path) -> List[bytes]:
@@ -198,7 +199,7 @@ def run_of(command: argparse.Namespace, programs: str) -> Run:
     book = regular(command.book_in) if command.book_in else None
     claims = book.read_bytes() if book else None
     task = task_of(command, claims)
-    program, words = Path(programs, program_of(task)), words_of(task, str(book) if book else None)
+    program, words = Path(programs, task["program"]), words_of(task, str(book) if book else None)
     task["options"]["--max-empties"] = limit_of(program, words)
     if command.book_out:
         check_book_out(program, command.book_out, path, *words)

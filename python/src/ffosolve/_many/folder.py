@@ -14,7 +14,7 @@ from .._command_line import MISSING, MISUSED, Refusal, lock_file, refusing, say
 from .._obf import SIDE, side_as_read
 from .._text import shown, text_lines, typed
 from .solve import (FORM, FRONT, Pack, Solved, Task, content_of, digest_of, empties_of, files_in, opened, parts_of,
-                    program_of, read_record, read_task, sealed, sha256)
+                    read_record, read_task, sealed, sha256)
 
 LOCK = "run.lock"
 GROWTH = 2.35  # factor of the work for each further empty square, as measured from 14 to 22 of them
@@ -148,20 +148,21 @@ class Run:
             renew(self.place / "book-in", claims, book.stat().st_mode & 0o666)
         renew(self.place / "solve.py", Path(solve.__file__).read_bytes())
         for number, content in enumerate(programs):
-            renew(self.place / f"{program_of(self.task)}-{number}", content, 0o777)
+            renew(self.place / f"{self.task['program']}-{number}", content, 0o777)
         self.test()
         renew(self.place / "task", sealed(FORM, json.dumps(self.task, indent=1).encode()))
 
     def test(self) -> None:
-        """Sets `files` and `program`, the path of one that works on this machine; refuses if none does."""
-        files = files_in(self.place, self.task)
-        contents = {name: content_of(Path(path)) for name, path in files.items()} if self.is_remote else {}
-        for self.pack in Pack("", self.task, {}, files), Pack("", self.task, contents, files):
+        """Sets `pack`, with a program that works on this machine: in the folder or, if this run `is_remote`, in memory.
+        Refuses if none does."""
+        source, files = Path(solve.__file__).read_text(), files_in(self.place, self.task)
+        self.pack = Pack(source, self.task, {}, files)
+        self.pack.test()
+        if self.pack.fault and self.is_remote:
+            self.pack = Pack(source, self.task, {name: content_of(Path(path)) for name, path in files.items()}, files)
             self.pack.test()
-            if not self.pack.fault:  # the first one in the folder; in memory, if the folder may have no programs
-                self.files, self.program = self.pack.files, self.pack.program
-                return
-        raise Refusal(f"on this machine {self.pack.fault}", MISSING)
+        if self.pack.fault:
+            raise Refusal(f"on this machine {self.pack.fault}", MISSING)
 
     def path(self, part: Part) -> Path:
         return self.place / "results" / part.digest
@@ -205,7 +206,8 @@ class Run:
 
     def solve(self, part: Part) -> Tuple[Optional[Solved], str]:
         """Solves a part on this machine. Returns its results, or None and the reason; then a known line is tested."""
-        found, why = self.keep(part, *solve.solve(self.task, self.files, self.program, self.text(part), part.most))
+        record = solve.solve(self.task, self.pack.files, self.pack.program, self.text(part), part.most)
+        found, why = self.keep(part, *record)
         if not found:
             self.test()
         return found, why

@@ -30,8 +30,8 @@ FRONT = re.compile(rb"^(?![ \t]*(?:%%|\r?$))[ \t]*((?:[-.%b]{64}(?=[ \t]*[%b])(?
                    % (LETTER, LETTER), re.M)
 
 # What a run's file `task` has. "options": {option that decides the results: value}, "" for an option without value and
-# None for one that is not given; "speed", the like for other options; "lines", how many a part has on average; "parts",
-# how many there are; "programs", the SHA-256 of each; "known", {digest of KNOWN: its results}.
+# None for one that is not given; "speed", the like for other options; "program", its name; "lines", how many a part has
+# on average; "parts", how many there are; "programs", the SHA-256 of each build; "known", {digest of KNOWN: results}.
 Task = Dict[str, Any]
 Files = Dict[str, str]  # {name: path in this process} of a run's programs, ffosolve-0 and so on, and of any book-in
 
@@ -85,10 +85,6 @@ def digest_of(options: Dict[str, Any], text: bytes, most: Optional[int] = None) 
     most = max(empties_of(FRONT.findall(text)), default=0) if most is None else most
     limits = {} if most > int(options["--max-empties"]) else {"--max-empties": None}
     return sha256(json.dumps({**options, **limits}, sort_keys=True).encode() + text)
-
-
-def program_of(task: Task) -> str:
-    return "ffosolve" if task["options"]["--scores"] is None else "ffoscores"
 
 
 def words_of(task: Task, book_in: Optional[str]) -> List[str]:
@@ -248,7 +244,7 @@ def without_folder(message: str) -> str:
 def files_in(place: Path, task: Task) -> Files:
     """Returns the programs and any book-in of a task in its folder, which is `opened`."""
     books = [place / "book-in"] if task["speed"]["--book-in"] else []
-    return {path.name: str(path) for path in [*place.glob(f"{program_of(task)}-?"), *books] if path.is_file()}
+    return {path.name: str(path) for path in [*place.glob(f"{task['program']}-?"), *books] if path.is_file()}
 
 
 def parts_in(words: List[str], count: int) -> Set[int]:
