@@ -29,7 +29,8 @@ class Progress:
 
     def running(self) -> List[Tuple[Part, str, float]]:
         """Returns the parts at work, longest first, each with its host and when it began."""
-        found = [(self.run.parts[number], host, start) for number, (host, start) in self.engine.running.items()]
+        at_work = [*self.engine.running.items()]  # a copy, since parts end meanwhile
+        found = [(self.run.parts[number], host, start) for number, (host, start) in at_work]
         return sorted([one for one in found if one[0].digest not in self.run.statuses], key=lambda one: one[2])
 
     def left(self) -> Optional[float]:
@@ -46,7 +47,7 @@ class Progress:
     def text(self) -> str:
         """Returns the line to show, with any trouble. It names the longest part, from LONG_SECONDS on."""
         run, running = self.run, self.running()
-        hosts, lines = {host for host, _ in self.engine.running.values()}, sum(part.lines for part in run.unsolved())
+        hosts, lines = {host for host, _ in [*self.engine.running.values()]}, sum(part.lines for part in run.unsolved())
         left = self.left() if hosts and not self.engine.trouble else None
         text = f"{100 * (run.count - lines) // run.count}%, "
         text += f"{timedelta(seconds=round(left))} left, " if left is not None else ""
