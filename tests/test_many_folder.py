@@ -218,6 +218,14 @@ def test_a_list_may_change_and_only_the_parts_that_hold_the_change_are_solved(ca
     kept = {case.record(number) for number in range(len(os.listdir("work/results")) - 1)}
     assert {*Path("work/results").iterdir()} == kept | {Path("work/results/mine.txt")} and len(kept) < before
     case.many(*WORDS, message=f", {len(kept)} of them solved before")
+    end = BOARD.replace(b"X", b"O", 1) + b" X;"
+    for text in (case.SMALL + end, case.SMALL + end + b" A1:+02;\n"):  # the former without an end of its last line
+        case.write_list(text)
+        case.many(*WORDS, message=", 2 of them solved before")
+    assert b" differ\n" in case.one
+    by = case.install("changing", ("folder", "store(path, file,", "store(path, [b'?' * 9999],"))  # while it is copied
+    case.many(WORDS[0], "changed", "list.obf", by=by, status=1, message="not solved: 3 of 3 parts")
+    case.many(WORDS[0], "changed", "list.obf", message=", 0 of them solved before")
 
 
 def test_equal_parts_are_solved_once(case):
