@@ -437,22 +437,25 @@ def test_a_worker_that_is_silent_or_not_fit_gets_no_part_and_the_only_pack_is_no
 
 
 def test_a_worker_that_begins_none_of_its_parts_is_stuck_and_named(one, monkeypatch):
-    """Its parts are for others, until it begins one. The others have no parts, or are at work, or have brief parts."""
+    """Its parts are for others, until it begins one. The others have no parts, or are at work, or have brief parts, or
+    wait for another Pack."""
     clock = mock.Mock(return_value=0.0)
     monkeypatch.setattr("time.monotonic", clock)
     about = {name: {"local_directory": name, "nthreads": 1, "host": "h1", "last_seen": 0} for name in "abcd"}
     one.client.scheduler.identity = mock.AsyncMock(return_value={"workers": about})
-    for second in range(0, 60, 5):
-        clock.return_value = second
-        for name, count in (("a", second > 50), ("b", 0), ("c", 1), ("d", 0)):
+    packs = mock.Mock(), mock.Mock()
+    for second in range(0, 150, 5):
+        clock.return_value, is_stuck = second, 90 < second <= 120
+        one.pack = packs[second >= 30]
+        for name, count in (("a", second > 120), ("b", 0), ("c", 1), ("d", 0)):
             about[name].update(last_seen=second, metrics={"task_counts": {"executing": int(count)}})
         one.client.processing = mock.AsyncMock(return_value={
             "a": ["ffosolve-key-1-x"], "c": ["ffosolve-key-2-x"], "d": [f"ffosolve-key-{second}-x"]})
         asyncio.run(one.ask())
-        assert (("a", "a") in one.workers) == ("ffosolve-key-1-x" in one.held) == (not 30 < second <= 50)
-        assert ("ffosolve-key-1-x" in one.kept) == (30 < second <= 50) and {("b", "b"), ("c", "c")} < one.workers.keys()
-    assert [call[0][0] for call in one.said.call_args_list] == [
-        "a is left out: it begins no part: is its memory too small for the program and any --book-in?"]
+        assert (("a", "a") in one.workers) == ("ffosolve-key-1-x" in one.held) == (not is_stuck)
+        assert ("ffosolve-key-1-x" in one.kept) == is_stuck and {("b", "b"), ("c", "c")} < one.workers.keys()
+    (told,) = one.said.call_args_list
+    assert told[0] == ("a begins no part: is its memory too small for the program and any --book-in?",)
 
 
 def test_a_question_that_fails_is_asked_again_and_the_seconds_in_which_this_process_is_stopped_do_not_count(
@@ -493,7 +496,7 @@ OTHER = {"pack": mock.Mock(status="pending")}
 
 
 @pytest.mark.parametrize("change, at, copies", [
-    ({}, "", 0), ({"workers": TWO}, "", 1), (OTHER, "", 1), ({"workers": TWO}, "held", 0), (OTHER, "held", 0),
+    ({}, "", 0), ({"workers": TWO}, "", 1), (OTHER, "", 1), ({"workers": TWO}, "held", 0), (OTHER, "held", 1),
     ({"count": 1, "workers": TWO}, "", 0), ({"workers": TWO}, "kept", 1), ({"workers": {}}, "kept", 0),
     ({"workers": TWO, "left_out": {*TWO}}, "kept", 0)])
 def test_a_part_is_sent_after_the_pack_and_again_if_no_fit_worker_has_it(one, change, at, copies):

@@ -109,6 +109,7 @@ class Cluster:
         self.tested: Set[Worker] = set()
         self.left_out: Set[Worker] = set()
         self.unfit: Set[Worker] = set()
+        self.idle: Set[Worker] = set()  # which have been named for it
         self.failed: DefaultDict[Worker, Set[str]] = defaultdict(set)
         self.ends: Counter[str] = Counter()
         self.ended: Set[str] = set()  # the keys of what ended workers
@@ -146,15 +147,16 @@ class Cluster:
             self.pack = self.pack if {*holders[self.pack.key]} - stuck else None
 
     def is_stuck(self, worker: Worker, about: Dict[str, Any], parts: List[str], now: float) -> bool:
-        """Returns whether a worker has given no sign of life for LOST_SECONDS, or has parts and is at work on none. The
-        latter is named."""
+        """Returns whether a worker has given no sign of life for LOST_SECONDS or, twice as long, has begun none of its
+        parts. The latter is named."""
         is_idle = parts and not about["metrics"].get("task_counts", {"executing": 1}).get("executing")
-        sign = parts if is_idle else about["last_seen"]
+        sign = (parts, self.pack) if is_idle else about["last_seen"]
         before, since = self.signs.get(worker, (sign, now))
         self.signs[worker] = sign, since if sign == before else now
-        is_stuck = now > self.signs[worker][1] + LOST_SECONDS
-        if is_stuck and is_idle:
-            self.leave_out(worker, "it begins no part: is its memory too small for the program and any --book-in?")
+        is_stuck = now > self.signs[worker][1] + LOST_SECONDS * (2 if is_idle else 1)
+        if is_stuck and is_idle and worker not in self.idle:
+            say(f"{worker[0]} begins no part: is its memory too small for the program and any --book-in?")
+            self.idle.add(worker)
         return is_stuck
 
     def chosen(self, failed: Sequence[str] = ()) -> Set[str]:
@@ -196,7 +198,8 @@ class Cluster:
         task, workers, pack = sent
         if task.key in self.kept:
             return not self.workers.keys() - self.left_out
-        return task.key in self.held or self.pack is pack and not (workers and self.chosen(failed) - workers)
+        has_others = workers and self.chosen(failed) - workers
+        return self.pack is pack and (task.key in self.held or not has_others)  # a worker may wait for a lost Pack
 
     async def answer(self, part: Part, failed: List[str]) -> Any:
         """Returns what a Pack does for a part. Sends it again while it is not in hand: the first answer counts."""
