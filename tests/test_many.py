@@ -109,11 +109,11 @@ def test_cut_parts_are_solved_by_a_command_that_needs_only_python(case):
         ends((1, "", error), *command, *words)
     ends((0, "", ""), *command, "8-99", "5")
     ends((0, "10 parts, 10 of them solved\n", ""), *cut)
-    run(case.MANY, "--cut", "--lines=3", *WORDS[1:])
-    ends((0, "", ""), sys.executable, "work/solve.py", *range(0, 20, 2))
+    cut = (case.MANY, "--cut", "--lines=3", "new", "list.obf")
+    run(*cut)
+    ends((0, "", ""), sys.executable, "new/solve.py", *range(0, 20, 2))
     others = "1 3 5 7 9 11 13 15 17 19"
-    wanted = f"20 parts, 10 of them solved; python3 work/solve.py {others} solves the others\n"
-    ends((0, wanted, ""), case.MANY, "--cut", "--lines=3", *WORDS[1:])
+    ends((0, f"20 parts, 10 of them solved; python3 new/solve.py {others} solves the others\n", ""), *cut)
     case.many("--lines=6", *WORDS[1:], message="in 10 parts, 10 of them solved before")
 
 
@@ -482,7 +482,7 @@ LOST = [(0, {}, {0: "h1", 1: "h2"}), (100, {0: 100}, {1: "h2", 2: "h1"}), (190, 
     (4 * [1], 3, [*LOST[:1], (720, {}, LOST[0][2])],
      "0%, 2 machines at work, parts 0 of 4; part 0000000 (lines 1 to 3) has been running for 0:12:00 on h1"),
     (4 * [1], 3, [*LOST[:1], (720, {0: 720}, LOST[0][2])],  # part 0 has been solved since it was seen at work
-     "25%, 0:36:00 left, 2 machines at work, parts 1 of 4; part 0000001 (lines 4 to 6) has been running for 0:12:00 on "
+     "25%, 0:24:00 left, 2 machines at work, parts 1 of 4; part 0000001 (lines 4 to 6) has been running for 0:12:00 on "
      "h2"),
     (1200 * [1], 200, [(0, {}, {659: "h1"}), (55.4, dict.fromkeys(range(659), 55.4), {659: "h1"})],
      "54%, 8:18:36 left, 1 machine at work, parts 659 of 1200"),

@@ -51,8 +51,8 @@ class Progress:
         left = self.left() if hosts and not self.engine.trouble else None
         text = f"{100 * (run.count - lines) // run.count}%, "
         text += f"{timedelta(seconds=round(left))} left, " if left is not None else ""
-        text += self.engine.trouble or f"{counted(len(hosts), 'machine') if hosts else 'no machine'} at work"
-        text += f", waiting for {counted(self.engine.silent, 'silent worker')}" if self.engine.silent else ""
+        silent = f", waiting for {counted(self.engine.silent, 'silent worker')}" if self.engine.silent else ""
+        text += self.engine.trouble or f"{counted(len(hosts), 'machine') if hosts else 'no machine'} at work{silent}"
         text += f", parts {run.solved_count} of {len(run.parts)}"
         for part, host, start in running[:1]:
             if (seconds := time.monotonic() - start) >= LONG_SECONDS:
