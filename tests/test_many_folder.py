@@ -89,7 +89,8 @@ def test_a_folder_of_another_user_or_that_others_may_write_is_refused_and_not_us
         os.chmod(f"-my work{path}", mode)
         command = f"chmod {who}-w './-my work{path}'\n"
         words = ("--lines=20", "--", "-my work", "list.obf")
-        case.refused(2, f"other users may write -my work{path}: name another folder, or type {command}", *words)
+        message = f"other users may write -my work{path}: name another folder, or type {command}"
+        case.refused(2, message, *words, by=case.ACTS, places={"WORDS": f"{case.folder}/words"})  # runs no program
         run("sh", "-c", command, check=True)
         case.many(*words, message=", 3 of them solved before")
     os.rename("-my work", "work")
@@ -598,8 +599,8 @@ def test_as_many_parts_are_solved_at_once_as_there_are_jobs_by_default_one_for_e
 
 
 def test_signals_that_the_caller_ignores_do_not_end_the_run_such_as_that_of_a_terminal_that_closes_after_nohup(case):
-    for number in (signal.SIGKILL, signal.SIGTERM):  # the former ends the programs, too
-        ran = begin(case, "sh", "-c", 'trap "" INT TERM; exec nohup "$@"', "sh", case.ACTS)
+    for number, last in ((signal.SIGKILL, 0), (signal.SIGTERM, 99)):  # the former ends long programs, too
+        ran = begin(case, "sh", "-c", 'trap "" INT TERM; exec nohup "$@"', "sh", case.ACTS, last=last)
         wait_until(lambda: programs(case))
         output, _ = end(case, ran, signal.SIGINT, signal.SIGHUP, number)
         wanted = (b"", -number) if number == signal.SIGKILL else (case.one, 0)
