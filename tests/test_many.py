@@ -476,6 +476,8 @@ LOST = [(0, {}, {0: "h1", 1: "h2"}), (100, {0: 100}, {1: "h2", 2: "h1"}), (190, 
      "20%, 0:00:40 left, 1 machine at work, parts 2 of 10"),  # two at a time: four were sent ahead
     (4 * [1], 1, [(0, {}, {0: "h1"}), (10, {0: 10}, {0: "h1", 1: "h1"})],
      "25%, 0:00:30 left, 1 machine at work, parts 1 of 4"),  # a part has been solved since it was seen at work
+    (4 * [1], 1, [(0, {}, {0: "h1"}), (10, {0: 10}, {0: "h1"})],
+     "25%, 0:00:30 left, 1 machine at work, parts 1 of 4"),  # all parts that were seen have been solved since
     (4 * [1], 1, LOST[:2], "25%, 0:01:40 left, 2 machines at work, parts 1 of 4"),
     (4 * [1], 1, LOST[:3], "25%, 0:03:30 left, 1 machine at work, parts 1 of 4"),  # a part waits again
     (4 * [1], 1, LOST, "25%, no machine at work, parts 1 of 4"),
@@ -507,9 +509,11 @@ def test_a_part_that_has_failed_twice_is_tried_once_more_after_all_others_alone(
         done.set_result((part, *((types.SimpleNamespace(seconds=1), "") if part.number else (None, "why")), ["h1"]))
         return done
 
-    made = types.SimpleNamespace(tries=3, trouble="", silent=0, running={}, look=lambda: None, most=most, send=send)
+    made = types.SimpleNamespace(tries=3, trouble="", silent=0, running={1: ("h1", 0)}, look=lambda: None, most=most,
+                                 send=send)
     engine.solve_parts(run, made, quiet=True)
     assert sent == [(0, False), (0, False), (1, False), (2, False), (3, False), (0, True)]
+    assert made.running == {1: ("h1", 0)}  # as the engine saw it, so that brief parts show that a machine is at work
 
 
 def test_trouble_is_told_at_once_in_a_log_and_again_after_a_minute(clock, monkeypatch):
