@@ -1,6 +1,7 @@
 """Fixtures for the tests of ffosolve-many: they install it, run it, and check its output and the files it leaves."""
 import functools
 import os
+import random
 import re
 import shutil
 import sys
@@ -8,6 +9,7 @@ from pathlib import Path
 
 import pytest
 
+from ffosolve._many import solve
 from tests.support import built, copy_many, positions, run, write
 
 BOARD = b"-OXXXXX-XXXXXXXOXXXXXXXXXXXXXXXXXXXOXXXXXXXXXXXXXXXXXXXXXXXXXXXX"  # two empty squares
@@ -34,7 +36,7 @@ if b"FAIL" in text:
 if b"KILL" in text:
     os.kill(os.getppid(), signal.SIGKILL)
 if is_part:
-    is_last = len(glob.glob("work/results/???????")) >= int(places.get("LAST", 10_000))
+    is_last = len(glob.glob("work/results/" + "?" * 64)) >= int(places.get("LAST", 10_000))
     time.sleep(45 if is_last else float(places.get("PAUSE", 0)))
 spoil = places.get("SPOIL" if is_part else "SPOIL_KNOWN")
 if not spoil:
@@ -78,12 +80,20 @@ def install(many_python, shared_folder):
         yield functools.cache(begin)
 
 
+def shuffled(text, seed):
+    """Returns the lines of a text in a random order."""
+    lines = text.splitlines(keepends=True)
+    random.Random(seed).shuffle(lines)
+    return b"".join(lines)
+
+
 class Case:
     """A test in a folder with a list, `list.obf`, and the book that one run of ffosolve wrote for it, `one.book`. `one`
     is what that run printed, as bytes. MANY and ACTS are the paths of two copies of ffosolve-many; ACTS runs the script
-    ACTING instead of ffosolve and ffoscores. SMALL, the list at first, is 60 lines of 68 bytes."""
+    ACTING instead of ffosolve and ffoscores. SMALL, the list at first, is 60 lines of 68 bytes. With --lines=20 it has
+    three parts of 20 lines, and with 3, 4, 5, 6 and 7 as many as if each had so many lines."""
 
-    SMALL = positions(60, 1, 5)
+    SMALL = shuffled(positions(60, 1, 5), 819489)
 
     def __init__(self, install, folder, start):
         self.install, self.folder, self.start = install, folder, start
@@ -125,7 +135,14 @@ class Case:
         assert files() == before
 
     def parts_solved(self):
-        return len(list(Path("work/results").glob("[0-9]" * 7)))
+        return len(list(Path("work/results").glob("?" * 64)))
+
+    def record(self, number, folder="work"):
+        """Returns the path of a part's results in a folder with a list."""
+        task = solve.read_task(Path(folder))
+        with open(f"{folder}/list", "rb") as file:
+            text = [b"".join(lines) for lines in solve.parts_of(file, task["lines"])][number]
+        return Path(folder, "results", solve.digest_of(task["options"], text))
 
 
 def files():

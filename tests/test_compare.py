@@ -14,7 +14,7 @@ import pytest
 
 from bench import player
 from tests.games import NAMES, PROGRAM, book_of, discs_of_black, games, positions_of, random_games, record, wthor
-from tests.support import NOBODY, ROOT, SECONDS, built, limited, preload, run, stored, wait_until, write
+from tests.support import NOBODY, ROOT, SECONDS, built, limited, run, stored, unshared, wait_until, write
 from ffosolve import ReadingWarning, read_games
 from ffosolve._games import corrected
 
@@ -356,12 +356,21 @@ def test_an_interrupted_run_leaves_no_file_under_the_name(start, number):
 
 
 CHECK = ("check", "it.wtb", "--quiet")
-FOLDER = "it.wtb.check/check.obf.parts"
+FOLDER = "it.wtb.check"
 FAILED = "ffosolve-games: ffosolve-many has not solved all, so no score is compared"
 
 
+def refused(*words, why, **how):
+    """Asserts that `check` says why ffosolve-many refuses a folder, and that it changes no file that was there."""
+    before = contents()
+    ran = run(sys.executable, PROGRAM, *words, text=True, **how)
+    assert (ran.returncode, ran.stdout) == (2, "")
+    assert ran.stderr == f"ffosolve-many: {why}\n{FAILED}; --folder names another folder\n"
+    assert contents() == {**contents(), **before}
+
+
 def parts():
-    return len(list(Path(FOLDER, "results").glob("[0-9]" * 7)))
+    return len(list(Path(FOLDER, "results").glob("?" * 64)))
 
 
 def results():
@@ -384,44 +393,49 @@ def test_check_solves_compares_and_fixes():
               "new/other.wtb: theoretical scores changed 1 of 1, not compared 0")
     assert Path("new/it.wtb").read_bytes() == wthor(EXACT_RECORDS + EXACT_RECORDS[2:3], empties=EMPTIES)
     assert Path("new/other.wtb").read_bytes() == wthor([record(PLAYED[1], exact)], empties=6)
-    assert (COUNT, parts(), len(results())) == (14, 3, 4)  # each position once
-    write("it.wtb", RIGHT)  # other scores of positions that are solved
-    games("compare", "it.wtb.check/check.book", "it.wtb", out=counts(differ=0))
+    for name, count in (("it.wtb", COUNT), ("other.wtb", 1)):  # each position once
+        assert Path(f"{name}.check/list").read_bytes().count(b"\n") == count
+    write("it.wtb", RIGHT)
     games(*CHECK, "--max-empties=4", "--folder=other", status=1, out=counts(0, 0, COUNT))
     assert not os.path.exists("other")
 
 
 @pytest.mark.parametrize("folder_named", ((), ("--folder=all",)))
-def test_each_check_goes_on_with_what_is_solved(folder_named):
-    """Game 1 of the file for 5 empty squares begins with an illegal move, until that is mended. The lists' parts have
-    10 lines, so the mended game gets a part of its own."""
-    broken = RECORDS[0][:8] + b"\1" + RECORDS[0][9:]
-    write("it.wtb", wthor([broken, *RECORDS[1:]], empties=EMPTIES))
-    write("other.wtb", wthor([record(it, discs_of_black(positions_of(it)[6])) for it in PLAYED[:9]], empties=6))
-    illegal, nine = "it.wtb, game 1, move 1: 1 is not a square", counts(9, 0)
-    games("check", "--quiet", *folder_named, "other.wtb", out=nine)
-    games(*CHECK, *folder_named, "other.wtb", status=1, out=both() + counts(COUNT + 8), err=illegal)
-    before = results()
-    for names, out, err in ((("it.wtb",), both() + counts(COUNT - 1), illegal),
-                            (("other.wtb", "./it.wtb"), both(name="./it.wtb") + counts(COUNT + 8), f"./{illegal}"),
-                            (("other.wtb", "other.wtb", "./other.wtb"), counts(27, 0), "")):
-        games("check", "--quiet", *folder_named, *names, out=out, err=err, status=int("it" in out))
-        assert results() == before
-    write("it.wtb", WHOLE)
-    games(*CHECK, *folder_named, status=1, out=both() + counts())
-    after = results()
-    assert (len(before), len(after)) == (3, 4) and before.items() <= after.items()
-    write("it.wtb", wthor(RECORDS[:2], empties=EMPTIES))
-    games(*CHECK, *folder_named, out=counts(2, 0))
-    assert results() == after
+def test_each_check_solves_only_the_parts_that_hold_a_change(folder_named):
+    """Game 1 of the file for 5 empty squares begins with an illegal move, until that is mended."""
+    more = [game for game in random_games(60, seed=9) if {5, 6} <= positions_of(game).keys()]
+    sixes, fives = ([record(game, discs_of_black(positions_of(game)[at])) for game in some]
+                    for at, some in ((6, PLAYED + more[:20]), (5, more)))
+    write("other.wtb", wthor(sixes, empties=6))
+    whole, broken = RECORDS + fives, [RECORDS[0][:8] + b"\1" + RECORDS[0][9:], *RECORDS[1:], *fives]
+    illegal, count = "it.wtb, game 1, move 1: 1 is not a square", len(whole)
+    for records, names, new in ((broken, ("it.wtb",), 99), (broken, ("it.wtb", "other.wtb"), 99),
+                                (broken, ("other.wtb", "it.wtb"), 0), (broken, ("other.wtb",), 2),
+                                (broken, ("it.wtb", "./other.wtb", "other.wtb"), 0),
+                                (whole, ("it.wtb", "other.wtb"), 3),
+                                (whole[:9] + whole[10:], ("other.wtb", "it.wtb"), 3), (whole[:2], ("it.wtb",), 1)):
+        write("it.wtb", wthor(records, empties=EMPTIES))
+        before = results()
+        is_broken = records is broken and "it.wtb" in names
+        fives_counted = (len(records) - is_broken) * ("it.wtb" in names)
+        wrong = (both() if len(records) > 9 else "") * ("it.wtb" in names)
+        sixes_counted = len(sixes) * sum("other" in name for name in names)
+        games("check", "--quiet", *folder_named, "--lines=5", *names, err=illegal * is_broken,
+              status=int(bool(wrong) or is_broken),
+              out=wrong + counts(fives_counted + sixes_counted, 2 * bool(wrong)))
+        after = results()
+        assert before.items() <= after.items() and len(after) - len(before) <= new
+    assert len(after) > 20 and count > 30
+    games("check", "--quiet", "--prune", *folder_named, "--lines=5", "it.wtb", out=counts(2, 0))
+    assert len([name for name in results() if "other" not in name]) == 1
 
 
 def test_another_number_of_empty_squares_goes_on_in_the_same_folder():
-    for empties, added in ((5, 2), (6, 2), (5, 0), (6, 0)):
+    for empties, added in ((5, True), (6, True), (5, False), (6, False)):
         write("it.wtb", wthor([record(it, discs_of_black(positions_of(it)[empties])) for it in PLAYED], empties=0))
         before = parts()
         games(*CHECK, f"--empties={empties}", out=counts(differ=0))
-        assert parts() == before + added
+        assert (parts() > before) == added
 
 
 @pytest.fixture
@@ -454,15 +468,14 @@ def test_a_second_check_in_one_folder_is_refused(start, slow_check):
     ran = run(*words, text=True)
     os.killpg(first.pid, signal.SIGCONT)
     assert (ran.returncode, ran.stdout) == (3, "")
-    assert ran.stderr == "ffosolve-games: another check works in it.wtb.check\n"
+    assert ran.stderr == f"ffosolve-many: another run works in it.wtb.check\n{FAILED}\n"
     assert first.communicate(timeout=SECONDS)[0].decode() == printed
 
 
 def test_check_can_be_cut_for_another_scheduler():
     ran = run(sys.executable, PROGRAM, *CHECK, "--lines=4", "--cut", text=True)
-    assert (ran.returncode, parts()) == (0, 0) and "python3 it.wtb.check/check.obf.parts/solve.py" in ran.stdout
-    for part in range((COUNT + 3) // 4):
-        run(sys.executable, f"{FOLDER}/solve.py", f"{part:07d}", check=True)
+    assert (ran.returncode, parts()) == (0, 0) and "python3 it.wtb.check/solve.py 0-" in ran.stdout
+    run(sys.executable, f"{FOLDER}/solve.py", "0-99", check=True)
     games(*CHECK, "--lines=4", status=1, out=both() + counts())
 
 
@@ -471,54 +484,39 @@ def test_check_refuses_before_it_solves():
         ("--fix=it.wtb", EXISTS.format("it.wtb")),
         ("--fix=none/it.wtb", "cannot write none/it.wtb: its folder is missing, or may not be written"),
         ("none.wtb", "cannot read none.wtb: No such file or directory"),
-        ("--folder=book", "cannot make book: File exists"),
-        ("--folder=", "cannot make '': No such file or directory"),
     ):
         games(*CHECK, word, status=3, err=err)
     assert sorted(os.listdir()) == ["book", "it.wtb"]
     os.mkdir("closed", mode=0o555)
     games(*CHECK, "--fix=closed", status=3, **NOBODY,
           err="cannot write closed/it.wtb: its folder is missing, or may not be written")
+    why = "'book' is not a folder: name one FOLDER and one LIST. Try 'ffosolve-many --help'"
+    refused(*CHECK, "--folder=book", why=why)
     write("other.wtb", WHOLE)
-    write("other.wtb.check", "")
-    games(*CHECK, "other.wtb", status=3, err="cannot make other.wtb.check: File exists")
-    assert os.listdir("it.wtb.check") == []
-    write("it.wtb.check/list.obf", "of an earlier version")
-    before = contents()
-    other = "it.wtb.check has files that are not a check's, or those of an earlier version, such as list.obf"
-    games(*CHECK, status=2, err=f"{other}: name a new or an empty folder with --folder")
-    assert contents() == before
+    write("other.wtb.check/check.obf", "of an earlier version")
+    other = "other.wtb.check has files that are not ffosolve-many's, or those of an earlier version, such as check.obf"
+    refused(*CHECK, "other.wtb", why=f"{other}: name a new or an empty folder")
+    assert parts() == 0
 
 
-def test_in_a_folder_that_others_own_or_may_write_only_the_book_is_read():
-    why = "is not a folder that you own and nobody else may write: name another with --folder"
-    os.mkdir("all")
-    os.chmod("all", 0o775)
-    games(*CHECK, "--folder=all", status=2, err=f"all lacks {COUNT} positions, and {why}")
-    games(*CHECK, status=1, out=both() + counts(), umask=0)
-    before = contents()
-    games(*CHECK, status=1, out=both() + counts(), **NOBODY)
-    for how, owner in (({}, -1), (NOBODY, -1), ({}, NOBODY.get("user", -1))):
-        os.chmod("it.wtb.check", 0o757 if owner < 0 else 0o755)
-        os.chown("it.wtb.check", owner, -1)
-        write("it.wtb", WHOLE)
-        games(*CHECK, status=1, out=both() + counts(), **how)
-        assert contents() == before
-        write("it.wtb", wthor([*RECORDS, record(random_games(1, seed=6)[0])], empties=EMPTIES))
-        games(*CHECK, status=2, err=f"it.wtb.check lacks 1 position, and {why}", **how)
-        assert contents() == {**before, "it.wtb": Path("it.wtb").read_bytes()}
-
-
-def test_a_list_that_was_cut_off_is_written_again():
-    """At the first limit, a line is not whole; then one is whole, but the other lines are missing."""
-    for size in (100, 150):
-        games(*CHECK, status=3, err="cannot write it.wtb.check/check.obf: File too large",
-              preexec_fn=limited(RLIMIT_FSIZE=size))
-        assert os.listdir("it.wtb.check") == ["check.obf"]
-    write("it.wtb", wthor(RECORDS[:1], empties=EMPTIES))
-    games(*CHECK, out=counts(1, 0))
-    write("it.wtb", WHOLE)
+def test_scores_are_not_taken_from_a_folder_that_others_own_or_may_write():
+    """Nor from a file there that is not ffosolve-many's."""
     games(*CHECK, status=1, out=both() + counts())
+    write("it.wtb.check/check.book", BOOK.replace("+", "-"))
+    games(*CHECK, status=1, out=both() + counts())
+    os.chmod("it.wtb.check", 0o777)
+    refused(*CHECK, "--fix=new.wtb", why="other users may write it.wtb.check: name another folder, or type "
+                                         "chmod go-w it.wtb.check")
+    os.chmod("it.wtb.check", 0o755)
+    unshare, *words = unshared()
+    mount = 'mount --bind . . && mount -o remount,bind,ro . && cd "$PWD" && ! echo >new && exec "$@"'
+    ran = run(unshare, *words, "sh", "-c", mount, "sh", sys.executable, PROGRAM, *CHECK, text=True)
+    assert (ran.returncode, ran.stdout) == (1, both() + counts()), ran.stderr  # on a disk that may only be read
+    if NOBODY:
+        os.chown("it.wtb.check", NOBODY["user"], -1)
+        refused(*CHECK, "--fix=new.wtb", why="it.wtb.check belongs to another user: name another folder")
+        os.chown("it.wtb.check", 0, -1)
+        games(*CHECK, status=1, out=both() + counts(), **NOBODY)  # of root
 
 
 @pytest.fixture
@@ -531,13 +529,6 @@ def alone(folder):
     return lambda *words: run(sys.executable, "bin/ffosolve-games", *words, text=True, env=environment)
 
 
-@pytest.mark.usefixtures("alone")
-def test_the_list_is_on_the_disk_before_it_is_solved(folder):
-    write("bin/ffosolve-many", "#!/bin/sh\nprintf solve >&2\nexit 3\n")
-    ran = run(sys.executable, "bin/ffosolve-games", *CHECK, text=True, env=preload(folder, WATCHED="yes"))
-    assert ran.stderr.startswith("sync solve")
-
-
 OPTIONS = ("--jobs=x", "--scheduler=h1:8786", "--cut", "--quiet", "--workers=2", "--table=0", "--book-in=a b")
 
 
@@ -546,13 +537,15 @@ OPTIONS = ("--jobs=x", "--scheduler=h1:8786", "--cut", "--quiet", "--workers=2",
     (("--folder", "a", "22.wtb"), "--max-empties=60 --lines=10", "a"),
     (("--max-empties=21", "22.wtb", "--lines=20", "--quiet"), "--max-empties=60 --lines=20 --quiet", "it.wtb.check"),
     (OPTIONS, " ".join(("--max-empties=60 --lines=10", *OPTIONS)), "it.wtb.check"),
+    (("./it.wtb",), "--max-empties=60 --lines=10", "./it.wtb.check"),  # two names of one folder
+    (("--max-empties=22", "22.wtb"), "--max-empties=60 --lines=10 --cut", "22.wtb.check"),  # the first of two
 ))
 def test_ffosolve_many_gets_the_options(alone, words, given, folder_named):
     write("22.wtb", wthor([record(PLAYED[0])], empties=22))
     write("bin/ffosolve-many", '#!/bin/sh\necho "$*" >>words\necho output\nexit 3\n')
     write("tools/ffosolve-many", "#!/bin/sh\n")  # is not run, since one is next to ffosolve-games
     ran = alone("check", "it.wtb", *words)
-    assert Path("words").read_text() == f"{given} --book-out={folder_named}/check.book -- {folder_named}/check.obf\n"
+    assert Path("words").read_text() == f"{given} -- {folder_named} -\n"
     assert "22.wtb.check" not in os.listdir()
     assert ran.stdout == "output\n" * ("--cut" in words)
 
@@ -566,7 +559,7 @@ def test_the_status_is_that_of_ffosolve_many_if_it_is_missing_or_fails(folder, a
         write("tools/ffosolve-many", f"#!/bin/sh\n{end}\n")
     ran = alone(*CHECK)
     assert (ran.returncode, ran.stdout) == (status, "")
-    assert ran.stderr == f"{FAILED if end else missing}\n"
+    assert ran.stderr == f"{FAILED if end else missing}{'; --folder names another folder' * (status == 2)}\n"
 
 
 def test_the_commands_of_guide_and_help_check_and_fix_a_file():

@@ -188,7 +188,7 @@ def test_the_commands_of_the_documents_run_on_the_path(dist, folder):
 
 def test_ffosolve_many_has_the_programs_of_both_levels(dist, folder):
     ends((0, FIRST, ""), dist.unpacked / "bin/ffosolve-many", "--quiet", "work", FIRST_OBF, env=dist.without_rt)
-    programs = [path.read_bytes() for path in sorted(Path("work").glob("program-?"))]
+    programs = [path.read_bytes() for path in sorted(Path("work").glob("ffosolve-?"))]
     wanted = [dist.unpacked / f"lib/ffosolve/ffosolve-{level}" for level in LEVELS[::-1]]
     assert programs == [path.read_bytes() for path in wanted]
 
@@ -241,7 +241,7 @@ def is_used(start, version, place):
         assert start(name, "--version").stdout == f"{name} {of}\n"
         ran = start(name, *words, input=text)
         assert (ran.returncode, ran.stderr, ran.stdout) == (0, "", wanted)
-    assert len(list(Path("work").glob("program-?"))) == len(LEVELS)
+    assert len(list(Path("work").glob("ffosolve-?"))) == len(LEVELS)
     shutil.rmtree("work")
     versions, files = start("python3", "-c", SOLVE, lines.splitlines()[1]).stdout.splitlines()
     package, library = files.split()
@@ -286,6 +286,10 @@ def test_at_the_release_the_version_is_plain_and_of_a_shallow_clone_it_names_the
     run("git", "clone", "-q", "--depth=1", f"file://{checkout}", "shallow", check=True)
     head = run("git", "rev-parse", "HEAD", cwd=checkout, text=True).stdout
     ends((0, f"{VERSION}+g{head[:7]}\n", ""), sys.executable, "shallow/python/src/ffosolve/_version.py")
+    run("sh", "-c", "mkdir archive; git -C shallow archive HEAD | tar -xC archive", check=True)
+    ends((0, f"{VERSION}+g{head[:7]}\n", ""), sys.executable, "archive/python/src/ffosolve/_version.py")
+    write("archive/VERSION", "1.2.3+4.g0123456")  # as `make install` writes it
+    ends((0, "1.2.3+4.g0123456\n", ""), sys.executable, "archive/python/src/ffosolve/_version.py")
 
 
 @pytest.mark.parametrize("target", ("dist", "wheel", "deb"))

@@ -87,10 +87,10 @@ def test_the_numbers_in_the_help_of_ffosolve_many_are_those_that_are_taken(folde
         for number, is_taken in ((int(least) - 1, False), (least, True), (most, True), (int(most) + 1, False)):
             assert (run(*words, f"{option}={number}").returncode != 2) == is_taken, (option, number)
     lines = int(re.search(r"--lines N [^-]*\[default: ([0-9]+)\]", text)[1])
-    for more, parts in enumerate(("1 part", "2 parts")):
-        write("list", "\n" * (lines + more))
-        printed = run(many, "--cut", f"work{more}", "list", text=True, check=True).stdout
-        assert printed.startswith(f"{parts}, "), printed
+    write("list", "".join(f"% {number}\n" for number in range(9 * lines)))
+    cuts = [run(many, "--cut", "work", "list", *words, text=True, check=True).stdout
+            for words in ((), (f"--lines={lines}",), (f"--lines={lines // 2}",), (f"--lines={lines * 2}",))]
+    assert cuts[0] == cuts[1] and len({*cuts}) == 3, cuts
 
 
 def test_stored_reports_are_what_ffosolve_prints():

@@ -11,10 +11,10 @@ from unittest import mock
 
 import pytest
 
-from ffosolve import _command_line
-from ffosolve._many import books, engine, folder
+from ffosolve import __version__, _command_line
+from ffosolve._many import books, engine, folder, solve
 from tests.many import ACTING, BOARD, WORDS, files
-from tests.support import (NOBODY, ROOT, SECONDS, cannot_write, ends, limited, positions, run, stored, wait_until,
+from tests.support import (NOBODY, ROOT, SECONDS, cannot_write, ends, limited, need, positions, run, stored, wait_until,
                            worked_rows, write)
 
 
@@ -30,7 +30,7 @@ def test_report_and_book_are_those_of_one_run(case):
 
 def test_the_program_is_found_in_a_checkout_and_through_a_link_and_names_may_have_blanks_or_not_be_utf_8(case):
     case.many("work", "list.obf", by=ROOT / "bin/ffosolve-many")
-    assert stored("out/ffosolve") in [path.read_bytes() for path in Path("work").glob("program-*")]
+    assert stored("out/ffosolve") in [path.read_bytes() for path in Path("work").glob("ffosolve-*")]
     os.symlink(case.ACTS, "link")
     for name, *place in ("a  list;$x'.obf", "a folder ;'$y"), (os.fsdecode(b"\xff.obf"),):
         os.rename("list.obf", name)
@@ -64,7 +64,8 @@ def test_the_limit_of_empty_squares_is_by_default_that_of_the_program(case):
     case.write_list(case.SMALL, "--max-empties=3")
     case.many(*WORDS, by=by)
     case.many(*WORDS, "--max-empties=3", message=", 3 of them solved before")
-    case.refused(2, "work was begun with --max-empties 3: use another folder", *WORDS)
+    assert "limit 3" in case.one.decode()
+    case.many(*WORDS[:3], "--max-empties=4", by=by, message=", 0 of them solved before", output=mock.ANY)
 
 
 def test_lines_of_each_kind_and_none_at_all_are_solved(case):
@@ -80,7 +81,7 @@ def test_lines_of_each_kind_and_none_at_all_are_solved(case):
 def test_scores_and_status_are_those_of_one_run(case):
     remarked = case.SMALL + b"% remark\r\n\n" + case.SMALL.rstrip(b"\n")
     kinds = stored("examples/kinds.obf") + case.SMALL
-    for status, count, text, *words in (0, 3, remarked), (1, 2, kinds, "--complete"):
+    for status, count, text, *words in (0, 2, remarked), (1, 1, kinds, "--complete"):
         write("list.obf", text)
         one = run(case.MANY.with_name("ffoscores"), *words, "list.obf")
         assert one.returncode == status
@@ -100,7 +101,7 @@ def test_cut_parts_are_solved_by_a_command_that_needs_only_python(case):
         ends((0, "", ""), *command, *words, cwd="/", env={"PATH": "/usr/bin:/bin"})
     before = files()
     ends((0, "", ""), *command, "0-4")  # which solves part 1 alone
-    assert {path.name for path in before.keys() ^ files().keys()} == {"0000001"}
+    assert before.keys() ^ files().keys() == {case.record(1, "my work")}
     assert before.items() <= files().items()
     ends((0, line.format(7, "5 8-9"), ""), *cut)
     for words in (("10",), ("-1",), (), ("3", "10-12"), ("4-3",), ("00000003",)):
@@ -108,6 +109,11 @@ def test_cut_parts_are_solved_by_a_command_that_needs_only_python(case):
         ends((1, "", error), *command, *words)
     ends((0, "", ""), *command, "8-99", "5")
     ends((0, "10 parts, 10 of them solved\n", ""), *cut)
+    cut = (case.MANY, "--cut", "--lines=3", "new", "list.obf")
+    run(*cut)
+    ends((0, "", ""), sys.executable, "new/solve.py", *range(0, 20, 2))
+    others = "1 3 5 7 9 11 13 15 17 19"
+    ends((0, f"20 parts, 10 of them solved; python3 new/solve.py {others} solves the others\n", ""), *cut)
     case.many("--lines=6", *WORDS[1:], message="in 10 parts, 10 of them solved before")
 
 
@@ -122,6 +128,8 @@ def test_a_book_goes_through_a_link_or_into_a_pipe_and_a_file_keeps_its_permissi
     case.many(*WORDS[:-1], "pipe")
     assert Path("pipe").is_fifo()
     assert reader.communicate(timeout=SECONDS)[0] == Path("one.book").read_bytes()
+    case.many("-c", '"$0" work list.obf --book-out >(cat >through)', case.MANY, by="bash")
+    wait_until(lambda: Path("through").read_bytes() == Path("one.book").read_bytes())
     case.folder.chmod(0o777)
     ends((0, None, b""), case.MANY, "--quiet", *WORDS[:-1], os.devnull, stdout=subprocess.DEVNULL, **NOBODY)
 
@@ -157,6 +165,9 @@ def test_progress_rises_in_a_log_and_on_a_terminal(case):
         assert (counts, is_one_line) == (sorted(counts), place == "terminal")
         assert len(set(counts)) > 2 and "%, 0:00:0" in lines, lines
     assert case.many("--quiet", "--lines=6", "list.obf", by=by, places={"PAUSE": "0.3"}) == ""
+    ran = run("script", "/dev/null", "-qec", f"'{by}' --jobs=2 --lines=6 both list.obf", env={
+        **os.environ, "PAUSE": "0.3", "SHELL": "/bin/sh"})  # the report takes the place of the progress
+    assert b" at work, parts " in ran.stdout and re.search(rb"\r\x1b\[K\[1\]\r\n1 ", ran.stdout)
 
 
 def test_output_that_fails_is_reported_and_closed_or_full_errors_do_no_harm(case):
@@ -172,11 +183,14 @@ def test_output_that_fails_is_reported_and_closed_or_full_errors_do_no_harm(case
     assert {os.readlink(f"/proc/{ran.pid}/fd/{number}") for number in (0, 2)} == {os.devnull}
 
 
-@pytest.mark.parametrize("count, limits, who", [("2. of 300", {"RLIMIT_NOFILE": 256}, {}),
-                                                ("[0-9]+ of 900", {"RLIMIT_NPROC": 400}, NOBODY)])
-def test_jobs_are_limited_by_the_files_and_processes_that_there_may_be(case, count, limits, who):
+@pytest.mark.parametrize("count, workers, limits, who", [
+    ("2. of 300", 0, {"RLIMIT_NOFILE": 256}, {}), ("[0-9]+ of 900", 0, {"RLIMIT_NPROC": 400}, NOBODY),
+    ("[1-3]?[0-9] of 900", 8, {"RLIMIT_NPROC": 400}, NOBODY)])
+def test_jobs_are_limited_by_the_files_and_processes_that_there_may_be(case, count, workers, limits, who):
+    """With eight extra threads for each part, at most 40 parts at a time have ten threads each."""
     case.folder.chmod(0o777)
-    told = case.many("--jobs", count[-3:], "--lines=1", *WORDS[1:], preexec_fn=limited(**limits), **who)
+    told = case.many("--jobs", count[-3:], "--lines=1", *WORDS[1:], "--workers", workers,
+                     preexec_fn=limited(**limits), **who)
     assert re.search(f": {count} jobs work at a time, since no more files or processes are allowed", told)
     assert "failed" not in told
 
@@ -206,6 +220,7 @@ REFUSED = [
     (2, "--book-out is not an option of --scores", "--scores", "list.obf", "--book-out=b"),
     (2, "--jobs is not an option of --scheduler", "list.obf", "--scheduler=tcp://h1:8786", "--jobs=3"),
     (2, "--cut is not an option of --scheduler", "list.obf", "--scheduler=tcp://h1:8786", "--cut"),
+    (2, "--prune is not an option of --cut", "list.obf", "--prune", "--cut"),
     (2, "--book-out out is standard output", "list.obf", "--book-out", "out"),
     (2, "--book-out ./list.obf is the list", "list.obf", "--book-out", "./list.obf"),
     (3, "cannot write none/book", "list.obf", "--book-out", "none/book"),
@@ -299,6 +314,23 @@ def test_missing_or_wrong_programs_and_tools_are_named(case):
     case.refused(4, "choom or setpriv is not on the path: apt-get install ", "work", "list.obf", places=places)
 
 
+@pytest.mark.parametrize("name", ["ffosolve-many", "ffosolve-games"])
+def test_debians_python_takes_the_place_of_one_that_is_too_old(name):
+    need("/usr/bin/python3")
+    code = ("import runpy, sys; sys.version_info, sys.executable = (3, 9), sys.argv[1]; del sys.argv[:2]; "
+            "runpy.run_path(sys.argv[0])")
+    for python, wanted in (("other", (0, f"{name} {__version__}\n", "")),
+                           ("/usr/bin/python3", (1, "", f"{name} needs Python 3.10 or later, and this is "))):
+        ran = run(sys.executable, "-c", code, python, ROOT / "bin" / name, "--version", text=True)
+        assert (ran.returncode, ran.stdout, ran.stderr[:len(wanted[2])]) == wanted
+
+
+def test_a_lack_of_memory_is_told_without_a_traceback(case):
+    for size in (20, 25, 30):
+        told = run(case.MANY, f"work{size}", "list.obf", preexec_fn=limited(RLIMIT_AS=size << 20)).stderr.decode()
+        assert "Traceback" not in told and re.search("^ffosolve-many: .*memory.*\n", told.splitlines(True)[-1])
+
+
 def test_output_onto_the_list_or_the_book_is_refused(case):
     for stream, message in ((">>list.obf", "standard output is the list list.obf"),
                             (">>joined.book", "--book-out joined.book is standard output, where the report goes"),
@@ -347,6 +379,9 @@ def test_books_that_cannot_be_merged_are_named(case):
     first, lying = ROOT / "examples/first.book", ROOT / "examples/lying.book"
     case.refused(3, f"{first} line 2 and {lying} line 2 disagree: -XOOOOO-", "--merge-books", first, lying)
     header, *entries = Path("one.book").read_bytes().splitlines(keepends=True)
+    at, several = next((at, entry) for at, entry in enumerate(entries, 2) if entry.count(b":") > 1)
+    write("fewer.book", header + several[:several.rindex(b" ")] + b"\n")  # without the last of its best moves
+    case.refused(3, f"one.book line {at} and fewer.book line 2 disagree: ", "--merge-books", "one.book", "fewer.book")
     for text, message in ((entries[1] + entries[0], "3: not in order"), (entries[0] * 2, "3: not in order"),
                           (b"?\n", "2: bad square at column 1"), (entries[0][:66] + b"\n", "2: no moves"),
                           (entries[0].replace(b" X;", b" O;"), "2: not canonical"),
@@ -390,14 +425,14 @@ def progress(weights, lines=1):
     """Returns an engine.Progress (what is left to do) for parts with these weights, each of `lines` lines."""
     one = folder.Run.__new__(folder.Run)
     one.statuses, one.count = {}, len(weights) * lines
-    one.parts = [folder.Part(number, 0, 0, 1 + number * lines, lines, 0, "", weight)
+    one.parts = [folder.Part(number, 0, 0, 1 + number * lines, lines, 0, 0, f"of {number}", weight)
                  for number, weight in enumerate(weights)]
-    return engine.Progress(one, types.SimpleNamespace(running={}, trouble=""))
+    return engine.Progress(one, types.SimpleNamespace(running={}, trouble="", silent=0))
 
 
 def at_work(one, hosts, ended={}):
     """Sets which parts are at work: {part: its host, of two threads}; and which have ended: {part: seconds}."""
-    one.run.statuses.update(dict.fromkeys(ended, 0))
+    one.run.statuses.update({f"of {number}": 0 for number in ended})
     one.done += sum(one.run.parts[number].weight for number in ended)
     one.seconds += sum(ended.values())
     running = one.engine.running
@@ -410,7 +445,7 @@ def test_the_time_left_is_known_within_a_factor_of_two_from_a_tenth_of_the_work_
     lines, ends = positions(264, 8, 18, 3).splitlines(keepends=True), []
     mixed = zip([b"".join(lines[at:at + 6]) for at in range(0, 264, 6)], TOOK)
     texts, took = zip(*(mixed if order == "mixed" else EASY + HARD if order == "easy first" else HARD + EASY))
-    one = progress([folder.weight_of(folder.FRONT.findall(text), 20) for text in texts], 6)
+    one = progress([folder.weight_of(solve.empties_of(solve.FRONT.findall(text)), 20) for text in texts], 6)
     waiting, running, whole = list(range(len(took))), {}, sum(part.weight for part in one.run.parts)
     while one.run.unsolved():
         while waiting and len(running) < 2:
@@ -441,11 +476,16 @@ LOST = [(0, {}, {0: "h1", 1: "h2"}), (100, {0: 100}, {1: "h2", 2: "h1"}), (190, 
      "20%, 0:00:40 left, 1 machine at work, parts 2 of 10"),  # two at a time: four were sent ahead
     (4 * [1], 1, [(0, {}, {0: "h1"}), (10, {0: 10}, {0: "h1", 1: "h1"})],
      "25%, 0:00:30 left, 1 machine at work, parts 1 of 4"),  # a part has been solved since it was seen at work
+    (4 * [1], 1, [(0, {}, {0: "h1"}), (10, {0: 10}, {0: "h1"})],
+     "25%, 0:00:30 left, 1 machine at work, parts 1 of 4"),  # all parts that were seen have been solved since
     (4 * [1], 1, LOST[:2], "25%, 0:01:40 left, 2 machines at work, parts 1 of 4"),
     (4 * [1], 1, LOST[:3], "25%, 0:03:30 left, 1 machine at work, parts 1 of 4"),  # a part waits again
     (4 * [1], 1, LOST, "25%, no machine at work, parts 1 of 4"),
     (4 * [1], 3, [*LOST[:1], (720, {}, LOST[0][2])],
      "0%, 2 machines at work, parts 0 of 4; part 0000000 (lines 1 to 3) has been running for 0:12:00 on h1"),
+    (4 * [1], 3, [*LOST[:1], (720, {0: 720}, LOST[0][2])],  # part 0 has been solved since it was seen at work
+     "25%, 0:24:00 left, 2 machines at work, parts 1 of 4; part 0000001 (lines 4 to 6) has been running for 0:12:00 on "
+     "h2"),
     (1200 * [1], 200, [(0, {}, {659: "h1"}), (55.4, dict.fromkeys(range(659), 55.4), {659: "h1"})],
      "54%, 8:18:36 left, 1 machine at work, parts 659 of 1200"),
 ])
@@ -454,6 +494,8 @@ def test_progress_shows_the_time_left_the_machines_and_a_part_that_runs_long(clo
     for clock.now, ended, hosts in times:
         at_work(one, hosts, ended)
     assert one.text() == text
+    one.engine.silent = 2
+    assert re.search(" at work, waiting for 2 silent workers, parts ", one.text())
     one.engine.trouble = "silence"
     assert re.search("^[0-9]+%, silence, parts ", one.text())
 
@@ -467,16 +509,36 @@ def test_a_part_that_has_failed_twice_is_tried_once_more_after_all_others_alone(
         done.set_result((part, *((types.SimpleNamespace(seconds=1), "") if part.number else (None, "why")), ["h1"]))
         return done
 
-    made = types.SimpleNamespace(tries=3, trouble="", running={}, look=lambda: None, most=most, send=send)
+    made = types.SimpleNamespace(tries=3, trouble="", silent=0, running={1: ("h1", 0)}, look=lambda: None, most=most,
+                                 send=send)
     engine.solve_parts(run, made, quiet=True)
     assert sent == [(0, False), (0, False), (1, False), (2, False), (3, False), (0, True)]
+    assert made.running == {1: ("h1", 0)}  # as the engine saw it, so that brief parts show that a machine is at work
+
+
+def test_trouble_is_told_at_once_in_a_log_and_again_after_a_minute(clock, monkeypatch):
+    run, done, told, times = progress([1]).run, Future(), [], iter((5, 10, 30, 66, 70, 200))
+
+    def look():
+        clock.now = next(times)
+        made.trouble = "silence" * (clock.now >= 10)
+        if clock.now == 200:
+            done.set_result((run.parts[0], types.SimpleNamespace(seconds=1), "", ["h1"]))
+
+    made = types.SimpleNamespace(tries=3, trouble="", silent=0, running={}, look=look, most=mock.Mock(return_value=1),
+                                 send=lambda *_: done)
+    monkeypatch.setattr(os, "isatty", lambda _: False)
+    monkeypatch.setattr(engine, "say", lambda text: told.append((clock.now, "silence" in text)))
+    engine.solve_parts(run, made, quiet=False)
+    assert told == [(10, True), (70, True)]
 
 
 def test_work_grows_with_the_empty_squares_of_both_spellings():
     growth = folder.GROWTH
     for empty in (b"-", b"."):
         text = (BOARD + b" X\n\n% -----\n" + b"-" * 30 + b"X" * 34 + b" X\n").replace(b"-", empty)
-        assert folder.weight_of(folder.FRONT.findall(text), 20) == folder.PART + 2 * folder.LINE + growth ** 2
+        empties = solve.empties_of(solve.FRONT.findall(text))
+        assert folder.weight_of(empties, 20) == folder.PART + 2 * folder.LINE + growth ** 2
     for empties, seconds in ((6, 0.83 / 0.0083), (8, 7.6 / 0.0083)):  # 20 and 22 empty squares against 14
         assert 0.5 < growth ** empties / seconds < 2
 

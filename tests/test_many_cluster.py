@@ -10,7 +10,8 @@ import shutil
 import signal
 import socket
 import sys
-from collections import defaultdict
+import time
+from concurrent.futures import Future
 from pathlib import Path
 from unittest import mock
 
@@ -21,7 +22,7 @@ from ffosolve._command_line import Refusal
 from ffosolve._many import solve
 from tests import many
 from tests.many import ACTING, INTERRUPTED
-from tests.support import SECONDS, limited, need, processes_in, run, stored, wait_until, write
+from tests.support import SECONDS, limited, need, processes_in, run, stored, unshared, wait_until, write
 
 WORDS = ("--lines=4", "--book-in=one.book", *many.WORDS[1:])  # 15 parts
 # A server of Dask's that prints its address, and never answers what it is.
@@ -104,7 +105,7 @@ class Cluster:
 
     def leaves_nothing(self):
         wait_until(lambda: not self.programs() and not self.packs())
-        assert {path.parts[0] for path in Path(".").rglob("program-?")} <= {"work", "scores"}
+        assert {path.parts[0] for path in Path(".").rglob("ffosolve-?")} <= {"work", "scores"}
 
     def programs(self, worker=None):
         """Returns the IDs of the processes that solve parts on a worker or, by default, anywhere."""
@@ -201,7 +202,8 @@ def test_a_silent_worker_keeps_none_that_joins_from_work(cluster, case, others):
     wait_until(lambda: messages().count(" is left out: ") == len(others) and cluster.programs("worker2"))
     cluster.signal(signal.SIGSTOP, "worker2")  # which alone has the program
     cluster.start_workers("worker3")
-    wait_until(lambda: case.parts_solved() == 14)
+    wait_until(lambda: case.parts_solved() == 15)
+    assert ", waiting for 1 silent worker, " in messages()
     cluster.signal(signal.SIGCONT, "worker2")
     cluster.ended(ran)
 
@@ -216,8 +218,65 @@ def test_a_worker_that_fails_three_parts_in_a_row_is_left_out_but_not_the_last_o
     cluster.signal(signal.SIGKILL, "worker2")
     wait_until(lambda: "Remove worker" in Path("scheduler.log").read_text())
     told = cluster.ended(cluster.begin(), 1)
-    assert "not solved: 15 of 15 parts: part 0000000 (lines 1 to 4), " in told
+    assert "not solved: 15 of 15 parts: part 0000000 (lines 1 to " in told
     assert told.count("failed part 0000000 ") == 3
+
+
+def test_a_worker_whose_program_breaks_is_left_out_and_fails_no_part(cluster, case):
+    broken = "lambda text: sys.exit('broken') if os.path.exists('broken') else text"
+    cluster.start_workers("worker1", PAUSE="0.5", SPOIL=broken, SPOIL_KNOWN=broken)
+    cluster.start_workers("worker2", PAUSE="1")
+    ran = cluster.begin(solved=2)
+    write("broken", "")
+    told = cluster.ended(ran)
+    why = " is left out: the program can't solve a known line: broken\n"
+    assert (told.count(why), " failed " in told) == (1, False)
+
+
+@pytest.mark.parametrize("fault", ["del os.memfd_create", "os.memfd_create = [].index"])
+def test_a_worker_on_which_this_code_raises_an_error_is_left_out_and_one_without_files_in_memory_is_not(cluster, fault):
+    write("lib/sitecustomize.py", f"import os\n{fault}\n")
+    cluster.start_workers("worker1", PYTHONPATH=f"{cluster.case.folder}/lib", PAUSE="0.2")
+    cluster.start_workers("worker2", PAUSE="0.4")
+    told = cluster.ended(cluster.begin())
+    assert (" failed " in told, told.count(" is left out: ValueError(")) == (False, "del" not in fault)
+
+
+@pytest.mark.parametrize("allowed", ["0", "3"])
+def test_a_machine_whose_workers_end_before_they_solve_a_known_line_is_named_and_no_part_fails(cluster, allowed):
+    """All are on one machine, but the other worker has solved one."""
+    cluster.signal(signal.SIGKILL, "scheduler")
+    cluster.start_scheduler(DASK_DISTRIBUTED__SCHEDULER__ALLOWED_FAILURES=allowed)
+    cluster.start_workers("worker1", PAUSE="2")
+    ran = cluster.begin(solved=1)
+    cluster.start_workers("worker2", SPOIL_KNOWN="lambda text: os.kill(os.getppid(), 9)")
+    told = cluster.ended(ran)
+    assert (" failed " in told, " memory " in told) == (False, False)
+    named = told.count("127.0.0.1 is left out: 4 workers ended before they had solved a known line")
+    assert named == 1 if allowed == "0" else named <= 1  # otherwise, it may be chance that parts end elsewhere
+
+
+def test_another_version_of_dask_is_refused_at_the_start_by_both_versions(cluster, case):
+    write("lib/sitecustomize.py", "import distributed\ndistributed.__version__ = '1.2.3'\n")
+    cluster.start_workers("worker1", PYTHONPATH=f"{case.folder}/lib")
+    words = ("--scheduler=scheduler.json", "work", "list.obf")
+    told = case.many(*words, status=3, message=": they have to be the same\n")
+    assert re.search(r" has distributed (\d\S+), its workers 1\.2\.3, \S+ \1: they", told)
+    cluster.start_workers("worker2")
+    wait_until(lambda: "Registered to" in Path("worker2.log").read_text())
+    cluster.signal(signal.SIGKILL, "scheduler", "worker1", "worker2")
+    cluster.start_scheduler(PYTHONPATH=f"{case.folder}/lib")
+    told = case.many(*words, status=3, message=" has distributed 1.2.3, its workers none, ")
+
+
+def test_a_folder_where_no_program_may_run_is_fine_and_a_finished_one_needs_no_scheduler(cluster, case):
+    cluster.start_workers("worker1")
+    mount = ('mkdir work && mount -t tmpfs -o noexec,mode=755 none work && "$@" --scheduler=scheduler.json >report &&'
+             ' cmp report work.report && "$@" --scheduler=tcp://127.0.0.1:1')
+    write("work.report", case.one)
+    unshare, *words = unshared()
+    case.many(*words, "sh", "-c", mount, "sh", case.MANY, *WORDS, by=unshare, message=", 15 of them solved before")
+    cluster.leaves_nothing()
 
 
 def test_a_worker_that_fails_now_and_then_is_not_left_out(cluster, case):
@@ -230,11 +289,11 @@ def test_a_worker_that_fails_now_and_then_is_not_left_out(cluster, case):
 
 def test_parts_that_fail_everywhere_take_no_worker_out(cluster, case):
     cluster.start_workers("worker1", "worker2", "worker3", PAUSE="0.2")
-    write("list.obf", b"% FAIL\n" * 24 + case.SMALL)
+    write("list.obf", b"".join(b"%% FAIL %d\n" % number for number in range(24)) + case.SMALL)
     told = cluster.ended(cluster.begin(), 1)
-    assert (told.count(" failed part "), "left out" in told) == (18, False)
-    assert ": not solved: 6 of 21 parts: part 0000000 (lines 1 to 4), " in told
-    for number in range(6):
+    count = int(re.search(r": not solved: (\d) of \d\d parts: part 0000000 \(lines 1 to ", told)[1])
+    assert (told.count(" failed part "), "left out" in told, count > 3) == (3 * count, False, True)
+    for number in range(count):
         assert len({*re.findall(rf"(\S+) failed part 000000{number} ", told)}) == 3
 
 
@@ -242,8 +301,8 @@ def test_a_part_that_kills_its_worker_is_not_solved_and_the_others_are(cluster, 
     cluster.start_workers("worker1", options=["--nthreads=2"])
     write("list.obf", case.SMALL[:68 * 22] + b"% KILL\n" + case.SMALL[68 * 22:])
     told = cluster.ended(cluster.begin(), 1)
-    assert ": not solved: 1 of 16 parts: part 0000005 (lines 21 to 24). " in told
-    assert told.count("failed part 0000005 (lines 21 to 24): 4 workers ended that had it\n") == 2
+    (part,) = re.findall(r": not solved: 1 of \d+ parts: (part \d+ \(lines \d+ to \d+\))\. ", told)
+    assert told.count(f"failed {part}: 4 workers ended that had it\n") == 2
 
 
 def test_a_scheduler_that_is_back_at_once_goes_on_and_one_that_is_lost_ends_the_run(cluster):
@@ -304,7 +363,7 @@ def test_a_full_disk_ends_the_run_and_it_goes_on_when_there_is_room(cluster, cas
 
 
 def test_what_is_sent_needs_no_certain_python_and_no_package_but_dask():
-    about = (Path(solve.__file__).read_text(), {"programs": []}, {"program-0": b"it"})
+    about = (Path(solve.__file__).read_text(), {"programs": []}, {"ffosolve-0": b"it"})
     sent = solve.Pack(*about).__reduce__()
     one = eval(*pickle.loads(pickle.dumps(sent[1])))
     assert type(one) is not solve.Pack and one.__reduce__() == sent
@@ -324,11 +383,14 @@ def one(monkeypatch):
     """The product's Cluster, with a mock of Dask's client. It knows three fit workers of one thread: a, b and c."""
     pytest.importorskip("distributed")
     from ffosolve._many import cluster
-    one = cluster.Cluster.__new__(cluster.Cluster)
-    one.client, one.run = mock.Mock(status="running"), mock.Mock(statuses={}, files={}, task={})
+    with contextlib.ExitStack() as stack:
+        for what in ("logging.disable", "warnings.simplefilter", "asyncio.run_coroutine_threadsafe"):
+            stack.enter_context(mock.patch(what))
+        stack.enter_context(mock.patch.object(cluster.Cluster, "ask", mock.Mock()))
+        stack.enter_context(mock.patch.object(cluster, "client_of", return_value=mock.Mock(status="running")))
+        one = cluster.Cluster("tcp://h1:1", mock.Mock(statuses={}, pack=solve.Pack("", {}, {})))
     one.workers, one.count, one.threads, one.key = {(name, name): 1 for name in "abc"}, 3, 3, "ffosolve-key"
-    one.left_out, one.unfit, one.kept, one.running, one.failed = set(), set(), set(), {}, defaultdict(set)
-    one.pack, one.said = None, mock.Mock()
+    one.said = mock.Mock()
     monkeypatch.setattr(cluster, "say", one.said)
     return one
 
@@ -356,17 +418,66 @@ def test_workers_are_left_out_for_parts_that_others_solve_not_for_those_that_fai
 
 
 def test_a_worker_that_is_silent_or_not_fit_gets_no_part_and_the_only_pack_is_not_left_to_it(one):
-    about = {name: {"local_directory": name, "nthreads": 2, "host": "h1", "last_seen": 100} for name in "abc"}
+    about = {name: {"local_directory": name, "nthreads": 2, "host": "h1", "last_seen": 100, "metrics": {}}
+             for name in "abc"}
     about["b"]["last_seen"] = 69  # more than 30 seconds before the others
     one.client.scheduler.identity = mock.AsyncMock(return_value={"workers": about})
-    one.client.processing = mock.AsyncMock(return_value={"a": ["ffosolve-key-3-x"], "b": ["ffosolve-key-7-x"]})
-    one.unfit = {("c", "c")}
+    at_work = {"a": ["ffosolve-other-5-x", "ffosolve-key-3-x"], "b": ["ffosolve-key-7-x"]}  # one part of another run
+    one.client.processing = mock.AsyncMock(return_value=at_work)
+    one.unfit, begun = {("c", "c")}, set()
     for holders in ("b", "bc", "ab"):
         one.pack = pack = mock.Mock(key="pack", status="finished")
         one.client.who_has = mock.AsyncMock(return_value={"pack": [*holders]})
         asyncio.run(one.ask())
         assert (one.workers, one.count, one.threads, {*one.running}) == ({("a", "a"): 2}, 3, 2, {3, 7})
-        assert (one.kept, one.pack is pack) == ({7}, holders != "b")
+        assert (one.held, one.kept) == ({"ffosolve-key-3-x"}, {"ffosolve-key-7-x"})
+        assert (one.silent, one.pack is pack) == (1, holders != "b")
+        begun.add(one.running[3])
+    assert len(begun) == 1  # a part goes on
+
+
+def test_a_worker_that_begins_none_of_its_parts_is_stuck_and_named(one, monkeypatch):
+    """Its parts are for others, until it begins one. The others have no parts, or are at work, or have brief parts, or
+    wait for another Pack."""
+    clock = mock.Mock(return_value=0.0)
+    monkeypatch.setattr("time.monotonic", clock)
+    about = {name: {"local_directory": name, "nthreads": 1, "host": "h1", "last_seen": 0} for name in "abcd"}
+    one.client.scheduler.identity = mock.AsyncMock(return_value={"workers": about})
+    packs = mock.Mock(), mock.Mock()
+    for second in range(0, 150, 5):
+        clock.return_value, is_stuck = second, 90 < second <= 120
+        one.pack = packs[second >= 30]
+        for name, count in (("a", second > 120), ("b", 0), ("c", 1), ("d", 0)):
+            about[name].update(last_seen=second, metrics={"task_counts": {"executing": int(count)}})
+        one.client.processing = mock.AsyncMock(return_value={
+            "a": ["ffosolve-key-1-x"], "c": ["ffosolve-key-2-x"], "d": [f"ffosolve-key-{second}-x"]})
+        asyncio.run(one.ask())
+        assert (("a", "a") in one.workers) == ("ffosolve-key-1-x" in one.held) == (not is_stuck)
+        assert ("ffosolve-key-1-x" in one.kept) == is_stuck and {("b", "b"), ("c", "c")} < one.workers.keys()
+    (told,) = one.said.call_args_list
+    assert told[0] == ("a begins no part: is its memory too small for the program and any --book-in?",)
+
+
+def test_a_question_that_fails_is_asked_again_and_the_seconds_in_which_this_process_is_stopped_do_not_count(
+        one, monkeypatch):
+    """A scheduler that answers no question is lost after 30 seconds."""
+    clock = mock.Mock(return_value=time.monotonic())
+    monkeypatch.setattr("time.monotonic", clock)
+    one.asked, one.ask, one.in_dask = Future(), mock.Mock(), mock.Mock(return_value=Future())
+    one.asked.set_exception(OSError("Timed out"))
+    one.look()
+    assert one.in_dask.call_count == 1
+    for stopped in (0, 60, 600):
+        clock.return_value += stopped
+        one.look()
+        assert one.trouble == ""
+    for second in range(1, 31):
+        clock.return_value += 1
+        one.look()
+        assert one.trouble == (f"the scheduler has been silent for {second} s" if second > 5 else "")
+    clock.return_value += 1
+    with pytest.raises(Refusal, match="^the scheduler tcp://h1:1 is lost; the same command goes on "):
+        one.look()
 
 
 @pytest.mark.parametrize("workers, count, most, alone", [("", 0, 100, 1), ("", 2, 0, 0), ("ab", 2, 104, 1),
@@ -378,39 +489,92 @@ def test_parts_are_sent_ahead_unless_some_workers_may_not_have_them(one, workers
     assert one.most(is_alone=False) == 0
 
 
-@pytest.mark.parametrize("change, is_cancelled", [
-    ({}, False), ({"workers": {("a", "a"): 1, ("b", "b"): 1}}, True), ({"pack": "another"}, True),
-    ({"workers": {("a", "a"): 1, ("b", "b"): 1}, "running": {7: ("h1", 0.0)}}, False),
-    ({"count": 1, "workers": {("a", "a"): 1, ("b", "b"): 1}}, False), ({"pack": "another", "kept": {7}}, False)])
-def test_a_part_is_sent_after_the_pack_and_again_if_it_waits_for_workers_that_are_not_alone(one, change, is_cancelled):
+TWO = {("a", "a"): 1, ("b", "b"): 1}
+
+
+OTHER = {"pack": mock.Mock(status="pending")}
+
+
+@pytest.mark.parametrize("change, at, copies", [
+    ({}, "", 0), ({"workers": TWO}, "", 1), (OTHER, "", 1), ({"workers": TWO}, "held", 0), (OTHER, "held", 1),
+    ({"count": 1, "workers": TWO}, "", 0), ({"workers": TWO}, "kept", 1), ({"workers": {}}, "kept", 0),
+    ({"workers": TWO, "left_out": {*TWO}}, "kept", 0)])
+def test_a_part_is_sent_after_the_pack_and_again_if_no_fit_worker_has_it(one, change, at, copies):
+    """The part is `held` by a fit worker, or `kept` by another one, or waits. The first answer counts; then the others
+    are cancelled."""
     class Sent(asyncio.Future):  # what Dask's client returns for a part
         async def cancel(self):
             super().cancel()
 
-    async def first_second():
-        one.client.submit.side_effect = [mock.Mock(status="pending"), *(Sent() for _ in range(3))]
+    def submit(*words, key="", **how):
+        made = Sent() if key else mock.Mock(status="pending")
+        made.key = key
+        return made
+
+    async def first_seconds():
         sent = [asyncio.ensure_future(one.solve(mock.Mock(number=7), failed)) for failed in ([], ["a"], ["a", "b"])]
         await asyncio.sleep(0.5)
-        vars(one).update(change)
+        vars(one).update(change, **{at: {made.key for made in made_parts()}} if at else {})
         await asyncio.sleep(0.8)
-        return [future.done() for future in sent]
+        made, said = made_parts(), one.client.submit.call_args_list
+        is_done = [future.done() for future in sent]
+        made[-1].set_result((("a", "a"), "unfit", b"", ""))
+        await asyncio.sleep(0.1)
+        return made, [it.cancelled() for it in made], is_done, sent[-1].done(), [call[1] for call in said]
 
+    def made_parts():
+        return [made for made in results if made.key]
+
+    results = []
+    one.client.submit.side_effect = lambda *words, **how: (results.append(submit(*words, **how)), results[-1])[1]
     one.workers, one.count, one.ask = {("a", "a"): 1}, change.get("count", 3), mock.AsyncMock()
-    assert (asyncio.run(first_second()), one.ask.call_count) == ([is_cancelled] * 3, 2)
-    pack, *parts = [call[1] for call in one.client.submit.call_args_list]
-    assert [part.get("priority", 0) for part in parts] == [0, 1, 2] and pack.get("priority", 0) > 2
-    assert [part["workers"] for part in parts] == [["a"] if one.count > 1 else None] * 3
+    made, is_cancelled, is_done, is_answered, (pack, *parts) = asyncio.run(first_seconds())
+    assert (is_done, is_answered, one.ask.call_count) == ([False] * 3, True, 2)
+    assert (len(made), sum(is_cancelled)) == (3 + 3 * copies, copies)
+    parts = [part for part in parts if "key" in part]
+    assert [part.get("priority", 0) for part in parts[:3]] == [0, 1, 2] and pack.get("priority", 0) > 2
+    assert [part["workers"] for part in parts[:3]] == [["a"] if one.count > 1 else None] * 3
 
 
 def test_workers_that_end_with_the_program_and_a_book_alone_end_the_run(one):
     import distributed
-    one.pack, worker = mock.Mock(key="pack"), mock.Mock(address="tcp://h1:1")
-    one.answer = mock.AsyncMock(side_effect=distributed.KilledWorker("part", worker, 3))
-    ended = asyncio.run(one.solve("part", []))
-    assert ended == ("part", None, "4 workers ended that had it", 2 * ["tcp://h1:1"])
-    one.answer.side_effect = distributed.KilledWorker("pack", worker, 3)
-    with pytest.raises(Refusal, match="^4 workers .* memory too small"):
-        asyncio.run(one.solve("part", []))
+    worker, part = mock.Mock(address="tcp://h1:1", local_directory="a", host="h1"), mock.Mock(digest="it")
+    one.answer = mock.AsyncMock(side_effect=distributed.KilledWorker("pack", worker, 3))
+    with pytest.raises(Refusal, match="^h1: 4 workers ended before .* memory too small"):
+        asyncio.run(one.solve(part, []))
+    one.tested = {("tcp://h1:1", "a")}
+    one.answer.side_effect = distributed.KilledWorker("ffosolve-key-7-x", worker, 3)
+    ended = asyncio.run(one.solve(part, []))
+    assert ended == (part, None, "4 workers ended that had it", 2 * ["tcp://h1:1"])
+    one.answer.side_effect = ValueError("Dask can't run it\nat all")
+    assert asyncio.run(one.solve(part, [])) == (part, None, "Dask can't run it", ["a worker"])
+
+
+@pytest.mark.parametrize("allowed, count", [(0, 4), (1, 2), (3, 1), (9, 1)])
+def test_no_part_is_to_blame_before_four_workers_have_ended_and_a_machine_whose_workers_solve_no_known_line_is(
+        one, allowed, count):
+    """A Pack that ended workers counts once, for all parts that waited for it."""
+    import distributed
+    part, ends = mock.Mock(digest="it"), (allowed + 1) * count
+    worker = mock.Mock(address="tcp://h1:1", local_directory="a", host="h1")
+    for place, why, at in (("new", "", []), ("a", f"{ends} workers ended that had it", 2 * ["tcp://h1:1"])):
+        worker.local_directory = place
+        one.tested = {("tcp://h1:1", "a")}
+        told = [one.blame(part, distributed.KilledWorker(f"ffosolve-key-7-{place}{number}", worker, allowed))
+                for number in range(count)]
+        assert told == [("", [])] * (count - 1) + [(why, at)]
+    (said,), = (call[0] for call in one.said.call_args_list)
+    assert said.startswith(f"h1 is left out: {ends} workers ended before they had solved a known line")
+    about = {"local_directory": "b", "nthreads": 2, "host": "h1", "last_seen": 1, "metrics": {}}
+    about = {"a": {**about, "local_directory": "a"}, "b": about}
+    one.client.scheduler.identity = mock.AsyncMock(return_value={"workers": about})
+    one.client.processing, one.tested = mock.AsyncMock(return_value={}), {("a", "a")}
+    asyncio.run(one.ask())
+    assert one.workers == {("a", "a"): 2}  # which has solved one
+    one.ends.clear()
+    for _ in range(100):
+        assert one.blame(part, distributed.KilledWorker("pack", worker, 0)) == ("", [])
+    assert one.ends == {"h1": 1}
 
 
 def test_the_adaptive_cluster_of_the_document_starts_and_ends_workers_by_need(case, many_python):
@@ -420,6 +584,8 @@ def test_the_adaptive_cluster_of_the_document_starts_and_ends_workers_by_need(ca
     ran = run(many_python, "adaptive.py", timeout=3 * SECONDS)
     assert (ran.returncode, Path("list.report").read_bytes()) == (0, case.one), ran.stderr
     case.same_book("list.book")
+    os.remove("list.obf")
+    assert run(many_python, "adaptive.py", timeout=3 * SECONDS).returncode == 3
 
 
 NOT_AN_ADDRESS = "it is neither an address with a port, such as tcp://h1:8786, nor a file"
@@ -470,6 +636,10 @@ def test_a_scheduler_with_tls_is_named(cluster, case):
 def test_a_missing_or_malformed_dask_is_named(case, many_python):
     case.refused(4, f"--scheduler needs the package distributed, which {many_python} lacks (No module named ", "-S",
                  case.MANY, "--scheduler=h1:8786", "other", "list.obf", by=many_python)
+    if many_python == "/usr/bin/python3":  # otherwise, it takes the place of one that lacks the package
+        os.symlink(many_python, "python3")
+        case.refused(3, "cannot read none: No such file or directory", "-S", case.MANY, "--scheduler=h1:8786", "none",
+                     by="./python3")
     write("dask/dask.yaml", "distributed: [")
     case.refused(3, "Dask cannot start: ", "--scheduler=h1:8786", "other", "list.obf",
                  places={"DASK_CONFIG": f"{case.folder}/dask"})

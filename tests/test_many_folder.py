@@ -11,15 +11,18 @@ import stat
 import sys
 import threading
 import time
+import zlib
+from collections import defaultdict
 from pathlib import Path
 from unittest import mock
 
 import pytest
 
+from ffosolve._command_line import counted
 from ffosolve._many import folder, solve
 from tests.many import ACTING, BOARD, INTERRUPTED, WORDS, files
-from tests.support import (MOST_BYTES, NOBODY, SECONDS, ends, limited, preload, processes_in, run, unshared, wait_until,
-                           write)
+from tests.support import (MOST_BYTES, NOBODY, SECONDS, ends, limited, positions, preload, processes_in, run, unshared,
+                           wait_until, write)
 
 SOLVE = (sys.executable, "work/solve.py")
 
@@ -27,28 +30,29 @@ SOLVE = (sys.executable, "work/solve.py")
 @pytest.mark.parametrize("scores, lines", [(None, [b"[1]", b"1 +02 A1 agree", b"solved 1 refused 0"]),
                                            ("", [b"A1:+02;", b"%", b"% blank and comment", b"", b"% blank", b"\r"])])
 def test_results_are_complete_with_a_row_for_each_line_and_on_the_disk_if_they_took_a_second(tmp_path, scores, lines):
-    options, book = {"--lines": 9, "--max-empties": "20", "--scores": scores}, b"%" if scores is None else b""
-    ((part, text),) = folder.cut(io.BytesIO(BOARD + b" X;\n\n%\n \t% X\n\r\n \t\r"), "list", options)
+    task, book = {"options": {"--max-empties": "20", "--scores": scores}, "lines": 9}, b"%" if scores is None else b""
+    text = BOARD + b" X;\n\n%\n \t% X\n\r\n \t\r"
+    (part,) = folder.cut(io.BytesIO(text), "list", task)
     one = folder.Run.__new__(folder.Run)
-    one.folder, one.place, one.task, one.statuses = tmp_path, tmp_path, {"options": options}, {}
+    one.folder, one.place, one.task, one.statuses = tmp_path, tmp_path, task, {}
     write(tmp_path / "list", text)
     (tmp_path / "results").mkdir()
     whole = b"\n".join(lines) + b"\n"
     for output in (whole, whole[:-1], b"", whole + b"\n", b"".join(whole.splitlines(keepends=True)[1:])):
         for seconds in (0.9, 1.0):
-            record = solve.record_of(one.task, 0, part.digest, solve.Solved(0, output, book, seconds))
+            record = solve.sealed(part.digest, b"0 %d %.3f\n" % (len(output), seconds) + output + book)
             with mock.patch.object(os, "fsync") as synced:
                 assert bool(one.keep(part, record, "")[0]) == (output == whole)
             assert synced.call_count == (output == whole and seconds == 1)
 
 
 def test_a_side_that_goes_on_with_letters_is_named_once(capfd):
-    options = {"--lines": 2, "--max-empties": "20", "--scores": None}
+    task = {"options": {"--max-empties": "20", "--scores": None}, "lines": 1}
     fit = ((side, "", "") for side in (" black;", " WHITE", "XA1:+02;", "ops:-02;", " * blanc"))
     for side, word, colour in ((" blanc;", "blanc", "Black"), ("\tbianco", "bianco", "Black"),
                                ("Weiss % X", "Weiss", "White"), ("OX O;", "OX", "White"), *fit):
         text = f"% {BOARD.decode()} blanc\n\n{BOARD.decode()} X\n  {BOARD.decode()}{side}\n"
-        assert len([*folder.cut(io.BytesIO(2 * text.encode()), "list", options)]) == 4
+        assert len([*folder.cut(io.BytesIO(2 * text.encode()), "list", task)]) == 8
         told = f"ffosolve: list line 4: the side {word} is read as {colour}: only its first letter counts\n"
         assert capfd.readouterr().err == (told if word else "")
 
@@ -80,11 +84,16 @@ def test_a_folder_of_another_user_or_that_others_may_write_is_refused_and_not_us
         shutil.rmtree("work")
     case.many(*WORDS, umask=0)
     assert not [path for path in Path().glob("work/**/*") if path.lstat().st_mode & 0o022]
-    for path, mode in (("work", 0o775), ("work", 0o757), ("work/program-0", 0o775), ("work/task", 0o646)):
-        before = os.stat(path).st_mode
-        os.chmod(path, mode)
-        case.refused(2, f"other users may write {path}: name a folder that only you may write\n", *WORDS)
-        os.chmod(path, before)
+    os.rename("work", "-my work")
+    for path, mode, who in (("", 0o775, "g"), ("", 0o757, "o"), ("/ffosolve-0", 0o777, "go"), ("/task", 0o646, "o")):
+        os.chmod(f"-my work{path}", mode)
+        command = f"chmod {who}-w './-my work{path}'\n"
+        words = ("--lines=20", "--", "-my work", "list.obf")
+        message = f"other users may write -my work{path}: name another folder, or type {command}"
+        case.refused(2, message, *words, by=case.ACTS, places={"WORDS": f"{case.folder}/words"})  # runs no program
+        run("sh", "-c", command, check=True)
+        case.many(*words, message=", 3 of them solved before")
+    os.rename("-my work", "work")
     if NOBODY:
         os.chown("work/solve.py", NOBODY["user"], 0)
         case.refused(2, "work/solve.py belongs to another user: name another folder\n", *WORDS)
@@ -96,45 +105,48 @@ def test_a_group_that_may_write_the_results_solves_parts_of_a_folder(case):
     if NOBODY:
         os.chown("work/results", 0, NOBODY["group"])
     ends((0, "", ""), *SOLVE, "0-1", umask=0o077, **NOBODY)
-    assert [stat.S_IMODE(path.stat().st_mode) for path in Path("work/results").iterdir()] == [0o644, 0o644]
+    assert {path: stat.S_IMODE(path.stat().st_mode) for path in Path("work/results").iterdir()} == {
+        case.record(0): 0o644, case.record(1): 0o644}
     case.many(*WORDS, message="in 3 parts, 2 of them solved before;")
 
 
 def test_a_part_whose_results_are_not_complete_is_solved_again(case):
     case.many(*WORDS)
     case.many(*WORDS, message="in 3 parts, 3 of them solved before;")
-    path, task = Path("work/results/0000001"), solve.read_task(Path("work"))
+    path, task = case.record(1), solve.read_task(Path("work"))
     whole, text = path.read_bytes(), case.SMALL[68 * 20:68 * 40]
-    found = solve.read_record(task, 1, solve.sha256(text), whole)
+    found = solve.read_record(path.name, whole)
 
-    def record(part=1, text=text, found=found, **options):
-        """Returns a record, with the right digest, of other results or for another part, other lines or options."""
-        return solve.record_of({"options": {**task["options"], **options}}, part, solve.sha256(text), found)
+    def record(text=text, found=found, **options):
+        """Returns a record, with the right digest, of other results or for other lines or options."""
+        head = b"%d %d %.3f\n" % (found.status, len(found.output), found.seconds)
+        return solve.sealed(solve.digest_of({**task["options"], **options}, text), head + found.output + found.book)
 
     assert record() == whole
     for spoiled in (None, b"", whole[:-1], whole[:whole[:-1].rindex(b"\n") + 1], bytes(len(whole)), whole + b"\n",
-                    whole.replace(b"+", b"-", 1), Path("work/results/0000000").read_bytes(), record(part=2),
+                    whole.replace(b"+", b"-", 1), case.record(0).read_bytes(),
                     record(text=text[:-1]), record(**{"--complete": ""}), record(found=found._replace(book=b"")),
-                    record(found=found._replace(output=found.output + b"\n"))):
-        path.unlink() if spoiled is None else path.write_bytes(spoiled)
+                    record(found=found._replace(output=found.output + b"\n")), "sparse"):
+        path.unlink() if spoiled is None else path.write_bytes(b"" if spoiled == "sparse" else spoiled)
+        os.truncate(path, 1 << 40) if spoiled == "sparse" else None
         case.many(*WORDS, message="in 3 parts, 2 of them solved before;")
         assert path.read_bytes().endswith(found.output + found.book)
 
 
 def test_files_that_are_damaged_or_missing_or_links_or_pipes_are_written_again_and_others_stay(case):
-    words, record = (*WORDS, "--book-in=one.book"), Path("work/results/0000001")
+    words = (*WORDS, "--book-in=one.book")
     case.many(*words)
+    record = case.record(1)
     for name in ("other", "work/notes", "work/list.0123abcd.new", "work/results/mine.txt"):
         write(name, "?")
-    before, paths = files(), [Path("work", name) for name in ("list", "program-0", "book-in", "solve.py", "task")]
+    before, paths = files(), [Path("work", name) for name in ("list", "ffosolve-0", "book-in", "solve.py", "task")]
     for spoiled in (paths, *zip(paths), [record]):
         for spoil in (lambda path: os.truncate(path, path.stat().st_size - 5), os.unlink,
                       lambda path: (path.unlink(), os.mkfifo(path)),
                       lambda path: (path.unlink(), path.symlink_to(case.folder / "other"))):
             for path in spoiled:
                 spoil(path)
-            solved, by = (2, case.ACTS) if record in spoiled else (3, case.MANY)  # by the program of the folder
-            case.many(*words, by=by, message=f"in 3 parts, {solved} of them solved before;")
+            case.many(*words, message=f"in 3 parts, {2 if record in spoiled else 3} of them solved before;")
             before[record] = files()[record] if record in spoiled else before[record]
             assert files() == before
     for task in (Path("work/task").read_bytes(), b""):
@@ -146,74 +158,151 @@ def test_files_that_are_damaged_or_missing_or_links_or_pipes_are_written_again_a
     case.many(*words, message="in 3 parts, 0 of them solved before;")
 
 
-def test_other_options_are_refused_by_name(case):
-    words = (*WORDS[:3], "--scoring=discs", "--max-empties=07", "--complete", "--book-in=one.book")
-    write("other.book", b"% ffobook 2 winner\n")
-    case.write_list(case.SMALL, "--scoring=discs")
-    digest = run("sha256sum", "one.book").stdout[:64].decode()
-    case.many(*words)
-    for old, new, how in (("--lines=20", "--lines=21", "with --lines 20"),
-                          ("--scoring=discs", "--scoring=sign", "with --scoring discs"),
-                          ("--max-empties=07", "--max-empties=8", "with --max-empties 7"),
-                          ("--complete", "--quiet", "with --complete"),
-                          ("--book-in=one.book", "--book-in=other.book", f"with --book-in of SHA-256 {digest}"),
-                          ("--book-in=one.book", "--quiet", f"with --book-in of SHA-256 {digest}")):
-        case.refused(2, f"work was begun {how}: use another folder, or the same options",
-                     *(new if word == old else word for word in words))
-    case.refused(2, "begun with --lines 20 and with --scoring discs and with --max-empties 7 and without --scores "
-                    f"and with --complete and with --book-in of SHA-256 {digest}: use another folder",
-                 "--scores", "work", "list.obf")
-    case.many(*words, "--table=9", "--workers=1", "--jobs=3", message=", 3 of them solved before")
+def least_last(lines, usual):
+    """Returns the parts of a list, by their definition: each ends with the last line of the least checksum among those
+    that may be its last one, if the list goes on after these."""
+    parts, most = [], max(1, 7 * usual // 4)
+    while len(lines) > most:
+        sums = [zlib.crc32(line) for line in lines[:most]]
+        end = max(at for at in range(most) if sums[at] == min(sums)) + 1
+        parts.append(lines[:end])
+        lines = lines[end:]
+    return parts + [lines] * bool(lines)
 
 
-def test_a_list_may_grow_at_its_end_and_is_otherwise_refused_by_its_first_line_that_differs(case):
-    case.many(*WORDS)
-    for text, line in ((case.SMALL[:68 * 29] + b"\n" + case.SMALL[68 * 30:], 30), (case.SMALL[:-68], 60),
-                       (b"%\n" + case.SMALL, 1), (b"", 1)):
-        write("list.obf", text)
-        case.refused(2, f"from line {line} on: use another folder, or the same list", *WORDS)
-    grown = case.SMALL + case.SMALL[:68 * 30]
-    more = grown + b"% more" + case.SMALL[:68 * 40]
-    line = case.SMALL[:68 * 39] + BOARD.replace(b"X", b"O", 1) + b" X;"
-    for at, text, message in (("work", case.SMALL, "in 3 parts, 3 of them solved before;"),
-                              ("work", grown, "90 lines in 5 parts, 3 of them"),
-                              ("work", more, "130 lines in 7 parts, 4 of them"),
-                              ("work", more, "130 lines in 7 parts, 7 of them solved before"),
-                              ("last line", line, "in 2 parts, 0 of them"),
-                              ("last line", line + b" A1:+02;\n", "in 2 parts, 1 of them")):
+@pytest.mark.parametrize("usual", [1, 2, 3, 10, 40])
+def test_parts_end_by_what_the_lines_are_and_have_as_many_as_asked_on_average(usual):
+    rng = random.Random(1)
+    lines = [b"%x\n" % rng.getrandbits(99) for _ in range(60 * usual)]
+    parts = [*solve.parts_of(iter(lines), usual)]
+    assert parts == least_last(lines, usual)
+    sizes = [len(part) for part in parts]
+    assert max(sizes) <= 2 * usual and 0.8 < sum(sizes) / len(sizes) / usual < 1.2
+    assert [*solve.parts_of(iter([b"% X\n"] * 70), 20)] == [[b"% X\n"] * 35] * 2
+    assert [*solve.parts_of(iter([]), usual)] == []
+
+
+def test_a_changed_line_costs_one_part():
+    """On average, hardly more: the line may be the last one of a part."""
+    rng = random.Random(1)
+    lines = [b"%x\n" % rng.getrandbits(99) for _ in range(2000)]
+    before, costs = {*map(tuple, solve.parts_of(iter(lines), 20))}, defaultdict(list)
+    for at in (rng.randrange(2000) for _ in range(60)):
+        for name, new in (("removed", lines[:at] + lines[at + 1:]), ("claimed", [*lines[:at], b"%", *lines[at + 1:]]),
+                          ("inserted", [*lines[:at], b"%", *lines[at:]]), ("moved", lines[at:] + lines[:at]),
+                          ("added", lines + [b"%"])):
+            costs[name].append(len({*map(tuple, solve.parts_of(iter(new), 20))} - before))
+    means = {name: sum(costs) / 60 for name, costs in costs.items()}
+    assert max(means[name] for name in ("removed", "claimed", "inserted", "added")) < 1.3 and means["moved"] < 5
+
+
+def test_a_list_may_change_and_only_the_parts_that_hold_the_change_are_solved(case):
+    """The other results stay until they are pruned. Files that are not results stay always."""
+    lines = case.SMALL.splitlines(keepends=True)
+    case.many(*WORDS, message=": 60 lines in 3 parts, 0 of them solved before")
+    changed = case.SMALL.replace(lines[29], lines[29][:-1] + b" A1:+02;\n")
+    for text, parts, solved in ((changed, 3, 2), (case.SMALL, 3, 3), (case.SMALL[68:], 3, 2),
+                                (case.SMALL + case.SMALL, 6, 4), (case.SMALL[68 * 20:], 2, 2),
+                                (case.SMALL[68 * 20:] + case.SMALL[:68 * 20], 3, 3), (b"% X\n", 1, 0), (b"", 0, 0)):
         case.write_list(text)
-        case.many(WORDS[0], at, *WORDS[2:], message=message)
+        case.many(*WORDS, message=f" in {counted(parts, 'part')}, {solved} of them solved before")
+    case.write_list(case.SMALL)
+    results = {*Path("work/results").iterdir()}
+    write("work/results/mine.txt", "?")
+    write(f"work/results/{'0' * 64}.01234567.new", "?")  # of a solve.py that was killed
+    case.many(*WORDS, message=", 3 of them solved before")
+    assert {*Path("work/results").iterdir()} == results | {Path("work/results/mine.txt")}
+    for by, status in ((case.ACTS, 1), (case.MANY, 0)):
+        case.write_list(case.SMALL + b"% FAIL\n")
+        before = len(results)
+        case.many("--prune", *WORDS, by=by, status=status)
+    kept = {case.record(number) for number in range(len(os.listdir("work/results")) - 1)}
+    assert {*Path("work/results").iterdir()} == kept | {Path("work/results/mine.txt")} and len(kept) < before
+    case.many(*WORDS, message=f", {len(kept)} of them solved before")
+    end = BOARD.replace(b"X", b"O", 1) + b" X;"
+    for text in (case.SMALL + end, case.SMALL + end + b" A1:+02;\n"):  # the former without an end of its last line
+        case.write_list(text)
+        case.many(*WORDS, message=", 2 of them solved before")
     assert b" differ\n" in case.one
     by = case.install("changing", ("folder", "store(path, file,", "store(path, [b'?' * 9999],"))  # while it is copied
-    case.many(WORDS[0], "changed", "list.obf", by=by, status=1, message="not solved: 2 of 2 parts")
-    case.many(WORDS[0], "changed", "list.obf", message=" 40 lines in 2 parts, 0 of them")
+    case.many(WORDS[0], "changed", "list.obf", by=by, status=1, message="not solved: 3 of 3 parts")
+    case.many(WORDS[0], "changed", "list.obf", message=", 0 of them solved before")
+
+
+def test_equal_parts_are_solved_once(case):
+    case.write_list(case.SMALL[:68] * 100 + case.SMALL[68:136] * 10)
+    places = {"WORDS": "words"}
+    case.many(*WORDS, by=case.ACTS, places=places, message=" in 4 parts, 0 of them solved before")
+    assert Path("words").read_text().count("--book-out=/dev/stderr") == 1 + 3  # the first one is for the known line
+    assert case.parts_solved() == 3
+    case.many(*WORDS, message=" in 4 parts, 4 of them solved before")
+    cut = run(case.MANY, "--cut", "other", *WORDS[2:], "--lines=20", text=True).stdout
+    assert cut == "4 parts, 0 of them solved; python3 other/solve.py 0-3 solves the others\n"
+    ends((0, "", ""), sys.executable, "other/solve.py", "0-3")
+    assert len(os.listdir("other/results")) == 3
+
+
+def test_options_that_change_results_keep_theirs_beside_and_others_change_nothing(case):
+    write("other.book", b"% ffobook 2 winner\n")
+    for words in ((), ("--complete",), ("--scoring=sign",)):
+        case.write_list(case.SMALL, *words)
+        for before in (0, 3):
+            case.many(*WORDS, *words, message=f", {before} of them solved before")
+    for words in ((), ("--complete",)):
+        scores = run(case.MANY.with_name("ffoscores"), *words, "list.obf").stdout
+        for before in (0, 3):
+            case.many("--scores", *words, *WORDS[:3], output=scores, message=f", {before} of them solved before")
+    case.write_list(case.SMALL)
+    for words in (("--book-in=one.book",), ("--book-in=other.book",), ("--table=9", "--workers=1", "--jobs=3"), ()):
+        case.many(*WORDS, *words, message=", 3 of them solved before")
+    case.many("--lines=6", *WORDS[1:], message=" in 10 parts, 0 of them solved before")
+    case.many(*WORDS, message=" in 3 parts, 3 of them solved before")
+    assert {path.name for path in Path("work").iterdir()} == {
+        folder.LOCK, "list", "ffosolve-0", "ffoscores-0", "book-in", "results", "solve.py", "task"}
+
+
+def test_another_limit_of_empty_squares_takes_over_the_parts_in_which_no_line_is_refused_for_it(case):
+    """The first parts have at most 2 empty squares. A line that is refused for another reason has no limit."""
+    wrong = b"-" * 64 + b" ?\n" + b"-" * 63 + b" X\n" + b"-" * 65 + b" X\n"
+    text = wrong + positions(60, 2, 2) + case.SMALL
+    parts = [b"".join(part) for part in least_last(text.splitlines(keepends=True), 20)]
+    most = [max(line.count(b"-") for line in part.splitlines() if line not in wrong) for part in parts]
+    assert len({*most}) > 1
+    known = set()
+    for limit in (3, 4, 20, 3, 2, 1, 4):
+        new = {(at, limit if most[at] > limit else None) for at in range(len(parts))}
+        case.write_list(text, f"--max-empties={limit}")
+        case.many(*WORDS, f"--max-empties={limit}", message=f", {len(new & known)} of them solved before")
+        known |= new
 
 
 def test_only_the_parts_that_failed_are_solved_again(case):
     case.write_list(case.SMALL + b"% FAIL\n" + case.SMALL + b"% DIE\n")
     for _ in range(2):
-        message = ("not solved: 2 of 7 parts: part 0000003 (lines 61 to 80), part 0000006 (lines 121 to 122). "
-                   "The same command solves only these\n")
-        errors = case.many(*WORDS, by=case.ACTS, status=1, message=message)
-        assert ": this machine failed part 0000003 (lines 61 to 80): ffosolve: out of memory\n" in errors
-        assert ": this machine failed part 0000006 (lines 121 to 122): killed by SIGKILL\n" in errors
-        assert [*Path("work/results").glob("000000[36]*"), *Path(".").glob("joined.book")] == []
-    Path("work", "program-0").unlink()
-    case.many(*WORDS, message=", 5 of them solved before")
+        named = [r"part 00000\d\d \(lines \d+ to \d+\)"] * 2
+        message = "not solved: 2 of {} parts: {}, {}. The same command solves only these\n".format(r"(\d)", *named)
+        errors = case.many(*WORDS, by=case.ACTS, status=1)
+        count, *failed = re.findall(r"of (\d) parts|part (\d{7})", re.search(message, errors)[0])
+        count = int(count[0])
+        for part, why in zip(named, ("ffosolve: out of memory", "killed by SIGKILL")):
+            assert re.search(f": this machine failed {part}: {why}\n", errors)
+        assert [case.record(number).exists() for number in range(count)].count(False) == 2
+        assert not any(case.record(int(number)).exists() for _, number in failed) and not os.path.exists("joined.book")
+    case.many(*WORDS, message=f", {count - 2} of them solved before")
     case.many("--scores", "--lines=20", "work2", "list.obf", by=case.ACTS, status=3,
-              message="not solved: 2 of 7 parts: ")
+              message=f"not solved: 2 of {count} parts: ")
 
 
 PRINTED = "    print_all(run.output())\n"
 
 
 def test_a_record_that_is_damaged_late_is_solved_again(case):
-    late = "    open('work/results/0000001', 'r+').write('?'), os.unlink('work/results/0000002')\n"
+    late = "    open(run.path(run.parts[1]), 'r+').write('?'), os.unlink(run.path(run.parts[2]))\n"
     by = case.install("damaging", ("command", PRINTED, late + PRINTED), script=ACTING)
     for message in (", 0 of them", ", 3 of them"):
         case.many(*WORDS, by=by, message=message)
         case.many(*WORDS, message=", 3 of them solved before")
-    spoil = "lambda text: text[:-5] if open('work/results/0000001').read(1) == '?' else text"
+    spoil = f"lambda text: text[:-5] if open('{case.record(1)}').read(1) == '?' else text"
     ran = run(by, *WORDS, env={**os.environ, "SPOIL": spoil})
     why = b"was changed meanwhile, and can't be solved again: its results are not complete\n"
     assert (ran.returncode, case.one.startswith(ran.stdout)) == (3, True)
@@ -226,7 +315,7 @@ def test_a_part_is_solved_with_the_options_and_the_program_of_the_folder_or_not_
             ("task", b'"--max-empties": "20"', b'"--max-empties": "0"', "damaged: run ffosolve-many again"),
             ("task", b'"parts": 3', b'"parts": 7', "damaged: run ffosolve-many again"),
             ("task", Path("work/task").read_bytes(), b"[]", "damaged: run ffosolve-many again"),
-            ("program-0", b"real", b"rear", "the program is damaged")):
+            ("ffosolve-0", b"real", b"rear", "the program is damaged")):
         whole = Path("work", place).read_bytes()
         Path("work", place).write_bytes(whole.replace(old, new, 1))
         assert Path("work", place).read_bytes() != whole
@@ -254,18 +343,20 @@ def test_results_are_new_files_once_they_are_on_the_disk_and_files_that_may_not_
     run(case.MANY, "--cut", *WORDS, "--book-in=one.book")
     write("other", "?")
     os.chmod("work/results", 0o777)
-    os.symlink(case.folder / "other", "work/results/0000000")
-    write("work/results/0000001", "", 0o600 if NOBODY else 0o100)
+    os.symlink(case.folder / "other", case.record(0))
+    write(case.record(1), "", 0o600 if NOBODY else 0o100)
     ran = run(*SOLVE, "0-2", env=preload(case.folder, WATCHED=""), text=True, **NOBODY)
-    why = "part 0000001: results/0000001: Permission denied\n"
+    why = f"part 0000001: results/{case.record(1).name}: Permission denied\n"
     assert (ran.returncode, ran.stderr) == (1, f"sync rename sync rename {why}")
-    assert [path.lstat().st_size > 99 for path in sorted(Path("work/results").iterdir())] == [True, False, True]
+    assert [case.record(number).lstat().st_size > 99 for number in range(3)] == [True, False, True]
     assert Path("other").read_text() == "?"
-    os.remove("work/results/0000002")
-    os.mkdir("work/results/0000002")
-    ends((1, "", "part 0000002: results/0000002: Is a directory\n"), *SOLVE, "2")
+    path = case.record(2)
+    os.remove(path)
+    os.mkdir(path)
+    ends((1, "", f"part 0000002: results/{path.name}: Is a directory\n"), *SOLVE, "2")
+    case.refused(3, f"{path} is a folder: remove it\n", *WORDS)
     for name, why in (("book-in", "the program can't solve a known line: ffosolve: cannot read book-in"),
-                      ("program-0", "[Errno 13] Permission denied: 'program-0'")):
+                      ("ffosolve-0", "[Errno 13] Permission denied: 'ffosolve-0'")):
         Path("work", name).chmod(0o111)
         ends((1, "", f"solve.py 0: {why}\n"), *SOLVE, "0", **NOBODY)
 
@@ -273,11 +364,11 @@ def test_results_are_new_files_once_they_are_on_the_disk_and_files_that_may_not_
 def test_an_interrupt_or_a_lack_of_memory_or_an_old_python_ends_solve_py_without_a_traceback(case):
     run(case.ACTS, "--cut", *WORDS)
     ran = case.start(*SOLVE, "0-2", env={**os.environ, "LAST": "0"})
-    wait_until(lambda: [*Path("work/results").glob("0000000.*.new")])
+    wait_until(lambda: [*Path("work/results").glob(f"{case.record(0).name}.*.new")])
     assert (end(case, ran, signal.SIGINT), ran.returncode) == ((b"", ""), -signal.SIGINT)
     case.many(*WORDS)
     assert len(os.listdir("work/results")) == 3
-    os.truncate("work/program-0", 1 << 30)
+    os.truncate("work/ffosolve-0", 1 << 30)
     ends((1, "", "solve.py 0: out of memory\n"), *SOLVE, "0", preexec_fn=limited(RLIMIT_AS=200 << 20))
     ast.parse(Path(solve.__file__).read_text(), feature_version=(3, 7))
     code = "import runpy, sys; sys.version_info = (3, 7, 1); runpy.run_path('work/solve.py', run_name='__main__')"
@@ -289,7 +380,7 @@ def test_a_folder_where_no_program_may_run_is_refused(case):
     mount = 'mkdir work && mount -t tmpfs -o noexec,mode=755 none work && exec "$0" "$@"'
     unshare, *words = unshared()
     case.many(*words, "sh", "-c", mount, case.MANY, *WORDS, by=unshare, status=4,
-              message="the program can't solve a known line: setpriv: failed to execute program-0: Permission denied\n")
+              message="can't solve a known line: setpriv: failed to execute ffosolve-0: Permission denied\n")
 
 
 def test_a_program_that_fails_for_a_part_and_then_for_a_known_line_ends_the_run(case):
@@ -299,7 +390,8 @@ def test_a_program_that_fails_for_a_part_and_then_for_a_known_line_ends_the_run(
     assert " failed part " not in errors
     assert errors.endswith("on this machine the program can't solve a known line: broken\n")
     assert case.parts_solved() == 3
-    case.write_list(case.SMALL[:68 * 3] + b"% FAIL\n" * 7 + case.SMALL[:68 * 3])
+    failing = b"".join(b"%% FAIL %d\n" % number for number in range(7))
+    case.write_list(case.SMALL[:68 * 3] + failing + case.SMALL[68 * 3:68 * 6])
     errors = case.many("--jobs=1", "--lines=1", "other", *WORDS[2:], by=case.ACTS, status=1)
     assert (errors.count(" failed part "), "not solved: 7 of 13 parts" in errors) == (7, True)
 
@@ -309,21 +401,18 @@ def test_copies_of_files_that_others_may_not_read_may_not_be_read_by_others(case
         os.chmod(name, 0o600)
     case.many(*WORDS, "--book-in=one.book")
     modes = {path.name: stat.S_IMODE(path.stat().st_mode) for path in Path("work").rglob("*") if path.is_file()}
-    secret = {"list", "book-in", "0000000", "0000001", "0000002"}
+    secret = {"list", "book-in", *(case.record(number).name for number in range(3))}
     assert {name for name, mode in modes.items() if not mode & 0o077} == secret
     shutil.rmtree("work/results")
     run(case.MANY, "--cut", *WORDS, "--book-in=one.book")
     run(*SOLVE, "1")
-    assert stat.S_IMODE(Path("work/results/0000001").stat().st_mode) == 0o600
+    assert stat.S_IMODE(case.record(1).stat().st_mode) == 0o600
 
 
 def test_a_finished_folder_that_may_not_be_written_prints_its_report(case):
-    """A folder keeps its program, and a newer one is named."""
     case.many(*WORDS[:3])
     Path("work", folder.LOCK).unlink()
-    assert "program" not in case.many(*WORDS, message=", 3 of them solved before")
-    told = ", 3 of them solved before; folder work, with the program that it was begun with, not the present one\n"
-    case.many(*WORDS, by=case.ACTS, message=told)
+    case.many(*WORDS, message=", 3 of them solved before")
     write("work/solve.py", "of an earlier version")
     Path("work", folder.LOCK).unlink()
     case.folder.chmod(0o777)
@@ -331,7 +420,7 @@ def test_a_finished_folder_that_may_not_be_written_prints_its_report(case):
     before = files()
     case.many(*WORDS, message=", 3 of them solved before", **NOBODY)
     assert files() == before
-    Path("work/results/0000001").unlink()
+    case.record(1).unlink()
     case.refused(3, "cannot write work: Permission denied\n", "--quiet", *WORDS, **NOBODY)
     os.chmod("work", 0o755)
 
@@ -343,7 +432,8 @@ def test_a_full_disk_ends_the_run_and_it_goes_on_when_there_is_room(case):
     Path("work/list").unlink()
     case.many("--cut", *WORDS[:3], output=text, **full)
     shutil.rmtree("work")
-    fails_late = "open('/dev/full', 'wb', 0).write(b'?') if path.name == '0000005' else file.writelines(pieces)"
+    is_late = "len(path.name) == 64 and len(os.listdir(path.parent)) == 6"
+    fails_late = f"open('/dev/full', 'wb', 0).write(b'?') if {is_late} else file.writelines(pieces)"
     by = case.install("full", ("folder", "file.writelines(pieces)", fails_late))
     words = ("--jobs=1", "--lines=5", *WORDS[1:])
     case.many(*words, by=by, status=3, message="cannot write work: No space left on device\n")
@@ -356,11 +446,9 @@ def test_a_list_is_read_from_standard_input_from_where_it_stands_and_from_a_pipe
     case.many("--lines=20", "work", "-", message="-: 60 lines in 3 parts", input=case.SMALL, umask=0o022)
     assert stat.S_IMODE(os.stat("work/list").st_mode) == 0o644
     case.many("--lines=20", "work", "/dev/stdin", message=", 3 of them solved before", input=case.SMALL)
-    assert {*os.listdir("work")} == {folder.LOCK, "list", "program-0", "results", "solve.py", "task"}
+    assert {*os.listdir("work")} == {folder.LOCK, "list", "ffosolve-0", "results", "solve.py", "task"}
     with open("list.obf", "rb") as file:
         case.many("--lines=20", "work", "-", message=", 3 of them solved before", stdin=file)
-    case.refused(2, "- is not the list that work was begun with, from line 1 on", "--lines=20", "work", "-",
-                 input=case.SMALL[68:])
     case.refused(3, f"cannot copy - to {os.environ['TMPDIR']}: File too large", "work", "-", input=case.SMALL,
                  preexec_fn=limited(RLIMIT_FSIZE=1000))
     ends((3, "", "ffosolve-many: cannot read -: standard input is closed\n"), "sh", "-c", '"$0" work - <&-', case.MANY)
@@ -374,7 +462,7 @@ def test_a_list_is_read_from_standard_input_from_where_it_stands_and_from_a_pipe
     assert os.listdir(os.environ["TMPDIR"]) == []
 
 
-def test_texts_that_are_not_lists_and_parts_with_more_bytes_than_a_file_may_have_are_refused(case):
+def test_texts_that_are_not_lists_are_refused_and_no_part_has_more_bytes_than_a_file_may_have(case):
     for text, message in ((b"\xef\xbb\xbf" + case.SMALL, "it begins with a byte-order mark"),
                           (case.SMALL.decode().encode("utf-16"), "it begins with a byte-order mark"),
                           (case.SMALL.replace(b"\r", b"").replace(b"\n", b"\r"), "its lines end with CR alone"),
@@ -384,13 +472,13 @@ def test_texts_that_are_not_lists_and_parts_with_more_bytes_than_a_file_may_have
         case.refused(3, f"cannot read -: {message}", "work", "-", input=text)
     case.write_list(case.SMALL.partition(b"\n")[0].rstrip() + b"\r")  # its only line ends with CR but no LF
     case.many("list.obf")
-    half, most = b"%" * (MOST_BYTES // 2 - 1) + b"\n", "has more than 1048576 bytes"
     Path("empty").mkdir()
     for name in ("a/b/work", "empty"):
-        case.refused(3, f"cannot read -: its line 1 {most}\n", name, "-", input=b"%" * (MOST_BYTES + 1))
-        case.refused(2, f"part 0000001 (from line 3 of - on) {most}: use fewer lines, such as --lines 1\n",
-                     "--lines=2", name, "-", input=b"\n\n" + (b"%" + half) * 2)
-    assert run(case.MANY, "--cut", "--lines=2", "work", "-", input=half * 4).stdout[:8] == b"2 parts,"
+        case.refused(3, "cannot read -: its line 1 has more than 1048576 bytes\n", name, "-",
+                     input=b"%" * (MOST_BYTES + 1))
+    half = b"%" * (MOST_BYTES // 2 - 1) + b"\n"
+    for text, parts in (half * 4, b"2 parts,"), (b"%" + half * 4, b"3 parts,"), ((b"%" + half) * 3, b"3 parts,"):
+        assert run(case.MANY, "--cut", "--lines=10", "work", "-", input=text).stdout.startswith(parts)
 
 
 def test_a_folder_with_other_files_or_of_an_earlier_version_is_refused_and_untouched(case):
@@ -422,7 +510,7 @@ SIGNALLED = ("--jobs=2", "--lines=5", *WORDS[1:])
 
 def programs(case):
     """Returns the IDs of the processes that solve parts."""
-    return [number for number, words in processes_in(case.folder).items() if "program-0" in words]
+    return [number for number, words in processes_in(case.folder).items() if "/ffosolve-0" in words]
 
 
 def begin(case, *program, last=99):
@@ -480,10 +568,10 @@ def test_a_signal_ends_the_run_while_python_ignores_exceptions_or_starts(case):
 
 def test_a_program_does_not_start_once_its_caller_has_ended(case):
     run(case.MANY, "--cut", *WORDS)
-    code = "import solve; print(*solve.GUARD, solve.files_in(solve.opened('.'))['program-0'], sep='\\n')"
+    code = "import solve as it; print(*it.GUARD, it.opened('.') / 'ffosolve-0', sep='\\n')"
     words = run(sys.executable, "-c", code, cwd="work", text=True).stdout.splitlines()
     ran = run(*words, text=True)
-    assert ran.stdout == "" and "/program-0: No such file or directory" in ran.stderr
+    assert ran.stdout == "" and "/ffosolve-0: No such file or directory" in ran.stderr
 
 
 def test_two_signals_together_end_the_run_without_a_traceback(case):
@@ -511,10 +599,12 @@ def test_as_many_parts_are_solved_at_once_as_there_are_jobs_by_default_one_for_e
 
 
 def test_signals_that_the_caller_ignores_do_not_end_the_run_such_as_that_of_a_terminal_that_closes_after_nohup(case):
-    ran = begin(case, "sh", "-c", 'trap "" INT; exec nohup "$@"', "sh", case.ACTS)
-    wait_until(lambda: case.parts_solved() > 0)
-    output, _ = end(case, ran, signal.SIGINT, signal.SIGHUP)
-    assert (output, ran.returncode) == (case.one, 0)
+    for number, last in ((signal.SIGKILL, 0), (signal.SIGTERM, 99)):  # the former ends long programs, too
+        ran = begin(case, "sh", "-c", 'trap "" INT TERM; exec nohup "$@"', "sh", case.ACTS, last=last)
+        wait_until(lambda: programs(case))
+        output, _ = end(case, ran, signal.SIGINT, signal.SIGHUP, number)
+        wanted = (b"", -number) if number == signal.SIGKILL else (case.one, 0)
+        assert (output, ran.returncode) == wanted
 
 
 def test_control_c_on_a_terminal_is_no_signal_for_the_programs_and_they_end_first_if_memory_is_short(case):

@@ -54,7 +54,7 @@ def test_the_job_array_of_the_document_solves_all_parts_and_shows_why_some_fail(
     run("sbatch", "--wait", "--array=0-3", "part.sh", timeout=5 * SECONDS)
     (log,) = Path(".").glob("parts-*.log")
     assert log.read_text() == "part 0000020: ffosolve: out of memory\n"
-    Path("work/program-0").unlink()
+    Path("work/ffosolve-0").unlink()
     case.many(*words, message="in 21 parts, 20 of them solved before")
 
 

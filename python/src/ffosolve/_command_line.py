@@ -242,6 +242,8 @@ def run(program: str, main: Callable[[], int], interrupted: str = "") -> NoRetur
         status = why.code
     except BrokenPipeError:
         end_by(signal.SIGPIPE)
+    except MemoryError:
+        say("out of memory")
     except OSError as why:
         say(f"{shown(why.filename or 'a file')}: {why.strerror or why}")
     os._exit(status)

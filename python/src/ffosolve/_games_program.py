@@ -7,14 +7,15 @@ import sys
 import warnings
 from typing import Any, Callable, Dict, Iterator, List, NamedTuple, NoReturn, Optional
 
-from ._check_folders import exact_scores, scores_of
+from ._books import scores_in
+from ._check_folders import exact_scores
 from ._command_line import DONE, MISSING, MISUSED, REMARKED, UNREADABLE
 from ._command_line import Parser, Refusal, file_of, print_all, run, say, write_whole
 from ._games import (MOST_DISCS, REAL, SCORE, Game, GameRefused, corrected, discs_of_black, games_in, position_with,
                      positions_of)
 from ._library import MOST_EMPTIES, LibraryNotFound, load
 from ._positions import Position
-from ._text import NotText, ReadingWarning, shown
+from ._text import NotText, ReadingWarning, shown, text_lines
 
 NAME = "ffosolve-games"
 USAGE = f"""{NAME} [--empties N] [FILE ...]
@@ -74,8 +75,8 @@ status:
   4  the library or ffosolve-many can't be found
 """
 MANY = (  # options of ffosolve-many that check passes on: (name, value if it has one)
-    ("--jobs", "N"), ("--scheduler", "ADDRESS"), ("--cut", None), ("--quiet", None), ("--workers", "N"),
-    ("--table", "N"), ("--book-in", "FILE"))
+    ("--jobs", "N"), ("--scheduler", "ADDRESS"), ("--cut", None), ("--prune", None), ("--quiet", None),
+    ("--workers", "N"), ("--table", "N"), ("--book-in", "FILE"))
 MOST_LINES = 10_000  # in a part of ffosolve-many
 
 
@@ -276,18 +277,24 @@ def compare(options: argparse.Namespace, messages: Messages) -> Iterator[bytes]:
     yield b"compared %d differ %d unsolved %d" % (compared, len(differ), unsolved)
 
 
+def scores_of(book: str) -> Dict[Position, int]:
+    """{canonical position: score for its mover} for a book; `-` is standard input."""
+    with file_of(book) as file:
+        return scores_in(text_lines(file, shown(book)), shown(book))
+
+
 def folders_of(found: List[Found], options: argparse.Namespace) -> Dict[str, List[Position]]:
-    """The folders of `check`, each with the positions that are to be solved there."""
-    folders: Dict[str, List[Position]] = {}
+    """The folders of `check`, each with the positions that are to be solved there, none of them twice."""
+    folders: Dict[str, Dict[Position, None]] = {}
     paths: Dict[str, str] = {}
-    for file in options.files:
+    for file in sorted(options.files):  # so that their order does not matter
         folder = f"{file}.check" if options.folder is None else options.folder
         wanted = [it.position for it in found if it.file == file and it.position]
         if options.max_empties is not None:
             wanted = [position for position in wanted if position.empties <= options.max_empties]
         if wanted:
-            folders.setdefault(paths.setdefault(os.path.realpath(folder), folder), []).extend(wanted)
-    return folders
+            folders.setdefault(paths.setdefault(os.path.realpath(folder), folder), {}).update(dict.fromkeys(wanted))
+    return {folder: [*positions] for folder, positions in folders.items()}
 
 
 def scored_games(options: argparse.Namespace, messages: Messages) -> List[Found]:

@@ -1,5 +1,6 @@
-"""Reads lines of text, and shows the names of files in messages."""
+"""Reads lines of text, and shows the names of files in messages and commands."""
 import os
+import shlex
 from typing import BinaryIO, Iterator, Union
 
 MOST_BYTES = 1_048_576  # in a line with its end; ffosolve takes as many in a whole list
@@ -48,3 +49,9 @@ def shown(name: Union[str, "os.PathLike[str]"]) -> str:
         return name or "''"
     quoted = repr(os.fsencode(name) + b'"')  # in single quotes, since there is a double one in it
     return f"${quoted[1:-2]}'"
+
+
+def typed(name: Union[str, "os.PathLike[str]"]) -> str:
+    """A file's name as a word of a command in a message."""
+    name = os.path.join("." if os.fspath(name).startswith("-") else "", name)
+    return shlex.quote(name) if name.isprintable() else shown(name)

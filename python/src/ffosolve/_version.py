@@ -5,12 +5,15 @@ import subprocess
 from pathlib import Path
 from typing import List
 
+COMMIT = "$Format:%h$"  # which `git archive` replaces: see .gitattributes
+
 
 @functools.lru_cache(maxsize=None)
 def version() -> str:
     """The version by which pip and apt know the package. In a checkout: what the file VERSION has and, if commits came
     after its last change, their number and the last of them, as in 1.0.0+12.g0123456. A clone with only the last
-    commits does not know the number: 1.0.0+g0123456. The version of a mere copy of the package is 0+unknown."""
+    commits, or `git archive`, does not know the number: 1.0.0+g0123456. The version of a mere copy of the package is
+    0+unknown."""
     sources = Path(__file__).absolute().parent.parent
     for known in importlib.metadata.distributions(name="ffosolve", path=[str(sources)]):
         return known.version
@@ -28,7 +31,7 @@ def version() -> str:
         later = git(root, "rev-list", f"{last}..{head}")
         return f"{release}+{len(later)}.g{head[:7]}" if later else release
     except (OSError, subprocess.CalledProcessError, ValueError):  # no checkout
-        return release
+        return release if COMMIT.startswith("$") or "+" in release else f"{release}+g{COMMIT[:7]}"
 
 
 def git(root: Path, *words: str) -> List[str]:

@@ -7,20 +7,20 @@ import json
 import logging
 import os
 import re
+import subprocess
 import sys
 import time
 import warnings
 from collections import defaultdict
 from concurrent.futures import CancelledError
 from pathlib import Path
-from typing import Any, DefaultDict, Dict, List, Sequence, Set, Tuple
+from typing import Any, Counter, DefaultDict, Dict, List, Optional, Sequence, Set, Tuple
 
 from .._command_line import MISSING, Refusal, say
 from .._text import shown
-from . import solve
 from .engine import Outcome
 from .folder import Part, Run
-from .solve import Pack, content_of
+from .solve import content_of
 
 try:
     import dask
@@ -29,6 +29,9 @@ try:
     import distributed
     import toolz
 except ImportError as fault:
+    other = "/usr/bin/python3"  # Debian's
+    if sys.executable != other and subprocess.run([other, "-c", "import distributed"], stderr=-3).returncode == 0:
+        os.execv(other, [other, *sys.argv])
     raise Refusal(f"--scheduler needs the package distributed, which {sys.executable} lacks ({fault}): apt-get install "
                   f"python3-distributed for Debian's Python, or {sys.executable} -m pip install distributed",
                   MISSING) from None
@@ -39,7 +42,9 @@ LOST_SECONDS = 30  # of silence, after which a scheduler is lost, and no worker 
 SILENT_SECONDS = 5  # of silence, after which progress says so: a busy scheduler may need a second or two
 AHEAD = 100  # parts that are sent beside two for each thread, so that a cluster which grows by need does
 MOST_FAILS = 3  # parts failed in a row, after which a worker gets no more, unless these fail elsewhere, too
+MOST_ENDS = 4  # of workers, after which a part or, if they had not solved a known line, their machine is to blame
 Worker = Tuple[str, str]  # its address, which another one may have later, and its folder
+Sent = Tuple[Any, Optional[Set[str]], Any]  # Dask's future of a part, the workers that may have it if not all, its Pack
 
 
 def address_of(name: str) -> str:
@@ -55,27 +60,39 @@ def address_of(name: str) -> str:
 
 
 def client_of(address: str) -> Any:
-    """Returns a client of the scheduler at an address. Refuses if there is another server of Dask's, or none."""
-    async def kind_of_server() -> str:
+    """Returns a client of the scheduler at an address. Refuses another server of Dask's, or none; and if the scheduler
+    or all its workers have another version."""
+    async def kind_and_versions() -> Tuple[str, List[str]]:
         security = distributed.Security().get_connection_args("client")
         async with distributed.rpc(address, timeout=LOST_SECONDS, connection_args=security) as server:
-            return str((await server.identity())["type"])
+            if (kind := str((await server.identity())["type"])) != "Scheduler":
+                return kind, [distributed.__version__]
+            versions = [await server.versions()]
+            with contextlib.suppress(Exception):  # a worker does not answer
+                told = server.broadcast(msg={"op": "versions"}, on_error="ignore")
+                versions += (await asyncio.wait_for(told, SILENT_SECONDS)).values()
+            return kind, [about["packages"]["distributed"] for about in versions]
     try:
-        kind = asyncio.run(asyncio.wait_for(kind_of_server(), 2 * LOST_SECONDS))
-        if kind == "Scheduler":
+        kind, (theirs, *workers) = asyncio.run(asyncio.wait_for(kind_and_versions(), 2 * LOST_SECONDS))
+        is_same = (here := distributed.__version__) == theirs and (not workers or here in workers)
+        if kind == "Scheduler" and is_same:
             return distributed.Client(address, timeout=LOST_SECONDS, set_as_default=False)
     except Exception as why:
         reason = " ".join(str(why).split()) or repr(why)
         if "handshake" in reason or isinstance(why, asyncio.TimeoutError):
             reason = "it does not answer as a scheduler does (the address of one with TLS begins with tls://)"
         raise Refusal(f"cannot reach the scheduler {address}: {reason}") from None
-    raise Refusal(f"{address} is not a scheduler, but a {kind.lower()}")
+    raise Refusal(f"{address} is not a scheduler, but a {kind.lower()}" if is_same else
+                  f"the scheduler {address} has distributed {theirs}, its workers {' and '.join({*workers}) or 'none'}"
+                  f", {sys.executable} {here}: they have to be the same")
 
 
 class Cluster:
-    """A Dask cluster, as an engine (see `Threads`). `workers` has the threads of each fit worker that is not silent, of
-    the `count` workers that there are; `kept`, the parts that silent ones have at work; `failed`, those that each has
-    failed in a row. An `unfit` worker fails a known line. One that is `left_out` gets no part if others are fit."""
+    """A Dask cluster, as an engine (see `Threads`). `workers` has the threads of each fit worker that is not stuck, of
+    the `count` workers that there are. Of the parts that workers have, by Dask's keys, these have those `held`, and
+    others those `kept`. `tested` are the workers that have solved a known line; `failed` has the parts that each failed
+    in a row; `ends`, how many workers ended with a part or at a machine. An `unfit` worker fails a known line. One that
+    is `left_out` gets no part if others are fit."""
 
     tries, trouble = 3, ""
 
@@ -86,35 +103,61 @@ class Cluster:
         self.client = client_of(self.address)
         self.pack: Any = None  # Dask's future of the `Pack` of this run
         self.workers: Dict[Worker, int] = {}
-        self.count = self.threads = 0
-        self.kept: Set[int] = set()
+        self.count = self.threads = self.silent = 0
+        self.held: Set[str] = set()
+        self.kept: Set[str] = set()
+        self.tested: Set[Worker] = set()
         self.left_out: Set[Worker] = set()
         self.unfit: Set[Worker] = set()
-        self.failed: DefaultDict[Worker, Set[int]] = defaultdict(set)
+        self.idle: Set[Worker] = set()  # which have been named for it
+        self.failed: DefaultDict[Worker, Set[str]] = defaultdict(set)
+        self.ends: Counter[str] = Counter()
+        self.ended: Set[str] = set()  # the keys of what ended workers
+        self.signs: Dict[Worker, Tuple[object, float]] = {}  # what each worker does, and since when
         self.running: Dict[int, Tuple[str, float]] = {}
         # Runs a coroutine in Dask's thread. No call waits for Dask, which may be silent for any time.
         self.in_dask: Any = functools.partial(asyncio.run_coroutine_threadsafe, loop=self.client.loop.asyncio_loop)
-        self.heard, self.asked = time.monotonic(), self.in_dask(self.ask())
+        self.heard = self.looked = time.monotonic()
+        self.asked = self.in_dask(self.ask())
 
     async def ask(self) -> None:
-        """Notes which workers there are, and what they do. Drops a Pack that only silent workers have."""
+        """Notes which workers there are, and what they do. Drops a Pack that only stuck workers have."""
+        self.client.subscribe_topic(self.key, lambda event: self.tested.add((event[1][0], event[1][1])))
         workers = (await self.client.scheduler.identity())["workers"]
         keys, now = await self.client.processing(), time.monotonic()
         if self.client.status == "running":
             self.heard = now  # otherwise, Dask connects again
-        # A worker's first tasks are at work; those that it has beyond its threads wait there.
-        found = [(int(key.split("-")[2]), name) for name, about in workers.items()
-                 for key in map(str, keys.get(name, [])[:about["nthreads"]]) if key.startswith(self.key)]
-        self.running = {number: (workers[at]["host"], self.running.get(number, ("", now))[1]) for number, at in found}
+        parts = {name: [key for key in map(str, keys.get(name, [])) if key.startswith(self.key)] for name in workers}
         last = max([about["last_seen"] for about in workers.values()], default=0)
-        silent = {name for name, about in workers.items() if about["last_seen"] < last - LOST_SECONDS}
-        fit = {(name, workers[name]["local_directory"]) for name in workers.keys() - silent} - self.unfit
-        self.workers = {worker: workers[worker[0]]["nthreads"] for worker in fit}
+        stuck = {name for name, about in workers.items() if about["last_seen"] < last - LOST_SECONDS
+                 or self.is_stuck((name, about["local_directory"]), about, parts[name], now)}
+        fit = {(name, about["local_directory"]) for name, about in workers.items() if name not in stuck} - self.unfit
+        good = {one for one in fit if one in self.tested or self.ends[workers[one[0]]["host"]] < MOST_ENDS}
+        self.workers = {worker: workers[worker[0]]["nthreads"] for worker in good or fit}
         self.count, self.threads = len(workers), sum(self.workers.values())
-        self.kept = {number for number, at in found if at in silent}
-        if silent and self.pack and self.pack.status == "finished":
+        self.held = {key for name, _ in self.workers for key in parts[name]}
+        self.kept = {key for name in workers for key in parts[name]} - self.held
+        # The first parts of a worker are at work, as a rule; those that it has beyond its threads wait there.
+        found = [(int(key.split("-")[2]), about["host"]) for name, about in workers.items()
+                 for key in parts[name][:about["nthreads"]]]
+        self.running = {number: (host, self.running.get(number, ("", now))[1]) for number, host in found}
+        self.silent = sum(bool(parts[name]) for name in stuck)
+        if stuck and self.pack and self.pack.status == "finished":
             holders = await self.client.who_has([self.pack])
-            self.pack = self.pack if {*holders[self.pack.key]} - silent else None
+            self.pack = self.pack if {*holders[self.pack.key]} - stuck else None
+
+    def is_stuck(self, worker: Worker, about: Dict[str, Any], parts: List[str], now: float) -> bool:
+        """Returns whether a worker has given no sign of life for LOST_SECONDS or, twice as long, has begun none of its
+        parts. The latter is named."""
+        is_idle = parts and not about["metrics"].get("task_counts", {"executing": 1}).get("executing")
+        sign = (parts, self.pack) if is_idle else about["last_seen"]
+        before, since = self.signs.get(worker, (sign, now))
+        self.signs[worker] = sign, since if sign == before else now
+        is_stuck = now > self.signs[worker][1] + LOST_SECONDS * (2 if is_idle else 1)
+        if is_stuck and is_idle and worker not in self.idle:
+            say(f"{worker[0]} begins no part: is its memory too small for the program and any --book-in?")
+            self.idle.add(worker)
+        return is_stuck
 
     def chosen(self, failed: Sequence[str] = ()) -> Set[str]:
         """Returns the addresses of workers that may have a part: fit ones; if possible, only those that have not failed
@@ -135,25 +178,44 @@ class Cluster:
     def send(self, part: Part, failed: List[str]) -> Any:
         return self.in_dask(self.solve(part, failed))
 
-    async def answer(self, part: Part, failed: List[str]) -> Any:
-        """Returns what a Pack does for a part. Cancels it if it waits while there are other workers or another Pack."""
+    def submitted(self, part: Part, failed: List[str]) -> Sent:
+        """Sends a part to the workers that may have it."""
         workers = self.chosen(failed)
         some = [*workers] if len(workers) < self.count else None
         if not self.pack or self.pack.status in ("cancelled", "error"):
-            make, words = Pack(Path(solve.__file__).read_text(), self.run.task, {}, self.run.files).__reduce__()
+            make, words = self.run.pack.__reduce__()
             # If all workers end, parts that wait in the scheduler's queue must not come before what they need.
             self.pack = self.client.submit(make, *words, pure=False, priority=self.tries, workers=some,
                                            allow_other_workers=bool(some))
-        pack, key = self.pack, f"{self.key}-{part.number}-{os.urandom(4).hex()}"
+        key = f"{self.key}-{part.number}-{os.urandom(4).hex()}"
         # A part that has failed is urgent, since it may show which worker is to blame.
-        task = self.client.submit(toolz.apply, pack, part.number, self.run.text(part), key=key, workers=some,
-                                  priority=len(failed))
-        result = asyncio.ensure_future(task)
-        while not (await asyncio.wait({result}, timeout=1))[0]:
-            has_others = some and self.chosen(failed) - workers and part.number not in self.running
-            if has_others or self.pack is not pack and part.number not in self.kept:
-                await task.cancel()
-        return await result
+        task = self.client.submit(toolz.apply, self.pack, self.key, self.run.text(part), part.most, key=key,
+                                  workers=some, priority=len(failed))
+        return task, workers if some else None, self.pack
+
+    def is_in_hand(self, sent: Sent, failed: List[str]) -> bool:
+        """Returns whether it is of no use to send a part again: a fit worker has it, or no other worker could."""
+        task, workers, pack = sent
+        if task.key in self.kept:
+            return not self.workers.keys() - self.left_out
+        has_others = workers and self.chosen(failed) - workers
+        return self.pack is pack and (task.key in self.held or not has_others)  # a worker may wait for a lost Pack
+
+    async def answer(self, part: Part, failed: List[str]) -> Any:
+        """Returns what a Pack does for a part. Sends it again while it is not in hand: the first answer counts."""
+        copies: Dict[Any, Sent] = {}
+        done: Set[Any] = set()
+        try:
+            while not done:
+                if not any(self.is_in_hand(sent, failed) for sent in copies.values()):
+                    sent = self.submitted(part, failed)
+                    copies[asyncio.ensure_future(sent[0])] = sent
+                done, _ = await asyncio.wait(copies, timeout=1, return_when=asyncio.FIRST_COMPLETED)
+            return await done.pop()
+        finally:
+            for result, (task, *_) in copies.items():
+                if not result.done():
+                    await task.cancel()
 
     async def solve(self, part: Part, failed: List[str]) -> Outcome:
         """Lets Dask solve a part on one of the `chosen` workers."""
@@ -162,13 +224,10 @@ class Cluster:
                 await self.ask()  # otherwise, a worker that fails it again might be the only one that is known
         try:
             worker, unfit, record, why = await self.answer(part, failed)
-        except (CancelledError, asyncio.CancelledError):  # the scheduler was lost, or there are other workers
+        except (CancelledError, asyncio.CancelledError):  # the scheduler was lost
             return part, None, "", []
         except distributed.KilledWorker as end:
-            why = f"{end.allowed_failures + 1} workers ended that had "
-            if end.task == self.pack.key:
-                raise Refusal(f"{why}only the program and any --book-in: is their memory too small?") from None
-            return part, None, f"{why}it", 2 * [end.last_worker.address]
+            return part, None, *self.blame(part, end)
         except Exception as fault:
             return part, None, str(fault).partition("\n")[0] or repr(fault), ["a worker"]
         if unfit:
@@ -177,10 +236,29 @@ class Cluster:
             self.workers = {one: threads for one, threads in self.workers.items() if one != worker}
             return part, None, "", []
         found, why = await asyncio.get_running_loop().run_in_executor(None, self.run.keep, part, record, why)
-        counts = self.counts(worker, part.number, bool(found), bool(failed))
+        counts = self.counts(worker, part.digest, bool(found), bool(failed))
         return part, found, why if counts else "", [worker[0]]
 
-    def counts(self, worker: Worker, part: int, is_solved: bool, has_failed: bool) -> bool:
+    def blame(self, part: Part, end: Any) -> Tuple[str, List[str]]:
+        """Returns why a part failed whose workers ended, and where; or "" while that may be a chance, or is due to the
+        machine of the last one, which had not solved a known line."""
+        last, is_part = end.last_worker, end.task.startswith(self.key)
+        what = part.digest if is_part and (last.address, last.local_directory) in self.tested else str(last.host)
+        if end.task not in self.ended:  # otherwise, another part has waited for the same Pack
+            self.ends[what] += end.allowed_failures + 1
+        self.ended.add(end.task)
+        if (count := self.ends[what]) < MOST_ENDS:
+            return "", []
+        if what == part.digest:
+            del self.ends[what]
+            return f"{count} workers ended that had it", 2 * [last.address]
+        why = f"{count} workers ended before they had solved a known line, the last one there"
+        if not self.tested:
+            raise Refusal(f"{what}: {why}: is its memory too small for the program and any --book-in?")
+        self.leave_out((what, ""), why)
+        return "", []
+
+    def counts(self, worker: Worker, part: str, is_solved: bool, has_failed: bool) -> bool:
         """Notes whether a worker has solved a part, which `has_failed` before. Returns whether that counts."""
         if is_solved:
             self.failed.pop(worker, None)
@@ -202,9 +280,11 @@ class Cluster:
         self.left_out.add(worker)
 
     def look(self) -> None:
-        """Does what `Threads.look` does. Refuses after LOST_SECONDS of silence."""
+        """Does what `Threads.look` does. Refuses after LOST_SECONDS of silence, unless this process was stopped."""
+        now, before = time.monotonic(), self.looked
+        self.heard, self.looked = now if now > before + SILENT_SECONDS else self.heard, now
         if self.asked.done():
             self.asked = self.in_dask(self.ask())
-        if (silent := time.monotonic() - self.heard) > LOST_SECONDS:
+        if (silent := now - self.heard) > LOST_SECONDS:
             raise Refusal(f"the scheduler {self.address} is lost; the same command goes on with what is solved")
         self.trouble = f"the scheduler has been silent for {silent:.0f} s" if silent > SILENT_SECONDS else ""

@@ -5,7 +5,6 @@ import io
 import itertools
 import os
 import re
-import shlex
 import shutil
 import subprocess
 import sys
@@ -14,17 +13,17 @@ from typing import Any, Dict, Iterable, List, Optional, Tuple
 
 from .._command_line import (DONE, MISSING, REMARKED, UNREADABLE, Name, Parser, Refusal, counted, is_same, misused,
                              path_of, print_all, refusing, regular, replace, run as run_program, say)
-from .._text import BOOK_HEADER, shown
+from .._text import BOOK_HEADER, shown, typed
 from .books import book_of, merged
 from .engine import Threads, solve_parts
-from .folder import Run
+from .folder import Run, inspect
 from .solve import GUARD, Task, opened, sha256, without_folder, words_of
 
 NAME = "ffosolve-many"
 NO_DISCS = b"-" * 64 + b" X;"  # refused with any options; the message has the limit of empty squares
 LIMITS = {"ffosolve": rb"\[1\]\n1 refused: 64 empties, limit (\d+)\nsolved 0 refused 1\n",
           "ffoscores": rb"%% refused: 64 empties, limit (\d+): %b\n" % NO_DISCS}
-EXCLUDED = {"scheduler": {"jobs", "cut"}, "scores": {"book_in", "book_out"}}  # {option: those refused with it}
+EXCLUDED = {"scheduler": {"jobs", "cut"}, "scores": {"book_in", "book_out"}, "cut": {"prune"}}  # {option: not with it}
 WITH_MERGE_BOOKS = {"merge_books", "book_out", "quiet"}
 
 USAGE = f"""{NAME} [OPTIONS] [FOLDER] LIST
@@ -34,9 +33,9 @@ Solves a list of any length in parts, several at a time, on this machine or on
 many, and prints one report.
 """
 MORE = f"""\
-FOLDER keeps the list and the results [default: LIST.parts]. After an
-interruption, the same command continues where it stopped. Options may stand
-anywhere; `--` ends them. `-` is standard input.
+FOLDER keeps the list and the results [default: LIST.parts]: a command solves
+only what it does not have, after an interruption or a change of the list, too.
+Options may stand anywhere; `--` ends them. `-` is standard input.
 
 examples:
   {NAME} list.obf --max-empties 24 --lines 10 >list.report
@@ -55,11 +54,12 @@ MOST = {"--jobs": 999, "--lines": 10_000}
 OPTIONS = {
     "how the list is solved": (
         ("--jobs", "N", "parts solved at a time on this machine, 1 to 999 [default: one for each of its processors]"),
-        ("--lines", "N", "lines of a part, 1 to 10000 [default: 1000]"),
+        ("--lines", "N", "lines of a part on average, 1 to 10000 [default: 1000]"),
         ("--scheduler", "ADDRESS", "solve on the workers of this Dask scheduler; also the file that it writes"),
         ("--scores", None, "solve the parts with ffoscores instead of ffosolve"),
         ("--complete", None, "report lines that list moves but omit a best one"),
         ("--cut", None, "only cut the list, for another scheduler"),
+        ("--prune", None, "at the end, remove other results from FOLDER, such as those of lines that LIST has no more"),
         ("--merge-books", None, "solve nothing, and merge books of one scoring into one"),
         ("--quiet", None, "write only failures to standard error")),
     "options of ffosolve, with the same meaning": (
@@ -111,12 +111,12 @@ def parse(words: List[str]) -> argparse.Namespace:
 
 def task_of(command: argparse.Namespace, claims: Optional[bytes]) -> Task:
     """Returns the options of a command as "options" and "speed" of a task. `claims` is the content of a --book-in."""
-    return {"options": {"--lines": command.lines or 1000, "--scoring": command.scoring or "winner",
-                        "--max-empties": command.max_empties, "--scores": "" if command.scores else None,
-                        "--complete": "" if command.complete else None,
-                        "--book-in": None if claims is None else f"of SHA-256 {sha256(claims)}"},
+    return {"options": {"--scoring": command.scoring or "winner", "--max-empties": command.max_empties,
+                        "--scores": "" if command.scores else None, "--complete": "" if command.complete else None},
             # The parts keep all processors busy, so none of them needs more than one thread.
-            "speed": {"--workers": command.workers or "0", "--table": command.table}}
+            "speed": {"--workers": command.workers or "0", "--table": command.table,
+                      "--book-in": None if claims is None else sha256(claims)},
+            "program": "ffoscores" if command.scores else "ffosolve", "lines": command.lines or 1000}
 
 
 def builds_of(program: Path) -> List[bytes]:
@@ -187,6 +187,9 @@ def run_of(command: argparse.Namespace, programs: str) -> Run:
         raise misused(f"'{shown(folder)}' is not a folder: name one FOLDER and one LIST")
     if is_same(path, 1):
         raise misused(f"standard output is the list {name}: name another file")
+    if folder.exists():
+        with refusing("read", folder):
+            inspect(folder)  # before a program is built
     source = regular(word)
     with source.open("rb") as file:
         header = re.match(rf"{BOOK_HEADER}(discs|sign)\s".encode(), file.readline(99))
@@ -195,12 +198,12 @@ def run_of(command: argparse.Namespace, programs: str) -> Run:
         raise misused(f"{name} is a book of the scoring {scoring}: use --scoring {scoring}")
     book = regular(command.book_in) if command.book_in else None
     claims = book.read_bytes() if book else None
-    program, task = Path(programs, "ffoscores" if command.scores else "ffosolve"), task_of(command, claims)
-    words = words_of(task, str(book) if book else None)
+    task = task_of(command, claims)
+    program, words = Path(programs, task["program"]), words_of(task, str(book) if book else None)
     task["options"]["--max-empties"] = limit_of(program, words)
     if command.book_out:
         check_book_out(program, command.book_out, path, *words)
-    run = Run(folder, task, source, name)
+    run = Run(folder, task, source, name, is_remote=bool(command.scheduler))
     run.begin(builds_of(program), book, claims)
     return run
 
@@ -210,10 +213,8 @@ def print_cut(run: Run) -> int:
     groups = itertools.groupby(enumerate(run.unsolved()), lambda pair: pair[1].number - pair[0])
     ranges = [[part.number for _, part in group] for _, group in groups]
     words = [f"{one[0]}-{one[-1]}" if one[1:] else str(one[0]) for one in ranges]
-    script = os.path.join("." if str(run.folder)[0] == "-" else "", run.folder, "solve.py")
-    quoted = shlex.quote(script) if script.isprintable() else shown(script)
-    rest = f"; python3 {quoted} {' '.join(words)} solves the others" if words else ""
-    print_all([os.fsencode(f"{counted(len(run.parts), 'part')}, {len(run.statuses)} of them solved{rest}\n")])
+    rest = f"; python3 {typed(run.folder / 'solve.py')} {' '.join(words)} solves the others" if words else ""
+    print_all([os.fsencode(f"{counted(len(run.parts), 'part')}, {run.solved_count} of them solved{rest}\n")])
     return DONE
 
 
@@ -226,9 +227,8 @@ def solve_list(command: argparse.Namespace, programs: str) -> int:
         return print_cut(run)
     parts = counted(len(run.parts), "part")
     if not command.quiet:
-        old = ", with the program that it was begun with, not the present one" if run.is_old else ""
-        say(f"{run.name}: {counted(run.count, 'line')} in {parts}, {len(run.statuses)} of them solved before; folder "
-            f"{shown(run.folder)}{old}")
+        say(f"{run.name}: {counted(run.count, 'line')} in {parts}, {run.solved_count} of them solved before; folder "
+            f"{shown(run.folder)}")
     if run.unsolved():
         jobs = command.jobs or len(os.sched_getaffinity(0))
         solve_parts(run, Cluster(command.scheduler, run) if command.scheduler else Threads(run, jobs), command.quiet)
@@ -239,9 +239,8 @@ def solve_list(command: argparse.Namespace, programs: str) -> int:
     print_all(run.output())
     if command.book_out:
         replace(command.book_out, book_of(run))
-    with contextlib.suppress(OSError):  # such as in a folder that may not be written
-        for path in run.place.glob("results/*.new"):
-            path.unlink()  # solve.py was killed
+    with contextlib.nullcontext() if command.prune else contextlib.suppress(OSError):
+        run.clean(command.prune)
     return max(run.statuses.values(), default=DONE)
 
 

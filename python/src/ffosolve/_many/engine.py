@@ -10,7 +10,7 @@ from concurrent.futures import Future, ThreadPoolExecutor
 from datetime import timedelta
 from typing import Any, DefaultDict, Deque, Dict, List, Optional, Tuple
 
-from .._command_line import counted, say, show
+from .._command_line import Refusal, counted, say, show
 from .folder import Part, Run
 from .solve import Solved
 
@@ -27,30 +27,36 @@ class Progress:
     def __init__(self, run: Run, engine: Any) -> None:
         self.run, self.engine, self.done, self.seconds = run, engine, 0.0, 0.0
 
+    def running(self) -> List[Tuple[Part, str, float]]:
+        """Returns the parts at work, longest first, each with its host and when it began."""
+        at_work = [*self.engine.running.items()]  # a copy, since parts end meanwhile
+        found = [(self.run.parts[number], host, start) for number, (host, start) in at_work]
+        return sorted([one for one in found if one[0].digest not in self.run.statuses], key=lambda one: one[2])
+
     def left(self) -> Optional[float]:
         """Returns the expected seconds until all is solved, or None before a tenth of this command's work is done."""
-        work = sum(part.weight for part in self.run.unsolved())
+        work = sum({part.digest: part.weight for part in self.run.unsolved()}.values())
         if not self.done or self.done * 9 < work:
             return None
         rate, now, threads = self.seconds / self.done, time.monotonic(), self.engine.threads
-        running = [(self.run.parts[number].weight, start) for number, (_, start) in self.engine.running.items()
-                   if number not in self.run.statuses]
+        running = [(part.weight, start) for part, _, start in self.running()]
         rests = [max(0, weight * rate - now + start) for weight, start in running]
         waiting = work - sum(weight for weight, _ in running)
         return float(max(rests + [(waiting * rate + sum(rests)) / max(1, min(threads, len(running)))]))
 
     def text(self) -> str:
         """Returns the line to show, with any trouble. It names the longest part, from LONG_SECONDS on."""
-        run, running = self.run, sorted(self.engine.running.items(), key=lambda one: float(one[1][1]))
-        hosts, lines = {host for _, (host, _) in running}, sum(part.lines for part in run.unsolved())
+        run, running = self.run, self.running()
+        hosts, lines = {host for host, _ in [*self.engine.running.values()]}, sum(part.lines for part in run.unsolved())
         left = self.left() if hosts and not self.engine.trouble else None
         text = f"{100 * (run.count - lines) // run.count}%, "
         text += f"{timedelta(seconds=round(left))} left, " if left is not None else ""
-        text += self.engine.trouble or f"{counted(len(hosts), 'machine') if hosts else 'no machine'} at work"
-        text += f", parts {len(run.statuses)} of {len(run.parts)}"
-        for number, (host, start) in running[:1]:
+        silent = f", waiting for {counted(self.engine.silent, 'silent worker')}" if self.engine.silent else ""
+        text += self.engine.trouble or f"{counted(len(hosts), 'machine') if hosts else 'no machine'} at work{silent}"
+        text += f", parts {run.solved_count} of {len(run.parts)}"
+        for part, host, start in running[:1]:
             if (seconds := time.monotonic() - start) >= LONG_SECONDS:
-                text += f"; {run.parts[number]} has been running for {timedelta(seconds=round(seconds))} on {host}"
+                text += f"; {part} has been running for {timedelta(seconds=round(seconds))} on {host}"
         return text
 
 
@@ -58,7 +64,8 @@ class Threads:
     """An engine for `solve_parts`: solves parts on threads of this machine, each running one program at a time.
     `running` has the parts at work, of which some may have been solved since: {number: (host, start time)}."""
 
-    tries, trouble = 1, ""  # after how many a part is not solved; why nothing is known of the machines at work, or ""
+    # After how many tries a part is not solved; why nothing is known of the machines at work, or ""; silent workers.
+    tries, trouble, silent = 1, "", 0
 
     def __init__(self, run: Run, jobs: int) -> None:
         most = resource.getrlimit(resource.RLIMIT_NOFILE)[1]
@@ -79,7 +86,12 @@ class Threads:
     def send(self, part: Part, failed: List[str]) -> Future[Outcome]:
         """Begins to solve a part, if possible elsewhere than where it has `failed`."""
         self.running[part.number] = HERE, time.monotonic()
-        return self.pool.submit(lambda: (part, *self.run.solve(part), [HERE]))
+        try:
+            future = self.pool.submit(lambda: (part, *self.run.solve(part), [HERE]))
+        except RuntimeError as why:
+            raise Refusal(f"{why}: too little memory, or too few processes, are allowed (ulimit -v, -u)") from None
+        future.add_done_callback(lambda _: self.running.pop(part.number))
+        return future
 
 
 def jobs_that_fit(jobs: int, threads: int) -> int:
@@ -100,7 +112,7 @@ def jobs_that_fit(jobs: int, threads: int) -> int:
 def solve_parts(run: Run, engine: Any, quiet: bool) -> None:
     """Solves a run's unsolved parts, except those that fail `engine.tries` times. One that has failed twice is tried
     once more after all others, alone. If `quiet`, shows only failures."""
-    waiting, progress = deque(run.unsolved()), Progress(run, engine)
+    waiting, progress = deque({part.digest: part for part in run.unsolved()}.values()), Progress(run, engine)
     last: Deque[Part] = deque()
     failures: DefaultDict[int, List[str]] = defaultdict(list)  # {number: where that part failed}
     done: queue.SimpleQueue[Future[Outcome]] = queue.SimpleQueue()
@@ -122,7 +134,6 @@ def solve_parts(run: Run, engine: Any, quiet: bool) -> None:
         except queue.Empty:
             continue
         sent, failed = sent - 1, failures[part.number]
-        engine.running.pop(part.number, None)
         if why:
             say(f"{machines[0]} failed {part}: {why}")
             failed += machines

@@ -5,27 +5,35 @@ if __name__ == "__main__" and signal.getsignal(signal.SIGINT) is signal.default_
     signal.signal(signal.SIGINT, signal.SIG_DFL)  # without a traceback, even while modules are imported
 import functools
 import hashlib
-import itertools
 import json
 import os
 import re
 import subprocess
 import sys
+import tempfile
 import threading
 import time
+import zlib
 from pathlib import Path
-from typing import Any, BinaryIO, Callable, Dict, Iterator, List, NamedTuple, Optional, Set, Tuple
+from typing import Any, BinaryIO, Callable, Dict, Iterable, Iterator, List, NamedTuple, Optional, Set, Tuple
 
+FORM = "task 2"  # what the file `task` is about; each version that changes a run's folder has its own
 KNOWN = b"-OXXXXX-XXXXXXXOXXXXXXXXXXXXXXXXXXXOXXXXXXXXXXXXXXXXXXXXXXXXXXXX X; H1:+62; A1:+52;\n"
 KNOWN_SECONDS = 30  # in which a machine has to solve it; that takes 0.01, but a busy machine starts programs late
 GUARD = ("setpriv", "--pdeathsig", "KILL")  # before the path of a program, which is then killed when this process ends
 PASSED_ON = ("--max-empties", "--scoring", "--workers", "--table", "--book-in", "--complete")  # to the program
+PART_BYTES = 1_048_576  # in a part; the programs take as many
+MOST_READ = PART_BYTES << 9  # bytes of a file in a folder, if it is not the list
+# Of a line that a report does not leave out: its squares, if it has a position, and two letters if these follow.
+LETTER = b"*XxOoBbWw"  # of a disc or of a side; without regard to case, the pattern would take twice as long
+FRONT = re.compile(rb"^(?![ \t]*(?:%%|\r?$))[ \t]*((?:[-.%b]{64}(?=[ \t]*[%b])(?:[ \t]*[A-Za-z]{2})?)?)"
+                   % (LETTER, LETTER), re.M)
 
 # What a run's file `task` has. "options": {option that decides the results: value}, "" for an option without value and
-# None for one that is not given; "speed", the like for other options; "parts", how many there are; "list", its SHA-256;
-# "programs", the SHA-256 of each; "known", what they print for KNOWN.
+# None for one that is not given; "speed", the like for other options; "program", its name; "lines", how many a part has
+# on average; "parts", how many there are; "programs", the SHA-256 of each build; "known", {digest of KNOWN: results}.
 Task = Dict[str, Any]
-Files = Dict[str, str]  # {name: path in this process} of a run's programs, program-0 and so on, and of any book-in
+Files = Dict[str, str]  # {name: path in this process} of a run's programs, ffosolve-0 and so on, and of any book-in
 
 # The results of a part: the program's exit status, its output, its book, and how many seconds it took.
 Solved = NamedTuple("Solved", [("status", int), ("output", bytes), ("book", bytes), ("seconds", float)])
@@ -35,15 +43,48 @@ def sha256(content: bytes) -> str:
     return hashlib.sha256(content).hexdigest()
 
 
-def sealed(about: object, content: bytes) -> bytes:
-    """Returns a content after a line with a digest: the SHA-256 of what it is `about`, as JSON, and of the content."""
-    return sha256(json.dumps(about, sort_keys=True).encode() + content).encode() + b"\n" + content
+def sealed(about: str, content: bytes) -> bytes:
+    """Returns a content after a line with a digest: the SHA-256 of what it is `about` and of the content."""
+    return sha256(about.encode() + content).encode() + b"\n" + content
 
 
-def unsealed(about: object, text: bytes) -> bytes:
+def unsealed(about: str, text: bytes) -> bytes:
     """Returns the content in a text from `sealed`, or b"" if it is damaged or about something else."""
     content = text.partition(b"\n")[2]
     return content if text == sealed(about, content) else b""
+
+
+def parts_of(lines: Iterable[bytes], usual: int) -> Iterator[List[bytes]]:
+    """Cuts a list by what its lines are, so that few parts end elsewhere after a change. A part has at most 7/4 of the
+    `usual` number of lines, and PART_BYTES. Of the lines that may be its last, the one of the least checksum is, unless
+    the list ends before."""
+    found: List[bytes] = []
+    sums: List[int] = []
+    size, most = 0, max(1, 7 * usual // 4)
+    for line in lines:
+        size += len(line)
+        while found and (len(found) == most or size > PART_BYTES):
+            sums += map(zlib.crc32, found[len(sums):])
+            end = len(sums) - sums[::-1].index(min(sums))
+            size -= sum(map(len, found[:end]))
+            yield found[:end]
+            del found[:end], sums[:end]
+        found.append(line)
+    if found:
+        yield found
+
+
+def empties_of(fronts: List[bytes]) -> List[int]:
+    return [front.count(b"-") + front.count(b".") for front in fronts]
+
+
+def digest_of(options: Dict[str, Any], text: bytes, most: Optional[int] = None) -> str:
+    """Returns what the results of lines are kept under: a SHA-256 of the lines and of the options that decide what is
+    printed. Their limit of empty squares is one if the lines have a position with more: `most` is the greatest number,
+    which is found if it is not given."""
+    most = max(empties_of(FRONT.findall(text)), default=0) if most is None else most
+    limits = {} if most > int(options["--max-empties"]) else {"--max-empties": None}
+    return sha256(json.dumps({**options, **limits}, sort_keys=True).encode() + text)
 
 
 def words_of(task: Task, book_in: Optional[str]) -> List[str]:
@@ -52,34 +93,37 @@ def words_of(task: Task, book_in: Optional[str]) -> List[str]:
     return [name if given[name] == "" else f"{name}={given[name]}" for name in PASSED_ON if given[name] is not None]
 
 
-def record_of(task: Task, part: int, lines: str, solved: Solved) -> bytes:
-    """Returns a record: the results of a part, sealed with its options, its number and the SHA-256 of its `lines`."""
-    head = b"%d %d %.3f\n" % (solved.status, len(solved.output), solved.seconds)
-    return sealed([task["options"], part, lines], head + solved.output + solved.book)
-
-
-def read_record(task: Task, part: int, lines: str, record: bytes) -> Optional[Solved]:
-    """Returns the results in a record, or None if it is damaged or of another task. `lines`: see `record_of`."""
-    head, _, results = unsealed([task["options"], part, lines], record).partition(b"\n")
+def read_record(digest: str, record: bytes) -> Optional[Solved]:
+    """Returns the results in a record from `solve`, or None if it is damaged or of a part with another `digest_of`."""
+    head, _, results = unsealed(digest, record).partition(b"\n")
     if not head:
         return None
     status, size, seconds = head.split()
     return Solved(int(status), results[:int(size)], results[int(size):], float(seconds))
 
 
-def solve(task: Task, files: Files, program: str, part: int, text: bytes,
+def unnamed(content: bytes) -> BinaryIO:
+    """Returns a file without a name, which may be a program; in memory, unless this Python can't have one there."""
+    has_memory = hasattr(os, "memfd_create")
+    with open(os.memfd_create("ffosolve"), "w+b") if has_memory else tempfile.TemporaryFile() as file:
+        file.write(content)
+        file.flush()
+        os.fchmod(file.fileno(), 0o700)
+        return open(f"/proc/self/fd/{file.fileno()}", "rb")  # no program runs while its file may be written
+
+
+def solve(task: Task, files: Files, program: str, text: bytes, most: Optional[int] = None,
           is_wanted: Callable[[], bool] = lambda: True) -> Tuple[bytes, str]:
     """Solves the lines `text` of a part with the program of that path, and kills it once `is_wanted` returns false.
-    Returns (record, "") or, if the program fails, (b"", the reason)."""
+    Returns (record, "") or, if the program fails, (b"", the reason). A record has the results under their digest. For
+    `most`, see `digest_of`."""
     # The program writes its book to the pipe of standard error, so that it needs no room on a disk.
     has_book = task["options"]["--scores"] is None
     words = [program, *words_of(task, files.get("book-in")), *["--book-out=/dev/stderr"] * has_book]
     command = ["choom", "-n", "1000", "--", *GUARD, *words]  # out of memory, it is killed before this process
     start = time.monotonic()
-    try:  # after a timeout, `communicate` loses the rest of the input, so the lines are a file in memory
-        with open(os.memfd_create("part"), "w+b") as file:
-            file.write(text)
-            file.seek(0)
+    try:  # after a timeout, `communicate` loses the rest of the input, so the lines are a file
+        with unnamed(text) as file:
             process = subprocess.Popen(command, start_new_session=True, stdin=file, stdout=subprocess.PIPE,
                                        stderr=subprocess.PIPE)
     except OSError as why:
@@ -98,7 +142,8 @@ def solve(task: Task, files: Files, program: str, part: int, text: bytes,
         said = re.sub(rb"^(% ffobook|[XO-]{64}) .*\n", b"", errors, flags=re.MULTILINE).decode(errors="replace").strip()
         return b"", without_folder((said or name).splitlines()[0])
     book = errors[max(0, errors.find(b"% ffobook ")):] if has_book else b""
-    return record_of(task, part, sha256(text), Solved(status, output, book, time.monotonic() - start)), ""
+    head = b"%d %d %.3f\n" % (status, len(output), time.monotonic() - start)
+    return sealed(digest_of(task["options"], text, most), head + output + book), ""
 
 
 def fit_program(task: Task, files: Files) -> str:
@@ -110,9 +155,10 @@ def fit_program(task: Task, files: Files) -> str:
         if sha256(Path(program).read_bytes()) not in task["programs"]:
             why = "is damaged"
             continue
-        record, fault = solve(task, files, program, 0, KNOWN, lambda: time.monotonic() < end)
+        record, fault = solve(task, files, program, KNOWN, is_wanted=lambda: time.monotonic() < end)
         results = record.partition(b"\n")[2].partition(b"\n")[2].decode("latin-1")
-        if record and results == task.setdefault("known", results):
+        digest = digest_of(task["options"], KNOWN)
+        if record and results == task["known"].setdefault(digest, results):
             return program
         why = "solves a known line wrong" if record else f"can't solve a known line: {fault}"
         if time.monotonic() > end:
@@ -136,18 +182,24 @@ class Pack:
         names = {"source": self.source, "names": {"__name__": "ffosolve"}, "task": self.task, "contents": contents}
         return eval, ("exec(source, names) or names['Pack'](source, task, contents)", {}, names)
 
-    def __call__(self, number: int, text: bytes) -> Tuple[Tuple[str, str], str, bytes, str]:
-        """Solves a part until Dask takes it. Returns the worker (address, folder), its fault, and what `solve` does."""
+    def __call__(self, topic: str, text: bytes, most: int) -> Tuple[Tuple[str, str], str, bytes, str]:
+        """Solves a part until Dask takes it. Returns the worker (address, folder), its fault, and what `solve` does. If
+        the worker solves KNOWN, first tells those who asked for the topic."""
         from distributed import get_worker
         worker, record, why = get_worker(), b"", ""
+        name = worker.address, worker.local_directory
         key, tasks = worker.get_current_task(), getattr(worker, "state", worker).tasks
-        self.test()
-        if not self.fault:
-            record, why = solve(self.task, self.files, self.program, number, text,
-                                lambda: getattr(tasks.get(key), "state", None) == "executing")
-        if why:
-            self.test(is_due=True)
-        return (worker.address, worker.local_directory), self.fault, record, why
+        try:
+            self.test()
+            if not self.fault:
+                worker.log_event(topic, name)
+                record, why = solve(self.task, self.files, self.program, text, most,
+                                    lambda: getattr(tasks.get(key), "state", None) == "executing")
+            if why:
+                self.test(is_due=True)
+        except Exception as fault:  # such as a lack of memory
+            self.fault = repr(fault)
+        return name, self.fault, record, why
 
     def test(self, is_due: bool = False) -> None:
         """Sets the program, or the fault of this machine, unless that is done and no test `is_due`."""
@@ -156,10 +208,8 @@ class Pack:
                 return
             try:
                 for name, content in self.contents.items():
-                    self.memory.append(open(os.memfd_create("ffosolve"), "w+b"))
+                    self.memory.append(unnamed(content))
                     self.files[name] = f"/proc/{os.getpid()}/fd/{self.memory[-1].fileno()}"
-                    self.memory[-1].write(content)
-                    self.memory[-1].flush()
                 self.contents = {}
                 self.program = fit_program(self.task, self.files)
             except OSError as fault:
@@ -167,16 +217,16 @@ class Pack:
 
 
 def content_of(path: Path) -> bytes:
-    """Returns what a regular file has, or b"" if there is none."""
+    """Returns what a regular file has, or b"" if there is none, or one of more than MOST_READ bytes."""
     try:
-        return path.read_bytes() if path.is_file() else b""
+        return path.read_bytes() if path.is_file() and path.stat().st_size < MOST_READ else b""
     except OSError:
         return b""
 
 
 def read_task(folder: Path) -> Task:
-    """Returns the task in a folder, or {} if its file is missing or damaged."""
-    return dict(json.loads(unsealed("task", content_of(folder / "task")) or b"{}"))
+    """Returns the task in a folder, or {} if its file is missing, damaged, or of an earlier version."""
+    return dict(json.loads(unsealed(FORM, content_of(folder / "task")) or b"{}"))
 
 
 @functools.lru_cache(maxsize=None)
@@ -191,9 +241,10 @@ def without_folder(message: str) -> str:
     return re.sub("/proc/[0-9]+/fd/[0-9]+/", "", message)
 
 
-def files_in(place: Path) -> Files:
-    """Returns the programs and any book-in in the folder of a run, which is `opened`."""
-    return {path.name: str(path) for path in [*place.glob("program-?"), place / "book-in"] if path.is_file()}
+def files_in(place: Path, task: Task) -> Files:
+    """Returns the programs and any book-in of a task in its folder, which is `opened`."""
+    books = [place / "book-in"] if task["speed"]["--book-in"] else []
+    return {path.name: str(path) for path in [*place.glob(f"{task['program']}-?"), *books] if path.is_file()}
 
 
 def parts_in(words: List[str], count: int) -> Set[int]:
@@ -205,16 +256,18 @@ def parts_in(words: List[str], count: int) -> Set[int]:
     return {part for some in ranges for part in some}
 
 
-def solve_into(path: Path, mode: int, task: Task, files: Files, program: str, part: int, text: bytes) -> str:
-    """Solves a part unless the file `path` has its record. Returns "", or why it hasn't. A new file takes its place, or
-    that of a link. Makes room for the record first, so that no part is solved in vain."""
+def solve_into(folder: Path, mode: int, task: Task, files: Files, program: str, text: bytes) -> str:
+    """Solves a part unless its record is in the folder of results. Returns "", or why it isn't. A new file takes the
+    place of a damaged one, or of a link. Makes room for the record first, so that no part is solved in vain."""
+    digest = digest_of(task["options"], text)
+    path = folder / digest
     new = f"{path}.{os.urandom(4).hex()}.new"
     try:
-        if path.is_file() and read_record(task, part, sha256(text), path.read_bytes()):
+        if path.is_file() and path.stat().st_size < MOST_READ and read_record(digest, path.read_bytes()):
             return ""
         with open(os.open(new, os.O_WRONLY | os.O_CREAT | os.O_EXCL, 0o600), "wb") as file:
             os.posix_fallocate(file.fileno(), 0, 4 * len(text) + 1000)
-            record, why = solve(task, files, program, part, text)
+            record, why = solve(task, files, program, text)
             file.truncate(file.write(record))
             os.fchmod(file.fileno(), mode)
             os.fsync(file.fileno())
@@ -230,16 +283,16 @@ def solve_into(path: Path, mode: int, task: Task, files: Files, program: str, pa
 def main(folder: Path, words: List[str]) -> Iterator[str]:
     """Solves parts of the list in a run's folder, unless they are solved. Yields an error for each that fails."""
     place = opened(folder)
-    task, files = read_task(place), files_in(place)
+    task = read_task(place)
     if not task:
         raise ValueError(f"{folder / 'task'} is damaged: run ffosolve-many again")
-    parts, program = parts_in(words, task["parts"]), fit_program(task, files)
+    parts, files = parts_in(words, task["parts"]), files_in(place, task)
+    program = fit_program(task, files)
     with (place / "list").open("rb") as source:
         mode = os.fstat(source.fileno()).st_mode & 0o644
-        for part in range(1 + max(parts)):
-            text = b"".join(itertools.islice(source, task["options"]["--lines"]))
+        for part, lines in zip(range(1 + max(parts)), parts_of(source, task["lines"])):
             if part in parts:
-                why = solve_into(place / f"results/{part:07d}", mode, task, files, program, part, text)
+                why = solve_into(place / "results", mode, task, files, program, b"".join(lines))
                 if why:
                     yield f"part {part:07d}: {without_folder(why)}"
 
