@@ -201,7 +201,7 @@ def test_the_packages_own_tests_pass_where_it_is_installed():
     """Runs those that need the installed files: examples of the help, types, processes and the library. The others test
     the package of the checkout."""
     assert (PREFIX.site / "ffosolve/py.typed").exists()
-    some = "examples_of_the_help or mypy_sees or kept_and_used_again or limits_and_versions"
+    some = "examples_of_the_help or mypy_sees or calls_of_several_threads or limits_and_versions"
     words = (sys.executable, "-m", "pytest", "-q", "-p", "no:cacheprovider", PREFIX.work / "python/tests", "-k", some)
     assert re.search(r"(?m)^4 passed", PREFIX.make(*words).stdout)
 

@@ -357,11 +357,13 @@ def test_another_process_gets_each_argument_and_returns_each_status(tmp_path):
             find(name, threads, Solver(library, entries=77, max_empties=60), both)
 
 
-def test_a_program_is_found_on_the_path_if_the_library_is_found_by_its_name(solver, monkeypatch):
-    """Since it is loaded, the system's loader finds it by name wherever it is."""
-    monkeypatch.setenv("PATH", os.path.dirname(_processes.program("ffosolve", solver._library)))
+def test_a_program_is_found_beside_a_library_that_is_found_by_its_name_or_on_the_path(solver, tmp_path, monkeypatch):
+    """Since the library is loaded, the system's loader finds it by name wherever it is."""
+    library = with_programs(tmp_path, solver.library_version)
     monkeypatch.setenv("FFOSOLVE_LIBRARY", _library.FILE_NAME)
+    monkeypatch.setenv("PATH", str(shutil.move(tmp_path / "bin", tmp_path / "elsewhere")))
     assert Solver().solve(HARD, timeout=LATE) == solver.solve(HARD)
+    assert Solver(library).solve(HARD, timeout=LATE) == Answer(0, Kind.MOVES, 2**63 + 2)
 
 
 def test_calls_of_several_threads_do_not_stop_each_other(solver):
@@ -377,7 +379,7 @@ def test_calls_of_several_threads_do_not_stop_each_other(solver):
     assert found == [[solver.solve(HARD)] * 4] * 3
 
 
-@pytest.mark.parametrize("name, threads, number", [*((*call, 9) for call in CALLS), ("solve", None, 15)])
+@pytest.mark.parametrize("name, threads, number", [*((*call, 9) for call in CALLS), ("solve", 1, 15)])
 def test_an_ended_process_is_reported_and_the_next_call_starts_another(name, threads, number, solver):
     is_over = threading.Event()
 
@@ -449,8 +451,8 @@ def test_without_a_program_of_its_version_a_call_is_made_but_has_no_timeout(vers
         shutil.rmtree(tmp_path / "bin")
     alone = Solver(library)
     assert [alone.solve(HARD), *alone.solve_all([HARD] * 2, threads=2)] == [solver.solve(HARD)] * 3
-    why = f"no process can be started: ffosolve {alone.library_version} is neither beside {library} nor on the path"
-    with pytest.raises(FileNotFoundError, match=f"^{why}$"):
+    wanted = f"ffosolve {alone.library_version} is neither beside {tmp_path}/lib nor on the path"
+    with pytest.raises(FileNotFoundError, match=f"^no process can be started: {wanted}$"):
         alone.solve(HARD, timeout=100)
     assert not (tmp_path / "log").exists()
 

@@ -87,6 +87,13 @@ def declared(place: str) -> ctypes.CDLL:
     return library
 
 
+def folder_of(library: ctypes.CDLL) -> str:
+    """The folder of a loaded library, whose name may be one that the system's loader has found."""
+    folder = ctypes.create_string_buffer(4096)
+    ctypes.CDLL(None).dlinfo(ctypes.c_void_p(library._handle), 6, folder)  # RTLD_DI_ORIGIN in dlinfo(3)
+    return os.fsdecode(folder.value)
+
+
 def version_of(library: ctypes.CDLL) -> str:
     number = library.ffosolve_version()
     return f"{number // 10000}.{number // 100 % 100}.{number % 100}"

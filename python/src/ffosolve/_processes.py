@@ -20,7 +20,7 @@ from concurrent.futures import CancelledError
 from typing import Any, List, Optional, Set
 
 from ._answers import ENDS, Kind, Scoring
-from ._library import MOST_EMPTIES, NO_SCORE, CMoveScores, CPosition, search, version_of
+from ._library import MOST_EMPTIES, NO_SCORE, CMoveScores, CPosition, folder_of, search, version_of
 from ._refusals import NoMemory, Status
 from ._squares import NAMES
 from ._symmetries import canonical_form
@@ -30,7 +30,6 @@ from ._text import BOOK_HEADER
 BRIEF, LIGHTEST = 4096, 8  # the most positions of a brief call, and their most empty squares
 CHECK_SECONDS = 0.2  # how often a waiting call finds out whether it has to stop, also by a signal to another thread
 MOST_WORKERS = 64  # of a program
-PLACES = ("", "..", "../bin")  # of a program beside its library: in the wheel, in a checkout, and where it is installed
 KIND_OF = {text: kind for kind, text in ENDS.items()}
 BITS = {name: 1 << number for number, name in enumerate(NAMES)}
 SCORED = re.compile(r"([A-H][1-8]):([+-]\d\d);")
@@ -45,16 +44,17 @@ def is_brief(count: int, empties: int) -> bool:
 
 @functools.lru_cache(maxsize=None)
 def program(name: str, library: ctypes.CDLL) -> str:
-    """The path of the program `name`, which is beside the library or on the path, and has the library's version. Raises
-    FileNotFoundError."""
-    folder, wanted = os.path.dirname(library._name), f"{name} {version_of(library)}"
-    for place in [*(os.path.join(folder, place, name) for place in PLACES if folder), name]:
+    """The path of the program `name` that has the library's version. It is in the library's folder, as in the wheel; in
+    the one above, as in a checkout; in `bin` beside the library's `lib`; or on the path. Raises FileNotFoundError."""
+    folder, wanted = folder_of(library), f"{name} {version_of(library)}"
+    bin_folder = re.sub("/lib(64)?(/[^/]*-linux-gnu)?(/glibc-hwcaps/[^/]*)?$", "/bin", folder)
+    for place in (f"{folder}/{name}", f"{folder}/../{name}", f"{bin_folder}/{name}", name):
         with contextlib.suppress(OSError, subprocess.SubprocessError):
             path = os.path.join(os.getcwd(), shutil.which(place) or "")
             found = subprocess.check_output([path, "--version"], stdin=subprocess.DEVNULL, timeout=10)
             if found.decode() == f"{wanted}\n":
                 return path
-    raise FileNotFoundError(f"no process can be started: {wanted} is neither beside {library._name} nor on the path")
+    raise FileNotFoundError(f"no process can be started: {wanted} is neither beside {folder} nor on the path")
 
 
 class SearchProcess:
@@ -64,35 +64,36 @@ class SearchProcess:
     def __init__(self, words: List[str], book: str) -> None:
         if sys.is_finalizing():
             raise OSError("Python is ending, so it can't start a process")
-        self.errors, theirs = (open(end, mode) for end, mode in zip(os.pipe(), "rw"))
         masked = signal.pthread_sigmask(signal.SIG_BLOCK, {signal.SIGINT})  # Ctrl-C is for this process alone
         try:
-            with theirs, open(os.memfd_create("book"), "w") as claims:
+            with STARTS, open(os.memfd_create("book"), "w") as claims:
                 claims.write(book)
                 claims.flush()
                 words += ["--book-in", f"/dev/fd/{claims.fileno()}"] * bool(book)
-                self.process = subprocess.Popen(words, stdin=subprocess.PIPE, stdout=subprocess.PIPE, stderr=theirs,
-                                                cwd="/", encoding="ascii", pass_fds=[claims.fileno()])
-                PROCESSES.add(self)
-                fcntl.fcntl(theirs, fcntl.F_SETSIG, signal.SIGKILL)
-                fcntl.fcntl(theirs, fcntl.F_SETOWN, self.process.pid)
-                fcntl.fcntl(theirs, fcntl.F_SETFL, os.O_ASYNC)
+                self.errors, theirs = (open(end, mode) for end, mode in zip(os.pipe(), "rw"))
+                with theirs:
+                    self.process: Any = subprocess.Popen(
+                        words, stdin=subprocess.PIPE, stdout=subprocess.PIPE, stderr=theirs, cwd="/", encoding="ascii",
+                        pass_fds=[claims.fileno()])
+                    PROCESSES.add(self)
+                    fcntl.fcntl(theirs, fcntl.F_SETSIG, signal.SIGKILL)
+                    fcntl.fcntl(theirs, fcntl.F_SETOWN, self.process.pid)
+                    fcntl.fcntl(theirs, fcntl.F_SETFL, os.O_ASYNC)
         finally:
             signal.pthread_sigmask(signal.SIG_SETMASK, masked)
 
     def find(self, lines: str, call: "SolverCall") -> List[str]:
-        """Returns what the program prints for a list, row by row, or kills it if `call` has to stop. Raises NoMemory,
-        and ChildProcessError if somebody ended the program."""
-        assert self.process.stdin and self.process.stdout
-        ready, output, piece = select.poll(), b"", b"-"
+        """Returns the rows that the program prints for a list, or kills it if `call` has to stop. Raises NoMemory, and
+        ChildProcessError if somebody ended the program."""
+        ready, printed, piece = select.poll(), b"", b"-"
+        ready.register(self.process.stdout)
         try:
-            with contextlib.suppress(BrokenPipeError), self.process.stdin as to:
+            with STARTS, contextlib.suppress(BrokenPipeError), self.process.stdin as to:
                 to.write(lines)
-            ready.register(self.process.stdout)
             while piece:
                 if ready.poll(1000 * call.wait_seconds()):
                     piece = os.read(self.process.stdout.fileno(), 1 << 16)
-                    output += piece
+                    printed += piece
             status, errors = self.process.wait(), self.errors.read()
         finally:
             PROCESSES.discard(self)
@@ -104,19 +105,23 @@ class SearchProcess:
         if status:
             how = f"was ended by signal {-status}" if status < 0 else f"ended with status {status}: {errors.strip()}"
             raise ChildProcessError(f"the process that solved {how}")
-        return output.decode().splitlines()
+        return printed.decode().splitlines()
 
 
 PROCESSES: Set[SearchProcess] = set()
+STARTS = threading.RLock()  # is held while this process has an end of a pipe for which a program waits
 
 
 def forget() -> None:
-    """Lets the programs of its parent go on without a forked process."""
-    while PROCESSES:
-        PROCESSES.pop().errors.close()
+    """Closes what a forked process has of its parent's programs."""
+    for it in PROCESSES:
+        it.errors.close()
+        it.process.stdin.close()
+    PROCESSES.clear()
+    STARTS.release()
 
 
-os.register_at_fork(after_in_child=forget)
+os.register_at_fork(before=STARTS.acquire, after_in_parent=STARTS.release, after_in_child=forget)
 
 
 def line_of(own: int, opp: int) -> str:
