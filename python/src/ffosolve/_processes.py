@@ -34,6 +34,7 @@ KIND_OF = {text: kind for kind, text in ENDS.items()}
 BITS = {name: 1 << number for number, name in enumerate(NAMES)}
 SCORED = re.compile(r"([A-H][1-8]):([+-]\d\d);")
 LETTERS = str.maketrans("012", "-XO")
+STARTS = threading.RLock()  # is held while this process has ends of pipes that a forked process must not have
 
 
 def is_brief(count: int, empties: int) -> bool:
@@ -49,7 +50,7 @@ def program(name: str, library: ctypes.CDLL) -> str:
     folder, wanted = folder_of(library), f"{name} {version_of(library)}"
     bin_folder = re.sub("/lib(64)?(/[^/]*-linux-gnu)?(/glibc-hwcaps/[^/]*)?$", "/bin", folder)
     for place in (f"{folder}/{name}", f"{folder}/../{name}", f"{bin_folder}/{name}", name):
-        with contextlib.suppress(OSError, subprocess.SubprocessError):
+        with STARTS, contextlib.suppress(OSError, subprocess.SubprocessError):
             path = os.path.join(os.getcwd(), shutil.which(place) or "")
             found = subprocess.check_output([path, "--version"], stdin=subprocess.DEVNULL, timeout=10)
             if found.decode() == f"{wanted}\n":
@@ -70,7 +71,7 @@ class SearchProcess:
                 claims.write(book)
                 claims.flush()
                 words += ["--book-in", f"/dev/fd/{claims.fileno()}"] * bool(book)
-                self.errors, theirs = (open(end, mode) for end, mode in zip(os.pipe(), "rw"))
+                self.errors, theirs = (open(end, mode, 0) for end, mode in zip(os.pipe(), ("rb", "wb")))
                 with theirs:
                     self.process: Any = subprocess.Popen(
                         words, stdin=subprocess.PIPE, stdout=subprocess.PIPE, stderr=theirs, cwd="/", encoding="ascii",
@@ -100,16 +101,15 @@ class SearchProcess:
             self.process.kill()
             with contextlib.suppress(BrokenPipeError), self.errors, self.process:
                 pass
-        if errors.endswith("out of memory\n"):
+        if errors.endswith(b"out of memory\n"):
             raise NoMemory()
         if status:
-            how = f"was ended by signal {-status}" if status < 0 else f"ended with status {status}: {errors.strip()}"
+            how = f"was ended by signal {-status}" if status < 0 else f"ended with status {status}: {errors.decode()}"
             raise ChildProcessError(f"the process that solved {how}")
         return printed.decode().splitlines()
 
 
 PROCESSES: Set[SearchProcess] = set()
-STARTS = threading.RLock()  # is held while this process has an end of a pipe for which a program waits
 
 
 def forget() -> None:
