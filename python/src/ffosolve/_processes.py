@@ -19,21 +19,18 @@ import time
 from concurrent.futures import CancelledError
 from typing import Any, List, Optional, Set
 
-from ._answers import ENDS, Kind, Scoring
+from ._answers import Kind, Scoring
 from ._library import MOST_EMPTIES, NO_SCORE, CMoveScores, CPosition, folder_of, search, version_of
+from ._obf import parsed
+from ._positions import Position
 from ._refusals import NoMemory, Status
 from ._squares import NAMES
-from ._symmetries import canonical_form
 from ._tasks import is_cancelled
 from ._text import BOOK_HEADER
 
 BRIEF, LIGHTEST = 4096, 8  # the most positions of a brief call, and their most empty squares
 CHECK_SECONDS = 0.2  # how often a waiting call finds out whether it has to stop, also by a signal to another thread
 MOST_WORKERS = 64  # of a program
-KIND_OF = {text: kind for kind, text in ENDS.items()}
-BITS = {name: 1 << number for number, name in enumerate(NAMES)}
-SCORED = re.compile(r"([A-H][1-8]):([+-]\d\d);")
-LETTERS = str.maketrans("012", "-XO")
 STARTS = threading.RLock()  # is held while this process has ends of pipes that a forked process must not have
 
 
@@ -124,27 +121,21 @@ def forget() -> None:
 os.register_at_fork(before=STARTS.acquire, after_in_parent=STARTS.release, after_in_child=forget)
 
 
-def line_of(own: int, opp: int) -> str:
-    """The line of a position. The sum of two decimal numbers has a 1 for each own disc, and a 2 for each other one."""
-    return f"{int(f'{own:b}') + 2 * int(f'{opp:b}'):064}"[::-1].translate(LETTERS) + " X;"
-
-
-def book_with(position: CPosition, scoring: Scoring, score: int) -> str:
-    """A book that claims the score of a position; it is empty for a score that no position has."""
-    own, opp, _ = canonical_form((position.own, position.opp))
-    return f"{BOOK_HEADER}{scoring}\n{line_of(own, opp)} PS:{score:+03};\n" if abs(score) <= 64 else ""
+def line_of(position: CPosition) -> str:
+    return Position(position.own, position.opp).to_obf() + "\n"
 
 
 def read_rows(rows: List[str], found: Any) -> None:
     """Writes what a program printed to the records of `found`, as the library does."""
     for it, row in zip(found, rows if isinstance(found[0], CMoveScores) else rows[1:]):
         if isinstance(it, CMoveScores):
-            scores = {move: int(score) for move, score in SCORED.findall(row)}
-            it.scores[:], it.moves = [scores.get(name, NO_SCORE) for name in NAMES], sum(BITS[move] for move in scores)
+            scores = dict(parsed(row, None)[3])
+            it.scores[:] = [scores.get(name, NO_SCORE) for name in NAMES]
+            it.moves = sum(1 << at for at, name in enumerate(NAMES) if name in scores)
         else:
             _, score, moves, _ = row.split()
-            it.score, it.kind = int(score), KIND_OF.get(moves, Kind.MOVES)
-            it.best = sum(BITS.get(move, 0) for move in moves.split(","))
+            it.score, it.kind = int(score), {"PS": Kind.PASS, "--": Kind.OVER}.get(moves, Kind.MOVES)
+            it.best = sum(1 << NAMES.index(move) for move in moves.split(",") if it.kind == Kind.MOVES)
 
 
 class SolverCall:
@@ -193,13 +184,14 @@ class SolverCall:
                     if self.timeout is not None:
                         raise
                 else:
-                    rows = process.find("".join(f"{line_of(it.own, it.opp)}\n" for it in positions), self)
-                    read_rows(rows, found)
+                    read_rows(process.find("".join(map(line_of, positions)), self), found)
                     return Status.DONE
         return search(self.library, name, scoring, entries, positions, found)
 
     def started(self, name: str, scoring: Scoring, entries: int, position: CPosition, claim: Any) -> SearchProcess:
-        path = program("ffoscores" if "move_scores" in name else "ffosolve", self.library)
-        book = book_with(position, scoring, claim.score) if name == "ffosolve_confirm" else ""
+        path, book = program("ffoscores" if "move_scores" in name else "ffosolve", self.library), ""
+        if name == "ffosolve_confirm" and abs(claim.score) <= 64:
+            line = Position(position.own, position.opp).canonical().to_obf(moves={"PS": claim.score})
+            book = f"{BOOK_HEADER}{scoring}\n{line}\n"
         return SearchProcess([path, f"--workers={self.workers}", f"--table={entries}", f"--scoring={scoring}",
                               f"--max-empties={MOST_EMPTIES}"], book)
