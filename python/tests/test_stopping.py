@@ -444,19 +444,19 @@ def test_a_forked_process_has_processes_of_its_own(solver):
 
 
 def test_processes_that_are_forked_while_programs_start_do_not_keep_calls_from_ending(solver):
-    found, forked = [], []
-    threads = [threading.Thread(target=lambda: found.extend(solver.solve_iter([HARD] * 20, timeout=LATE / 3)))
-               for _ in range(3)]
+    found, forked, end = [], [], time.monotonic() + LATE / 3
+    threads = [threading.Thread(target=lambda: found.extend(solver.solve_iter([HARD] * 20))) for _ in range(3)]
     for thread in threads:
         thread.start()
-    while any(thread.is_alive() for thread in threads):
+    while any(thread.is_alive() for thread in threads) and time.monotonic() < end:
         if len(forked) < 50:
             forked.append(os.fork() or (time.sleep(600), os._exit(0)))
         time.sleep(0.01)
+    ended_in_time = len(found)
     for child in forked:
         os.kill(child, signal.SIGKILL)
         os.waitpid(child, 0)
-    assert found == [solver.solve(HARD)] * 60
+    assert (ended_in_time, found) == (60, [solver.solve(HARD)] * 60)
 
 
 @pytest.mark.parametrize("version", [None, "9.9.9"])

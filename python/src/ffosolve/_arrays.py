@@ -1,7 +1,7 @@
 """Positions and answers in arrays. Only the calls for arrays need NumPy, so each imports it itself."""
 from typing import Any, Iterable, Iterator, List, NamedTuple, Tuple
 
-from ._bulk import Batch, cut
+from ._bulk import Batch, slices_of
 from ._library import CPosition
 from ._positions import Position
 from ._processes import SolverCall
@@ -61,7 +61,7 @@ def batches_in(rows: Any, max_empties: int, call: SolverCall) -> Iterator[Batch]
     empties = 64 - sizes[(own | opp).view(numpy.uint8)].reshape(-1, 8).sum(axis=1, dtype=numpy.int64)
     for index in numpy.flatnonzero((own & opp != 0) | (empties > max_empties)).tolist():
         checked_position(rows[index].tolist(), max_empties, index)
-    for at, most in cut(empties.tolist(), call, True):
+    for at, most in slices_of(empties.tolist(), call, True):
         yield Batch((CPosition * len(rows[at])).from_buffer(rows[at]), most)
 
 

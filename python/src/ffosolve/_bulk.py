@@ -17,7 +17,7 @@ B = TypeVar("B")
 # Positions of this weight together are solved in some hundredths of a second. A position with up to 8 empty squares
 # weighs 1, and each further empty square doubles the weight, so one with 16 is heavy enough for a batch of its own.
 MOST_WEIGHT = 256
-MOST_LINES = 15_000  # of a program's list, which has at most 1 MiB
+MOST_IN_LIST = 15_000  # of a program's list, which has at most 1 MiB
 MOST_SECONDS = 0.01  # for so long, positions are read before the first ones are solved
 BATCHES_AHEAD = 32  # batches that are read ahead for each thread, so that a slow one does not hold up the other threads
 
@@ -30,22 +30,22 @@ class Batch(NamedTuple):
 BatchOrRefusal = Union[Batch, Refused]
 
 
-def weight_of(empties: int) -> int:
+def weight_for(empties: int) -> int:
     return 1 << max(0, empties - LIGHTEST)
 
 
-def cut(empties: List[int], call: SolverCall, at_once: bool) -> Iterator[Tuple[slice, int]]:
+def slices_of(empties: List[int], call: SolverCall, at_once: bool) -> Iterator[Tuple[slice, int]]:
     """Cuts positions, given by their numbers of empty squares, into slices; yields each with its greatest number. The
     call for a slice is brief, unless that for its first position alone is not: such a slice is for a program, which
     gets all further positions if `at_once`."""
     gets_all = at_once and not is_brief(1, max(empties, default=0)) and call.has_program()
     start = greatest = weight = 0
     for at, count in enumerate(empties):
-        weight += weight_of(count)
+        weight += weight_for(count)
         fits = weight <= MOST_WEIGHT and is_brief(1, greatest) == is_brief(at + 1 - start, max(greatest, count))
-        if at > start and not (fits or gets_all and not is_brief(1, greatest) and at - start < MOST_LINES):
+        if at > start and not (fits or gets_all and not is_brief(1, greatest) and at - start < MOST_IN_LIST):
             yield slice(start, at), greatest
-            start, greatest, weight = at, 0, weight_of(count)
+            start, greatest, weight = at, 0, weight_for(count)
         greatest = max(greatest, count)
     if empties:
         yield slice(start, len(empties)), greatest
@@ -61,7 +61,7 @@ def batches_of(positions: Iterable[Iterable[int]], max_empties: int, call: Solve
     weight, end = 0, time.monotonic() + MOST_SECONDS
 
     def batches() -> Iterator[Batch]:
-        for at, most in cut(empties, call, at_once):
+        for at, most in slices_of(empties, call, at_once):
             yield Batch(c_positions(masks[2 * at.start:2 * at.stop]), most)
 
     for index, position in enumerate(checked_positions(positions)):
@@ -72,7 +72,7 @@ def batches_of(positions: Iterable[Iterable[int]], max_empties: int, call: Solve
             break
         masks += own, opp
         empties.append(count)
-        weight += weight_of(count)
+        weight += weight_for(count)
         if not at_once and (weight >= MOST_WEIGHT or time.monotonic() > end):
             yield from batches()
             masks, empties, weight, end = [], [], 0, time.monotonic() + MOST_SECONDS

@@ -188,7 +188,7 @@ def known_scores(known: Optional[Known], positions: List[Position]) -> Dict[Posi
 
 def exact_of(position: Position, found: Union[int, Answer, Mapping[str, int]]) -> Exact:
     """The exact scores of a position, from what is known or found of it. Raises ValueError for wrong ones."""
-    scores, moves = dict(as_scores(found.score if isinstance(found, Answer) else found)), moves_of(position)
+    scores, moves = dict(as_scores(found.score if isinstance(found, Answer) else found)), moves_to_score(position)
     if None in scores and not position.legal_moves:
         scores = {moves[0]: scores[None]}
     if scores.keys() not in ({None}, {*moves}) or any(score not in range(-64, 65) for score in scores.values()):
@@ -207,13 +207,13 @@ def printed(entries: Iterable[ListEntry], scored: Source) -> Iterator[Tuple[List
             continue
         is_refused = isinstance(exact, NoPosition) and without_end(text).startswith(b"% refused: ")
         answers = (isinstance(line, Position) and isinstance(exact, Position) and exact == line
-                   and sorted(move for move, _ in exact.listed) == sorted(moves_of(exact)))
+                   and sorted(move for move, _ in exact.listed) == sorted(moves_to_score(exact)))
         if not is_refused and not answers:
             raise ValueError(f"line {number} of the scores is not what ffoscores prints for line {number} of the list")
         yield entry, None if is_refused else dict(exact.listed)
 
 
-def moves_of(position: Position) -> List[str]:
+def moves_to_score(position: Position) -> List[str]:
     """The legal moves. A pass and the end of a game count as moves."""
     return position.legal_moves or ["PS" if position.must_pass else "--"]
 
