@@ -6,7 +6,6 @@ import random
 import re
 import shlex
 import shutil
-import signal
 import sys
 import tarfile
 import zipfile
@@ -160,8 +159,7 @@ def test_the_example_with_a_limit_of_time_stops_a_call(compiler):
         ("1 0000000810000000 0000001008000000", (1, "not solved in 1 s\n", "")),
         *((wrong, (2, "", "usage: limited SECONDS OWN OPP\n")) for wrong in ("0 1 2", "1 2", "1 2 x", "x 1 2")),
     ):
-        ends(wanted, "timeout", "30", program, *words.split(),
-             preexec_fn=lambda: signal.signal(signal.SIGALRM, signal.SIG_IGN))
+        ends(wanted, "timeout", "30", "env", "--ignore-signal=ALRM", program, *words.split())
 
 
 def test_the_example_in_python_runs():
