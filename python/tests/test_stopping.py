@@ -538,14 +538,6 @@ def test_a_program_ends_with_an_iterator_half_way():
     assert (found.returncode, found.stdout) == (0, f"{Solver().solve(HARD)}\n")
 
 
-def test_a_package_in_a_zip_makes_calls_that_stop(tmp_path, monkeypatch):
-    packages = shutil.make_archive(str(tmp_path / "it"), "zip", PACKAGES, "ffosolve")
-    monkeypatch.setenv("FFOSOLVE_LIBRARY", Solver()._library._name)
-    found = ran("    print(solver.solve(hard, timeout=60)); solver.solve(START, timeout=0.5)", packages)
-    assert (found.returncode, found.stdout) == (1, f"{Solver().solve(HARD)}\n")
-    assert found.stderr.splitlines()[-1] == "TimeoutError: not finished within 0.5 seconds"
-
-
 def test_an_object_that_is_deleted_while_python_ends_may_call_without_a_timeout():
     code = """
     class Last:

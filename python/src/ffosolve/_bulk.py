@@ -30,10 +30,6 @@ class Batch(NamedTuple):
 BatchOrRefusal = Union[Batch, Refused]
 
 
-def weight_for(empties: int) -> int:
-    return 1 << max(0, empties - LIGHTEST)
-
-
 def slices_of(empties: List[int], call: SolverCall, at_once: bool) -> Iterator[Tuple[slice, int]]:
     """Cuts positions, given by their numbers of empty squares, into slices; yields each with its greatest number. The
     call for a slice is brief, unless that for its first position alone is not: such a slice is for a program, which
@@ -41,11 +37,12 @@ def slices_of(empties: List[int], call: SolverCall, at_once: bool) -> Iterator[T
     gets_all = at_once and not is_brief(1, max(empties, default=0)) and call.has_program()
     start = greatest = weight = 0
     for at, count in enumerate(empties):
-        weight += weight_for(count)
+        more = 1 << max(0, count - LIGHTEST)
+        weight += more
         fits = weight <= MOST_WEIGHT and is_brief(1, greatest) == is_brief(at + 1 - start, max(greatest, count))
         if at > start and not (fits or gets_all and not is_brief(1, greatest) and at - start < MOST_IN_LIST):
             yield slice(start, at), greatest
-            start, greatest, weight = at, 0, weight_for(count)
+            start, greatest, weight = at, 0, more
         greatest = max(greatest, count)
     if empties:
         yield slice(start, len(empties)), greatest
@@ -72,7 +69,7 @@ def batches_of(positions: Iterable[Iterable[int]], max_empties: int, call: Solve
             break
         masks += own, opp
         empties.append(count)
-        weight += weight_for(count)
+        weight += 1 << max(0, count - LIGHTEST)
         if not at_once and (weight >= MOST_WEIGHT or time.monotonic() > end):
             yield from batches()
             masks, empties, weight, end = [], [], 0, time.monotonic() + MOST_SECONDS

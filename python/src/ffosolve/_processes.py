@@ -20,7 +20,7 @@ from concurrent.futures import CancelledError
 from typing import Any, List, Optional, Set
 
 from ._answers import Kind, Scoring
-from ._library import MOST_EMPTIES, NO_SCORE, CMoveScores, CPosition, folder_of, search, version_of
+from ._library import MOST_EMPTIES, NO_SCORE, CMoveScores, folder_of, search, version_of
 from ._obf import parsed
 from ._positions import Position
 from ._refusals import NoMemory, Status
@@ -101,7 +101,7 @@ class SearchProcess:
         if errors.endswith(b"out of memory\n"):
             raise NoMemory()
         if status:
-            how = f"was ended by signal {-status}" if status < 0 else f"ended with status {status}: {errors.decode()}"
+            how = f"was ended by signal {-status}" if status < 0 else f"ended with status {status}: {errors.decode().strip()}"
             raise ChildProcessError(f"the process that solved {how}")
         return printed.decode().splitlines()
 
@@ -119,10 +119,6 @@ def forget() -> None:
 
 
 os.register_at_fork(before=STARTS.acquire, after_in_parent=STARTS.release, after_in_child=forget)
-
-
-def line_of(position: CPosition) -> str:
-    return Position(position.own, position.opp).to_obf() + "\n"
 
 
 def read_rows(rows: List[str], found: Any) -> None:
@@ -177,21 +173,21 @@ class SolverCall:
         it is brief, by a program. Raises TimeoutError, CancelledError, and what `SearchProcess.find` raises."""
         self.check()
         if not is_brief(len(positions), empties):
+            lines = [Position(it.own, it.opp) for it in positions]
             with self.turn:
                 try:
-                    process = self.started(name, scoring, entries, positions[0], found[0])
+                    process = self.started(name, scoring, entries, lines[0], found[0])
                 except OSError:
                     if self.timeout is not None:
                         raise
                 else:
-                    read_rows(process.find("".join(map(line_of, positions)), self), found)
+                    read_rows(process.find("".join(f"{line.to_obf()}\n" for line in lines), self), found)
                     return Status.DONE
         return search(self.library, name, scoring, entries, positions, found)
 
-    def started(self, name: str, scoring: Scoring, entries: int, position: CPosition, claim: Any) -> SearchProcess:
+    def started(self, name: str, scoring: Scoring, entries: int, position: Position, claim: Any) -> SearchProcess:
         path, book = program("ffoscores" if "move_scores" in name else "ffosolve", self.library), ""
         if name == "ffosolve_confirm" and abs(claim.score) <= 64:
-            line = Position(position.own, position.opp).canonical().to_obf(moves={"PS": claim.score})
-            book = f"{BOOK_HEADER}{scoring}\n{line}\n"
+            book = f"{BOOK_HEADER}{scoring}\n{position.canonical().to_obf(moves={'PS': claim.score})}\n"
         return SearchProcess([path, f"--workers={self.workers}", f"--table={entries}", f"--scoring={scoring}",
                               f"--max-empties={MOST_EMPTIES}"], book)
