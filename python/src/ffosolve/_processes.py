@@ -92,16 +92,16 @@ class SearchProcess:
                 if ready.poll(1000 * call.wait_seconds()):
                     piece = os.read(self.process.stdout.fileno(), 1 << 16)
                     printed += piece
-            status, errors = self.process.wait(), self.errors.read()
+            status, errors = self.process.wait(), self.errors.read().decode().strip()
         finally:
             PROCESSES.discard(self)
             self.process.kill()
             with contextlib.suppress(BrokenPipeError), self.errors, self.process:
                 pass
-        if errors.endswith(b"out of memory\n"):
+        if errors.endswith("out of memory"):
             raise NoMemory()
         if status:
-            how = f"was ended by signal {-status}" if status < 0 else f"ended with status {status}: {errors.decode().strip()}"
+            how = f"was ended by signal {-status}" if status < 0 else f"ended with status {status}: {errors}"
             raise ChildProcessError(f"the process that solved {how}")
         return printed.decode().splitlines()
 
