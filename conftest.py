@@ -57,8 +57,6 @@ def pytest_unconfigure():
 def ends_its_programs():
     """Fails a module that leaves a program running for five seconds, and kills the program."""
     yield
-    if "ffosolve._processes" in sys.modules:
-        sys.modules["ffosolve._processes"].end_idle()
     _, left = psutil.wait_procs(programs(), timeout=5)
     named = [program.as_dict(["pid", "cmdline"]) for program in left]
     pytest_unconfigure()

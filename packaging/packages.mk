@@ -71,7 +71,10 @@ wheel: commit tools levels ## makes out/ffosolve-VERSION-py3-none-manylinux_2_34
 	$(clean)
 	$(room)
 	$(call starters,$$room)
-	for level in $(levels); do install -D -m 644 out/$$level/libffosolve.so "$$room/package/$$level/libffosolve.so.$(major)"; done
+	for level in $(levels); do
+	    install -D -m 644 out/$$level/libffosolve.so "$$room/package/$$level/libffosolve.so.$(major)"
+	    install -t "$$room/package/$$level" $(programs:%=out/$$level/%)
+	done
 	(cd python && FFOSOLVE_STAGE="$$room" SOURCE_DATE_EPOCH="$(seconds)" $(python) -Bm hatchling build --target wheel --directory "$$room" >/dev/null)
 	$(call finish,*.whl)
 

@@ -20,10 +20,11 @@ from tests.support import ROOT, built, ends, lack, need, preload, run, stored
 pytestmark = pytest.mark.usefixtures("installed")
 PAGE = "docs/check-evaluation.md"  # its program reads a list of positions, and their scores
 SMALL, LARGE = 9, 10  # how many positions of examples/masks.txt an example solves; only the last has 20 empty squares
-CMAKE = """cmake_minimum_required(VERSION 3.16)
+CMAKE = f"""cmake_minimum_required(VERSION 3.16)
 project(clients C CXX)
 add_executable(program answers.c)
-{}add_executable(shared answers.c)
+{{}}find_package(ffosolve {VERSION} EXACT CONFIG REQUIRED)
+add_executable(shared answers.c)
 add_executable(in_cxx answers.cpp)
 target_link_libraries(shared ffosolve::ffosolve)
 target_link_libraries(in_cxx ffosolve::ffosolve)
@@ -125,8 +126,9 @@ def test_examples_in_c_and_cxx_are_built_by_pkg_config():
 
 
 def test_examples_in_c_and_cxx_are_built_by_cmake():
-    """The CMake code of docs/library.md links one program with the static library; CMAKE, the text around it, links
-    two with the shared library. If the code asks for a newer version than is installed, the command cmake fails."""
+    """The CMake code of docs/library.md links one program with the static library; CMAKE, the text around it, finds the
+    package once more, and links two with the shared library. The command cmake fails if the code asks for a newer or
+    exactly another version than is installed, and without the static library."""
     need("cmake")
     (first, second, _), (block, _) = VERSION.split("."), shown("cmake")
     for name in ("answers.c", "answers.cpp"):
@@ -137,22 +139,27 @@ def test_examples_in_c_and_cxx_are_built_by_cmake():
     PREFIX.make("cmake", "--build", "cmake-built")
     for name in ("program", "shared", "in_cxx"):
         answers_of(PREFIX.work / "cmake-built" / name, count=SMALL)
-    PREFIX.write("cmake/CMakeLists.txt", CMAKE.format(block.replace(" 1.0 ", f" {first}.{int(second) + 1} ")))
+    PREFIX.archive.rename(PREFIX.work / "archive")
     ran = PREFIX.run(*configure)
-    assert ran.returncode != 0
-    assert VERSION in ran.stderr
+    (PREFIX.work / "archive").rename(PREFIX.archive)
+    assert (ran.returncode != 0, f"{PREFIX.archive} is missing" in ran.stderr) == (True, True)
+    for other in (f"{first}.{int(second) + 1}", "1.0 EXACT"):
+        PREFIX.write("cmake/CMakeLists.txt", CMAKE.format(block.replace(" 1.0 ", f" {other} ")))
+        ran = PREFIX.run(*configure)
+        assert (ran.returncode != 0, VERSION in ran.stderr) == (True, True), other
 
 
 @pytest.mark.parametrize("compiler", [C, CXX], ids=["C", "C++"])
 def test_the_example_with_a_limit_of_time_stops_a_call(compiler):
-    """The last position is that at the start of a game. Without its process, nothing holds the standard output open."""
+    """The last position is that at the start of a game. Without its process, nothing holds the standard output open.
+    The programs begin with the signal of the timer ignored."""
     program = PREFIX.compile(compiler, "limited", [PREFIX.shipped / "examples/c/limited.c"])
     for words, wanted in (
         ("60 fffffff7ffff7f7c 800008002", (0, "+62\n", "")), ("60 3 2", (1, "the masks share a square\n", "")),
         ("1 0000000810000000 0000001008000000", (1, "not solved in 1 s\n", "")),
         *((wrong, (2, "", "usage: limited SECONDS OWN OPP\n")) for wrong in ("0 1 2", "1 2", "1 2 x", "x 1 2")),
     ):
-        ends(wanted, program, *words.split())
+        ends(wanted, "timeout", "30", "env", "--ignore-signal=ALRM", program, *words.split())
 
 
 def test_the_example_in_python_runs():
@@ -192,7 +199,7 @@ def test_the_packages_own_tests_pass_where_it_is_installed():
     """Runs those that need the installed files: examples of the help, types, processes and the library. The others test
     the package of the checkout."""
     assert (PREFIX.site / "ffosolve/py.typed").exists()
-    some = "examples_of_the_help or mypy_sees or kept_and_used_again or limits_and_versions"
+    some = "examples_of_the_help or mypy_sees or calls_of_several_threads or limits_and_versions"
     words = (sys.executable, "-m", "pytest", "-q", "-p", "no:cacheprovider", PREFIX.work / "python/tests", "-k", some)
     assert re.search(r"(?m)^4 passed", PREFIX.make(*words).stdout)
 
@@ -264,6 +271,19 @@ def test_the_crates_own_tests_pass_with_either_library(features):
     ran = PREFIX.cargo("test", *features)
     passed = re.findall(r"^test result: ok. (\d+) passed", ran.stdout, re.MULTILINE)
     assert len(passed) > 2, ran.stdout
+
+
+def test_clippy_and_rustfmt_have_nothing_to_say():
+    need("cargo-clippy", "cargo-fmt")
+    PREFIX.cargo("clippy", "--quiet", "--all-targets", "--", "--deny", "warnings")
+    PREFIX.cargo("fmt", "--check")
+
+
+def test_a_changed_library_is_linked_anew():
+    for number in (1, 2):
+        calls = "".join(f"int {name}(void) {{ return {number}; }}\n" for name in PREFIX.calls)
+        program = PREFIX.rust_client_of("anew", 'fn main() { print!("{}", ffosolve::library_version()) }', calls)
+        assert PREFIX.make(program).stdout == str(number)
 
 
 def test_the_compiler_that_the_manifest_names_takes_all_of_a_copy_of_the_crate_alone():

@@ -19,13 +19,16 @@ from tests.support import ROOT, ends, is_v3, lack, need, run, stored, unshared, 
 COMMIT = "GIT_COMMITTER_DATE='1700000000 +0000' git -c user.name=a -c user.email=a@b commit -q -m one"
 COMMIT_ALL = f"git init -q; git add -A; {COMMIT}"
 PACKAGES = ["ffosolve", "libffosolve-dev", "libffosolve1", "python3-ffosolve"]
-# A Python program: solves the position in its argument, and prints versions, best moves, and the files that it loaded.
+# A Python program: solves the position in its argument, and a harder one by a program. Prints versions, best moves, and
+# the files that it loaded, and the folder of the program that it ran.
 SOLVE = """
-import importlib.metadata, re, sys, ffosolve
+import importlib.metadata, os, re, sys, ffosolve
 solver = ffosolve.Solver()
 best = solver.solve(ffosolve.Position.from_obf(sys.argv[1])).squares
+solver.solve(ffosolve.Position(2**49 - 1, 0), timeout=60)
 print(importlib.metadata.version("ffosolve"), ffosolve.__version__, solver.library_version, best)
 print(ffosolve.__file__, re.search("/.*/libffosolve.*", open("/proc/self/maps").read())[0])
+print(os.path.dirname(ffosolve._processes.program("ffosolve", solver._library)))
 """
 
 
@@ -231,7 +234,8 @@ def test_the_programs_need_only_the_c_library(dist, folder):
 
 def is_used(start, version, place):
     """Asserts that the four programs, found on the path, run and have the right versions, and that Python finds the
-    package in the folder `place`. `start` runs a command. Returns the path of the library that the package loads."""
+    package in the folder `place`. `start` runs a command. Returns the path of the library that the package loads, and
+    the folder of the program that it runs."""
     lines = FIRST_OBF.read_text()
     for name, of, words, text, wanted in (
         ("ffosolve", VERSION, [], lines, FIRST), ("ffoscores", VERSION, [], lines, lines),
@@ -243,10 +247,10 @@ def is_used(start, version, place):
         assert (ran.returncode, ran.stderr, ran.stdout) == (0, "", wanted)
     assert len(list(Path("work").glob("ffosolve-?"))) == len(LEVELS)
     shutil.rmtree("work")
-    versions, files = start("python3", "-c", SOLVE, lines.splitlines()[1]).stdout.splitlines()
+    versions, files, programs = start("python3", "-c", SOLVE, lines.splitlines()[1]).stdout.splitlines()
     package, library = files.split()
     assert (versions, package) == (f"{version} {version} {VERSION} ['H1']", f"{place}/ffosolve/__init__.py")
-    return library
+    return library, programs
 
 
 @pytest.fixture(scope="module")
@@ -272,7 +276,8 @@ def test_an_empty_environment_needs_only_the_wheel(dist, wheel, folder):
         needs_libc_alone(path)
     for library in libraries[is_v3()::-1]:  # the other one, too, as if the processor were of the lower level
         env = {"PATH": f"{folder}/empty/bin:/usr/bin:/bin"}
-        assert is_used(partial(run, env=env, text=True), dist.version, package.parent) == str(library)
+        found = is_used(partial(run, env=env, text=True), dist.version, package.parent)
+        assert found == (str(library), str(library.parent))
         library.unlink()
     run(*pip, "uninstall", "-y", "ffosolve", check=True)
     assert {*folder.glob("empty/**/*")} == before
@@ -412,7 +417,8 @@ def test_apt_installs_them_and_removes_all_of_them(dist, packages, folder):
     system = System("")
     system.make(*APT, "--no-install-recommends", "install", *packages.values())
     system.make("test", "-d", f"{PYTHON}/ffosolve/__pycache__")
-    assert is_used(system.run, dist.version, PYTHON).startswith("/usr/lib/x86_64-linux-gnu/")
+    library, programs = is_used(system.run, dist.version, PYTHON)
+    assert (library.startswith("/usr/lib/x86_64-linux-gnu/"), programs) == (True, "/usr/bin")
     run("dpkg-deb", "-x", packages["ffosolve"], "root", check=True)
     shows(folder / "root/usr/share/doc/ffosolve/README.md", 0, system.run)
     assert system.make("pkg-config", "--cflags", "--libs", "ffosolve").split() == ["-lffosolve"]

@@ -78,7 +78,10 @@ REFUSED = (  # transcript, move, reason
     ("(;GM[Othello]B[f5]B[d6];)", 2, f"a pass is not a legal move for White in {player.line(*F5[59])}"),
     (f"2 {ggf(GAME)}{ggf(GAME)}", None, "a line has one game, but this has several in GGF"),
     ("(;GM[Othello]PC[GGS/os])", None, "it begins like a game in GGF, but does not end with `;)`"),
-    ("(;GM[2]B[f5]W[d6];)", None, "it is a game in GGF or SGF without GM[Othello]"),
+    *((text, None, "it is a game in SGF, or in GGF without GM[Othello]")
+      for text in ("(;GM[2]B[f5]W[d6];)", "(;FF[4]GM[2]SZ[8];B[f5];W[d6])")),
+    *((f"f5 {marked} c3", None, f"{marked} has a mark, but a transcript has only moves, as f5d6c3")
+      for marked in ("d6!", "d6 ?")),
     *((ggf(GAME, GGF_BOARD.replace(*other)), None, "it is in GGF, and does not begin from the usual position")
       for other in (("O*", "OO"), (" *]", " O]"))),
 )

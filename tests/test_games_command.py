@@ -66,6 +66,20 @@ def test_files_that_are_not_texts_are_refused_and_the_next_is_read(content, why)
         games(*words, input=content, status=3, err=f"cannot read -: {why}")
 
 
+@pytest.mark.parametrize("content", (
+    '[Event "a"]\n[Black "b"]\n\n1. f5 d6\n2. c3 d3\n', '[Event "a"]\r\n1. f5 d6 2. c3\r\nd3\r\n',
+    "(;FF[4]GM[2]SZ[8]\n;B[f5];W[d6])\n"))
+def test_a_game_on_several_lines_is_told_to_be_one(content):
+    """The headers of a PGN may have lines of their own, and the result of the game another one."""
+    err = "cannot read it: a game is on several lines, as in a PGN or SGF file, but a text has one game in each line"
+    reads("it", content, "--empties=58", status=3, err=err)
+    with pytest.raises(ValueError, match=f"^{err}$"):
+        list(ffosolve.read_games("it"))
+    for text in ('[Event "a"]\n[Black "b"]\n\nf5d6\n33-31\n', "(;GM[Othello]B[f5]W[d6];)\n" * 2):
+        write("it", text)
+        assert {game.squares == ["F5", "D6"] for game in ffosolve.read_games("it")} == {True}
+
+
 @pytest.mark.parametrize("words, before, out", (
     (("--empties=20", "-"), TEXT + "\n", LINE.format("-")),
     (("compare", "-", "it.wtb"), "% ffobook 2 winner\n", ""),

@@ -40,6 +40,7 @@ def mocked(monkeypatch, request):
     """A Solver and a mock that stands for its library, since no call is made by another process. Its calls for many
     positions do what `side_effect` does, and then what the library does."""
     monkeypatch.setattr("ffosolve._processes.is_brief", lambda *_: True)
+    monkeypatch.setattr("ffosolve._processes.program", mock.Mock(side_effect=FileNotFoundError))
     solver = Solver(scoring=2, entries=request.param)
     solver._library = mock.Mock(wraps=solver._library)
     return solver, solver._library

@@ -20,7 +20,7 @@ from ffosolve import Position, Scoring, Solver
 AT_PASS = "-OOOOOOXXXXXXXXXXXXXXXXXXXXXXXXXXXXXXXXXXXXXXXXXXXXXXXXXXXXXXXXX O;"
 FINISHED = "XXXXXXXXXXXXXXXXXXXXXXXXXXXXXXXX----------------OOOOOOOOOOOOOOOO X;"
 BOARD = "--XXXXX--OOOXX-O-OOOXXOX-OXOXOXXOXXXOXXX--XOXOXX-XXXOOO--OOOOO-- X;"
-SCORES = {"A2": 38, "b1": 36, "H8": -12, "A1": 38, "H1": 0}  # of moves in BOARD
+SCORES = {"A2": 38, "b1": 36, "H8": -40, "A1": 38, "H1": 0}  # of moves in BOARD
 
 
 def test_moves_passes_and_ends_are_those_of_the_plain_player():
@@ -91,7 +91,8 @@ def test_an_answer_reads_as_its_row_of_a_report_and_its_board_names_a_pass_and_a
         answer = Solver().solve(position)
         board, scores = position.show(answer), dict.fromkeys(answer.squares, answer.score)
         assert (str(answer), str(board)) == (text, str(position.show(scores)).replace("is to move", state))
-        assert board._repr_svg_().count(f">{mover} {state}</text>") == 1
+        for it in (board, *[position, position.show({}), position.show(side="X")] * position.is_over):
+            assert it._repr_svg_().count(f">{mover} {state}</text>") == 1
     two = ffosolve.Answer(0, ffosolve.Kind.MOVES, 0x81)
     assert (str(two), f"{two}", f"{two:>10}") == ("+00 A1,H1", "+00 A1,H1", " +00 A1,H1")
     assert repr(two) == "Answer(score=0, kind=<Kind.MOVES: 0>, best=129)"
@@ -106,7 +107,7 @@ def test_a_board_as_text_has_letters_scores_and_the_side_to_move():
     assert str(Position(*of_white)) == str(of_white).translate(str.maketrans("XO", "OX"))
     shown = str(position.show(SCORES, side="O")).splitlines()
     assert shown[1] == "1 +38*  +36    O    O    O    O    O   +0"
-    assert (shown[2][:6], shown[8][-4:], shown[-1]) == ("2 +38*", " -12", "O is to move")
+    assert (shown[2][:6], shown[8][-4:], shown[-1]) == ("2 +38*", " -40", "O is to move")
 
 
 def picture(svg):

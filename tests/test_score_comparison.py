@@ -1,12 +1,14 @@
-"""compare_scores in Python: how far an evaluation's scores are from those of a Solver, or that ffoscores printed."""
+"""compare_scores in Python: how far an evaluation's scores are from those that a Solver finds, that ffoscores printed,
+or that are known."""
 import io
+import math
 from pathlib import Path
 from unittest import mock
 
 import pytest
 
 from tests.support import built, run, stored, write
-from ffosolve import Position, Solver, WrongScore, compare_scores
+from ffosolve import Position, Solver, WrongScore, compare_scores, masks_of
 
 BOARD = "-OXXXXX-XXXXXXXOXXXXXXXXXXXXXXXXXXXOXXXXXXXXXXXXXXXXXXXXXXXXXXXX X;"  # H1 is +62, and A1 +52
 AT_PASS = "-OOOOOOXXXXXXXXXXXXXXXXXXXXXXXXXXXXXXXXXXXXXXXXXXXXXXXXXXXXXXXXX O;"  # -64
@@ -38,13 +40,17 @@ def test_errors_are_the_differences_of_the_scores(scored):
     errors = [8.5, -0.25, -61.5, 18, 4]
     sizes = list(map(abs, errors))
     found = compare_scores("list.obf", "list.scores")
-    assert found[:-1] == (6, 8, wrong, sum(sizes) / 8, sum(errors) / 8, 61.5, 3, 10 / 3, 2 / 3, 1, 2, 3)
+    square, square_of_others = (8.5**2 + 0.25**2 + 61.5**2 + 18**2 + more for more in (16, 0))
+    assert found[:-1] == (6, 8, wrong, sum(sizes) / 8, math.sqrt(square / 8), sum(errors) / 8, 61.5, 3, 10 / 3, 2 / 3,
+                          1, 2, 3)
     assert [it.error for it in found.wrong] == sizes
-    assert str(found) == ("lines 6 moves 8 wrong 5 mean error 11.53 bias -3.91 greatest 61.5 choices 3 mean loss 3.33 "
-                          "best 67% refused 1 illegal 2 unread 3")
-    pass_alone = (1, 1, wrong[4:], 4, 4, 4, 0, 0, 0, 0, 0, 0, {})
-    others = (5, 7, wrong[:4], 88.25 / 7, -35.25 / 7, 61.5, 3, 10 / 3, 2 / 3, 0, 2, 3, {})
+    assert str(found) == ("lines 6 moves 8 wrong 5 mean error 11.53 root mean square 22.90 bias -3.91 greatest 61.5 "
+                          "choices 3 mean loss 3.33 best 67% refused 1 illegal 2 unread 3")
+    pass_alone = (1, 1, wrong[4:], 4, 4, 4, 4, 0, None, None, 0, 0, 0, {})
+    others = (5, 7, wrong[:4], 88.25 / 7, math.sqrt(square_of_others / 7), -35.25 / 7, 61.5, 3, 10 / 3, 2 / 3, 0, 2, 3,
+              {})
     assert list(found.by_empties.items()) == [(1, pass_alone), (2, others)]
+    assert str(found.by_empties[1]).endswith(" greatest 4 choices 0 refused 0 illegal 0 unread 0")
 
 
 def test_a_solver_finds_what_ffoscores_prints(scored):
@@ -60,16 +66,63 @@ def test_positions_have_scores_without_a_file():
     board, at_pass = Position.from_obf(BOARD), Position.from_obf(AT_PASS)
     over = board.play("H1").play_all("")
     found = compare_scores({board: 60.5, at_pass: -64})
-    assert found[:-1] == (2, 2, [WrongScore(1, None, 60.5, 62)], 0.75, -0.75, 1.5, 0, 0, 0, 0, 0, 0)
+    root = math.sqrt(1.5**2 / 2)
+    assert found[:-1] == (2, 2, [WrongScore(1, None, 60.5, 62)], 0.75, root, -0.75, 1.5, 0, None, None, 0, 0, 0)
     assert list(found.by_empties) == [1, 2]
     moves = {"h1": 3, "A1": 3.5, "D4": 9}
     found = compare_scores(iter([(board, moves), (at_pass, {"PS": -64}), (board, {"H1": 62}), (over, {})]))
-    assert found[:-1] == (4, 4, [WrongScore(1, "H1", 3, 62), WrongScore(1, "A1", 3.5, 52)], 107.5 / 4, -107.5 / 4, 59,
-                          2, 5, 0.5, 0, 1, 0)
+    root = math.sqrt((59**2 + 48.5**2) / 4)
+    assert found[:-1] == (4, 4, [WrongScore(1, "H1", 3, 62), WrongScore(1, "A1", 3.5, 52)], 107.5 / 4, root, -107.5 / 4,
+                          59, 2, 5, 0.5, 0, 1, 0)
     assert compare_scores([(board, {"A1": 52, "H1": 52})]).mean_loss == 10  # of equal ones the first
+
+
+BOTH = Position.from_obf(BOARD), Position.from_obf(AT_PASS)
+MOVES = {"H1": 62, "A1": 52}
+
+
+@pytest.mark.parametrize("listed, known, by_moves, alone", (
+    ([(BOTH[0], 1), (BOTH[0], 2), (BOTH[1], 3), (BOTH[1], {"PS": 4})], {}, [], BOTH),
+    ([(BOTH[0], 1), (BOTH[0], {"A1": 2}), (BOTH[0], {"H1": 2}), (BOTH[1], 3)], {}, BOTH[:1], BOTH[1:]),
+    ([(BOTH[0], 1), (BOTH[1], {"PS": 4})], {BOTH[0]: 62, tuple(BOTH[1]): -64}, [], []),
+    ([(BOTH[0], {"H1": 1})], {BOTH[0]: Solver().solve(BOTH[0])}, BOTH[:1], []),
+    ([(BOTH[0], {"H1": 1}), (BOTH[0], 1), (BOTH[1], 1)], {BOTH[0]: MOVES, BOTH[1]: {}}, [], BOTH[1:]),
+    ([(BOTH[0], {}), (BOTH[1], {})], {}, [], []),
+))
+def test_each_position_is_solved_once_unless_it_is_known_and_its_moves_only_if_they_have_scores(
+        listed, known, by_moves, alone):
     solver = mock.Mock(spec=Solver, wraps=Solver(), max_empties=2)
-    assert compare_scores({board: 62}, solver, threads=3).wrong == []
-    assert solver.move_scores_all.call_args.kwargs == {"threads": 3}
+    found = compare_scores(listed, solver, known=known, threads=3)
+    assert (found, found.lines) == (compare_scores(listed), len(listed))
+    for call, positions in ((solver.move_scores_all, by_moves), (solver.solve_all, alone)):
+        assert call.call_args == mock.call(list(positions), threads=3, timeout=None)
+
+
+def test_arrays_of_answers_are_known():
+    pytest.importorskip("numpy")
+    lines, answers = [BOARD[:60], "", BOARD, f"{AT_PASS} PS:-60;", BOARD], Solver().solve_arrays(*masks_of(BOTH * 2))
+    found = compare_scores(lines, Solver(max_empties=0), known=type(answers)(*(it[:3] for it in answers)))
+    assert (found.lines, found.refused, found.wrong) == (3, 1, [WrongScore(4, "PS", -60, -64)])
+    with pytest.raises(ValueError, match="^4 known scores are not those of 3 positions$"):
+        compare_scores(lines, known=answers)
+
+
+@pytest.mark.parametrize("wrong", (65, -66, 1.5, {"H1": 62}, {**MOVES, "B1": 2}, {"PS": 2}, {"H1": 1, "A1": 99}))
+def test_known_scores_that_do_not_fit_are_refused(wrong):
+    with pytest.raises(ValueError, match=f"^not the exact scores of the legal moves in {BOARD} "):
+        compare_scores({BOTH[0]: 60}, known={BOTH[0]: wrong})
+
+
+def test_a_timeout_is_for_both_calls():
+    positions = [Position.start(), BOTH[0]]
+    for listed in ({positions[0]: 2}, {positions[0]: {"F5": 2}}):
+        with pytest.raises(TimeoutError, match="^not finished within "):
+            compare_scores(listed, Solver(max_empties=60), timeout=0.1)
+    with pytest.raises(ValueError, match="^timeout is at least 0, not -1$"):
+        compare_scores({BOTH[0]: 60}, timeout=-1)
+    solver = mock.Mock(spec=Solver, wraps=Solver(), max_empties=2)
+    assert compare_scores(dict.fromkeys(BOTH, 2), solver, timeout=9).lines == 2
+    assert 8 < solver.solve_all.call_args.kwargs["timeout"] < solver.move_scores_all.call_args.kwargs["timeout"] < 9
 
 
 @pytest.mark.parametrize("values, error, why", (
@@ -93,7 +146,7 @@ def test_a_list_has_lines_or_pairs():
 def test_scores_of_many_digits_are_not_read(scored):
     texts = (LONG, f"+{LONG}.5", "-" + "9" * 5000, f"1e{LONG}", f".{LONG}x", "9" * 16)
     found = compare_scores([f"{BOARD} A1:{text}; H1:+62.{LONG}" for text in texts], [scored[1]] * len(texts))
-    assert found[:2] == (6, 6) and found[10:12] == (0, 6)
+    assert found[:2] == (6, 6) and found[11:13] == (0, 6)
     assert found.wrong == [WrongScore(at, "H1", 63.0, 62) for at in range(1, 7)]
     found = compare_scores([f"{BOARD} A1:-{'9' * 15}; H1:000000000000062.0"], scored[1:2])
     assert (found.greatest_error, found.moves, found.unread) == (10 ** 15 + 51, 2, 0)
@@ -113,15 +166,15 @@ def test_paths_files_and_lines_are_read_alike(scored):
 
 def test_lines_of_every_kind_are_counted():
     found = compare_scores(KINDS, SCORES)
-    assert found[:2] + found[3:4] + found[5:6] + found[9:12] == (8, 11, 27 / 11, 12, 5, 0, 3)
+    assert found[:2] + found[3:4] + found[6:7] + found[10:13] == (8, 11, 27 / 11, 12, 5, 0, 3)
     assert [it[:3] for it in found.wrong] == [(3, "H1", 60), (4, "A1", 62), (12, "A1", 64.0), (12, "H1", 65)]
     for found in (compare_scores(SCORES, SCORES), compare_scores(SCORES)):
-        assert found[:6] + found[7:10] == (8, 13, [], 0, 0, 0, 0, 1, 0)
+        assert found[:7] + found[8:11] == (8, 13, [], 0, 0, 0, 0, 0, 1, 0)
 
 
 @pytest.mark.parametrize("empty", ([], ["% X", ""]))
 def test_an_empty_list_has_no_errors(empty):
-    assert compare_scores(empty, empty) == compare_scores(empty) == (0, 0, [], 0, 0, 0, 0, 0, 0, 0, 0, 0, {})
+    assert compare_scores(empty, empty) == compare_scores(empty) == (0, 0, [], 0, 0, 0, 0, 0, None, None, 0, 0, 0, {})
 
 
 def refuses(number, listed, scored):

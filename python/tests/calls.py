@@ -22,7 +22,7 @@ def find(name, threads, solver, positions, **how):
     """Makes a call for positions or, if it is for one, for the last of them. Returns what it finds."""
     call, more = getattr(solver, name), {"confirm": [ANSWER], "play": ["A1"]}.get(name, [])
     if name in ONE:
-        return call(positions[-1], *more, **how)
+        return call(positions[-1], *more, **how, **({"threads": threads} if name in SEARCHES else {}))
     if name.endswith("arrays"):
         pytest.importorskip("numpy")
         return list(call(*ffosolve.masks_of(positions), threads=threads, **how))

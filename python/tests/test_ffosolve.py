@@ -8,7 +8,6 @@ import doctest
 import gc
 import inspect
 import io
-import itertools
 import os
 import pathlib
 import pickle
@@ -25,7 +24,7 @@ import pytest
 from calls import ANSWER, AT_PASS, CORNERS, ITERATORS, LISTS, MANY, ONE, OVER, POSITION, SEARCHES, find
 import ffosolve
 from ffosolve import START, Answer, Game, Kind, Position, Scoring, Solver, masks_of, parse_lines, read_lines
-from ffosolve._library import libraries_to_try, library_path, load
+from ffosolve._library import libraries_to_try, load
 
 EIGHT = Position.from_obf("XOOOO-O-XOOO-OO-XOOOO-OXXXXXXXO-XXOXXXO-OOOOXOOOOXXXOOOOOX-XXXXO X;")  # 8 empty squares
 SHARED, WIDE, WIDER = Position(3, 2), Position(1, 2**31 - 2), Position(1, 2**30 - 2)  # 33 and 34 empty squares
@@ -149,16 +148,18 @@ def test_arrays_that_numpy_rounds_are_refused_by_the_name_of_the_call_that_makes
     ({"scoring": "sign", "entries": 7, "max_empties": 9}, "scoring='sign', entries=7, max_empties=9"),
     ({"library": "PATH"}, "'PATH', scoring='winner', max_empties=20"),
 ])
-def test_a_solver_is_shown_copied_and_pickled(settings, shown):
-    path = library_path(load())
+def test_a_solver_is_shown_copied_and_pickled(settings, shown, monkeypatch):
+    path = load()._name
     shown = shown.replace("PATH", path)
     solver = Solver(**{**settings, **({"library": path} if "library" in settings else {})})
     for it in (solver, eval(f"Solver({shown})"), copy.copy(solver), copy.deepcopy(solver),
                pickle.loads(pickle.dumps(solver))):
         assert (repr(it), it.library_version) == (f"Solver({shown})", solver.library_version)
         assert it.solve(POSITION) == solver.solve(POSITION)
-    with ProcessPoolExecutor(2) as pool:
-        assert list(pool.map(solver.solve, [POSITION, AT_PASS])) == solver.solve_all([POSITION, AT_PASS])
+    monkeypatch.chdir(os.path.dirname(path))
+    for it in (solver, Solver(**{**settings, "library": os.path.basename(path)})):
+        with ProcessPoolExecutor(2, initializer=os.chdir, initargs=["/"]) as pool:
+            assert list(pool.map(it.solve, [POSITION, AT_PASS])) == solver.solve_all([POSITION, AT_PASS])
 
 
 def test_positions_with_equal_masks_are_equal_and_keep_their_colours():
@@ -196,12 +197,13 @@ def test_scorings_limits_and_versions_are_those_of_the_library_and_scorings_and_
 def test_the_library_gets_the_scoring_the_size_of_the_table_and_the_claim(settings, scoring, entries, monkeypatch):
     """By default, the table has the size that `table_entries` gives for the most empty squares of a position."""
     monkeypatch.setattr("ffosolve._processes.is_brief", lambda *_: True)  # no call is made by another process
+    monkeypatch.setattr("ffosolve._processes.program", mock.Mock())
     solver = Solver(max_empties=60, **settings)
     library = solver._library = library_that_returns(0)
-    for name, place in itertools.product(LISTS, range(3)):
-        find(name, 1, solver, [*[POSITION] * place, Position(0xFFF, 0), *[POSITION] * (2 - place)])
+    for name in LISTS:
+        find(name, 1, solver, [POSITION, Position(0xFFF, 0), POSITION])
     given = [call.args[1:4] for call in library.method_calls]
-    assert given == [(3, scoring, entries)] * 3 * len(LISTS)
+    assert given == [(1, scoring, settings.get("entries", 0)), (2, scoring, entries)] * len(LISTS)
     solver.confirm(Position(0xFF0, 0xF), Answer(-3, Kind.OVER, 4))
     position, *of_one, claim, _ = library.ffosolve_confirm.call_args.args
     assert of_one == [scoring, entries]

@@ -32,7 +32,8 @@ def all_of(position):
 
 
 @pytest.mark.parametrize("name, value", [
-    ("own", 1), ("opp", 1), ("side", "O"), ("last_move", "F5"), ("listed", ()), ("number", 3)])
+    ("own", 1), ("opp", 1), ("side", "O"), ("last_move", "F5"), ("listed", ()), ("number", 3),
+    *((name, 1) for name in Position.__slots__)])
 @pytest.mark.parametrize("position", [Position.start(), START, POSITION, Mine(1, 2)])
 def test_no_attribute_can_be_assigned(position, name, value):
     before = all_of(position)
@@ -199,6 +200,7 @@ def test_a_symmetry_moves_squares_as_its_help_says_and_its_inverse_moves_them_ba
 def test_the_picture_marks_the_last_move_and_is_saved(tmp_path):
     mark, after = 'fill="#d0402b"', START.play("F5")
     for position, marks in ((START, 0), (after, 1), (after.passed(), 0), (Position(*after), 0)):
+        assert position.show({"A1": 2})._repr_svg_().count(mark) == marks
         position.show().save(tmp_path / "it.svg")
         picture = (tmp_path / "it.svg").read_text()
         assert xml.etree.ElementTree.fromstring(picture).tag == "{http://www.w3.org/2000/svg}svg"

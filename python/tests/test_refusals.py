@@ -32,7 +32,7 @@ REFUSED = [
     (NoMove, f"move 3: D6 is not a legal move for Black in {THIRD}", lambda: START.play_all("f5d6d6")),
     (NoMove, f"move 2: a pass is not a legal move for White in {SECOND}", lambda: START.play_all("f5 --")),
     (NoMove, "move 2: no square has the name 'z9'", lambda: START.play_all("f5z9")),
-    (ValueError, "it is a game in GGF or SGF without GM[Othello]", lambda: START.play_all("(;GM[2]B[f5];)")),
+    (ValueError, "it is a game in SGF, or in GGF without GM[Othello]", lambda: START.play_all("(;GM[2]B[f5];)")),
     *((NoMove, f"square {square} is not a legal move for Black in {FIRST}", lambda square=square: START.play(square))
       for square in (64, -1, 255, 256, 256 + 19)),
     *((NoMove, f"a pass is not a legal move for Black in {FIRST}", lambda word=word: START.play(word))

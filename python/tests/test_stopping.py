@@ -1,5 +1,5 @@
-"""Calls can be interrupted or cancelled. Those that may last are made in processes, which end with the program, even
-while it forks or ends."""
+"""Calls can be interrupted or cancelled. Those that may last are made by programs, which end with this one, even while
+it forks or ends."""
 import asyncio
 import contextlib
 import contextvars
@@ -9,11 +9,11 @@ import os
 import resource
 import shutil
 import signal
-import struct
 import subprocess
 import sys
 import threading
 import time
+import tracemalloc
 from concurrent.futures import CancelledError
 from unittest import mock
 
@@ -31,20 +31,19 @@ QUICK = Position.from_obf("OXXX-XO-XOXXXXXX--OXOXOXOOOOXXOXOOOXXXXXOOOOOOXXXXOOO
 LATE = 60  # seconds that a busy machine may take for what is done at once
 PACKAGES = os.path.dirname(os.path.dirname(ffosolve.__file__))
 
-CALLS = [*((name, None) for name in SEARCHES), *((name, threads) for threads in (1, 3) for name in MANY)]
+CALLS = [(name, threads) for threads in (1, 3) for name in SEARCHES + MANY]
 each_call, on_threads = pytest.mark.parametrize("name, threads", CALLS), pytest.mark.parametrize("threads", [1, 3])
 
 
 @pytest.fixture(autouse=True)
 def solver():
-    """A Solver for any position. After the test, waits for the threads and ends the processes of its calls."""
+    """A Solver for any position. After the test, waits for the threads of its calls."""
     pytest.importorskip("numpy")
     gc.collect()  # of earlier tests' threads: it calls Python code, in which the exception of a handler gets lost
     yield Solver(max_empties=60)
     for thread in threading.enumerate():
         if thread.name == "ffosolve":
             thread.join(10)
-    _processes.end_idle()
 
 
 def state(task):
@@ -58,10 +57,6 @@ def children():
     """Returns the process IDs of this process's children that have not ended."""
     found = (child.pid for child in psutil.Process().children())
     return sorted(child for child in found if state(child) != psutil.STATUS_ZOMBIE)
-
-
-def kept():
-    return sorted(idle.process.pid for idle in _processes.IDLE)
 
 
 def working():
@@ -94,10 +89,10 @@ def wait_until(holds, *why, most=LATE):
 
 
 def assert_no_processor_works():
-    """Asserts that, after processors have worked for a second at most, none works for this process, and only kept
-    processes are left. On a busy machine that may come late, since even a killed process ends on a processor."""
-    wait_until(lambda: not any(working() or children() != kept() or time.sleep(0.01) for _ in range(5)),
-               working, children, kept, most=1)
+    """Asserts that, after processors have worked for a second at most, none works for this process, and no process is
+    left. On a busy machine that may come late, since even a killed process ends on a processor."""
+    wait_until(lambda: not any(working() or children() or time.sleep(0.01) for _ in range(5)), working, children,
+               most=1)
 
 
 def by_timeout(call):
@@ -183,7 +178,7 @@ def by_asyncio(call, end=waited_for, to_thread=ffosolve.to_thread):
 def test_a_call_that_is_left_ends_at_once_and_stops(name, threads, leave, solver):
     begun, before = time.monotonic(), worked()
     leave(lambda **how: find(name, threads, solver, [EASY, HOPELESS, HOPELESS], **how))
-    assert worked() - before < 2.3 * (threads or 1)  # the clock would also count what other programs do
+    assert worked() - before < 2.3 * threads  # the clock would also count what other programs do
     assert 0.3 <= time.monotonic() - begun < LATE / 2
     assert_no_processor_works()
 
@@ -233,12 +228,22 @@ def test_a_failed_task_of_a_group_ends_the_calls_of_the_others(solver):
     assert_no_processor_works()
 
 
-@pytest.mark.parametrize("count, empties, is_brief", [
-    (1, 14, True), (1, 15, False), (2, 14, False), (16, 12, True), (17, 12, False), (4096, 8, True), (4097, 2, False)])
-def test_only_a_brief_call_is_made_without_another_process(count, empties, is_brief, solver):
-    discs = 2**(64 - empties) - 1
+@pytest.fixture
+def started(monkeypatch):
+    """A stand-in for SearchProcess that counts its calls."""
+    monkeypatch.setattr(_processes, "SearchProcess", mock.Mock(wraps=_processes.SearchProcess))
+    return _processes.SearchProcess
+
+
+@pytest.mark.parametrize("count, empties, calls", [
+    (1, 14, 1), (1, 15, 0), (2, 14, 2), (16, 12, 1), (17, 12, 2), (4096, 8, 16), (4097, 2, 17)])
+def test_only_brief_calls_are_made_without_another_process(count, empties, calls, solver, started, monkeypatch):
+    """Each call is for as many positions as can be: so many `calls`, or otherwise a process."""
+    made, discs = mock.Mock(wraps=_processes.search), 2**(64 - empties) - 1
+    monkeypatch.setattr(_processes, "search", made)
     solver.solve_all([Position(discs & 0x5555555555555555, discs & 0xAAAAAAAAAAAAAAAA)] * count)
-    assert len(kept()) == (0 if is_brief else 1)
+    assert (made.call_count, started.call_count) == (calls, 0 if calls else 1)
+    assert all(_processes.is_brief(len(call.args[4]), empties) for call in made.call_args_list)
 
 
 @on_threads
@@ -293,84 +298,72 @@ def test_a_wrong_timeout_is_refused(name, threads, solver):
 @pytest.mark.parametrize("scoring", ffosolve.Scoring)
 @pytest.mark.parametrize("how", [{}, {"timeout": 100}], ids=["", "timeout"])
 def test_another_process_finds_what_this_one_finds_and_a_timeout_that_is_not_reached_changes_nothing(
-        how, scoring, monkeypatch):
+        how, scoring, started, monkeypatch):
     def found(**how):
         return [str(find(*call, Solver(scoring=scoring), positions, **how))
                 for call in CALLS for positions in ([EASY, HARD, HARD], [HARD, EASY])]
 
     of_others = found(**how)
-    assert kept()
+    assert started.call_count > len(CALLS)
     monkeypatch.setattr(_processes, "is_brief", lambda *_: True)
     assert found() == of_others
 
 
-STAND_IN = """if True:
-    import sys
-    sys.path.insert(0, {folder!r})
-    import _library
-
-    def search(place, name, scoring, entries, positions, found):
-        asked = [(it.own, it.opp) for it in positions]
-        print(place, name, scoring, entries, asked, bytes(found).hex(), file=open({log!r}, "a"))
-        for number, it in enumerate(found):
-            if name.startswith("ffosolve_move"):
-                it.scores = (number, number, *[127] * 62)
-            else:
-                it.score, it.kind, it.best = number, 1, entries
-        return 7 if entries == 77 else 0
-
-    _library.declared, _library.search = str, search
-    _library.serve()
+STAND_IN = """#!{python}
+import os, sys
+name, words = os.path.basename(sys.argv[0]), sys.argv[1:]
+if words == ["--version"]:
+    sys.exit(print(name, "{version}"))
+book, lines = open(words.pop()).read() if "--book-in" in words else "", sys.stdin.read()
+print([name, *words, book, lines], file=open("{log}", "a"))
+if "--table=77" in words:
+    sys.exit(name + ": out of memory")
+print(end="[1]\\n" * (name == "ffosolve"))
+for number, line in enumerate(lines.splitlines()):
+    print(*[line, f"B1:{{number:+03}}; A1:-64;"] if name == "ffoscores" else [1, f"{{number:+03}}", "B1,H8 unlisted"])
 """
 
 
-def test_another_process_gets_each_argument_and_returns_each_status(tmp_path, monkeypatch):
-    """A stand-in for the call of the library notes its arguments, finds the index of a position, and refuses 77
-    entries."""
-    log, folder = str(tmp_path / "log"), os.path.dirname(_library.__file__)
-    (tmp_path / "it.py").write_text(STAND_IN.format(folder=folder, log=log))
-    monkeypatch.setattr(_library, "__file__", str(tmp_path / "it.py"))
-    solver, both = Solver(scoring=2, entries=5, max_empties=60), [Position(2**63 + 9, 6), Position(12, 3)]
-    assert solver.confirm(both[0], Answer(-30, Kind.PASS, 2**62)) == Answer(0, Kind.PASS, 5)
-    assert solver.solve_all(both) == [Answer(0, Kind.PASS, 5), Answer(1, Kind.PASS, 5)]
-    assert solver.move_scores_all(both) == [{"A1": 0, "B1": 0}, {"A1": 1, "B1": 1}]
-    asked, zeros, claim = list(map(tuple, both)), bytes(144).hex(), struct.pack("iiQ", -30, 1, 2**62).hex()
-    with open(log) as noted:
-        assert noted.read().splitlines() == [
-            f"{_library.library_path(solver._library)} {words}" for words in (
-                f"ffosolve_confirm 2 5 {asked[:1]} {claim}", f"ffosolve_solve_all 2 5 {asked} {zeros[:64]}",
-                f"ffosolve_move_scores_all 2 5 {asked} {zeros}")]
-    assert len(kept()) == 1
+def with_programs(folder, version):
+    """Returns the path of a copy of the library, in `lib`, beside which `bin` has stand-ins of a version for both
+    programs. They write what they are asked to the file `log`, find the index of each position, and refuse 77 entries.
+    """
+    for name in ("bin/ffosolve", "bin/ffoscores", "lib/it.so"):
+        (folder / name).parent.mkdir(exist_ok=True)
+        (folder / name).write_text(STAND_IN.format(python=sys.executable, version=version, log=folder / "log"))
+        (folder / name).chmod(0o755)
+    return shutil.copy(Solver()._library._name, folder / "lib/it.so")
+
+
+def test_another_process_gets_each_argument_and_returns_each_status(tmp_path):
+    library = with_programs(tmp_path, Solver().library_version)
+    solver, both = Solver(library, scoring=2, entries=5, max_empties=60), [Position(2**63 + 9, 6), Position(12, 3)]
+    lines = [position.to_obf("X") + "\n" for position in both]
+    assert solver.confirm(both[0], Answer(-30, Kind.PASS, 2**62), threads=3) == Answer(0, Kind.MOVES, 2**63 + 2)
+    assert solver.confirm(both[0], Answer(65, Kind.PASS, 0)) == Answer(0, Kind.MOVES, 2**63 + 2)
+    assert [answer.score for answer in solver.solve_all(both, threads=99)] == [0, 1]
+    assert [answer.score for answer in solver.solve_iter(both)] == [0, 0]  # of a program for each
+    assert solver.move_scores_all(both, threads=2) == [{"A1": -64, "B1": 0}, {"A1": -64, "B1": 1}]
+    asked = [eval(line) for line in (tmp_path / "log").read_text().splitlines()]
+    book = f"% ffobook 2 sign\n{both[0].canonical().to_obf()} PS:-30;\n"
+    options = ["--table=5", "--scoring=sign", "--max-empties=60"]
+    assert asked == [
+        ["ffosolve", "--workers=2", *options, "--book-in", book, lines[0]],
+        ["ffosolve", "--workers=0", *options, "", lines[0]], ["ffosolve", "--workers=64", *options, "", "".join(lines)],
+        *(["ffosolve", "--workers=0", *options, "", line] for line in lines),
+        ["ffoscores", "--workers=1", *options, "", "".join(lines)]]
     for name, threads in CALLS:
         with pytest.raises(ffosolve.NoMemory):
-            find(name, threads, Solver(entries=77, max_empties=60), both)
+            find(name, threads, Solver(library, entries=77, max_empties=60), both)
 
 
-def test_another_process_finds_the_library_that_this_one_found_by_its_name(solver, monkeypatch):
-    """Since it is loaded, the system's loader finds it by name wherever it is."""
+def test_a_program_is_found_beside_a_library_that_is_found_by_its_name_or_on_the_path(solver, tmp_path, monkeypatch):
+    """Since the library is loaded, the system's loader finds it by name wherever it is."""
+    library = with_programs(tmp_path, solver.library_version)
     monkeypatch.setenv("FFOSOLVE_LIBRARY", _library.FILE_NAME)
-    assert Solver().solve(HARD) == solver.solve(HARD)
-
-
-def test_processes_are_kept_and_used_again(solver):
-    for _ in range(3):
-        solver.solve(HARD)
-        solver.move_scores(HARD)
-    (process,) = kept()
-    assert psutil.Process(process).cwd() == "/"  # so that any other file system can be unmounted
-    solver.solve_all([HARD] * 12, threads=3)
-    assert process in kept() and 2 <= len(kept()) <= min(3, os.cpu_count())
-    solver.solve_all([HARD] * 9, threads=9)
-    assert len(kept()) <= os.cpu_count()
-    assert children() == kept()
-
-
-def test_a_process_that_another_thread_takes_meanwhile_is_replaced(solver, monkeypatch):
-    """The list of kept processes is empty, but has one when it is asked whether it is."""
-    wanted = solver.solve(HARD)
-    monkeypatch.setattr(_processes, "IDLE", type("Taken", (list,), {"__bool__": lambda _: True})())
-    assert solver.solve(HARD) == wanted
-    _processes.end_idle()
+    monkeypatch.setenv("PATH", str(shutil.move(tmp_path / "bin", tmp_path / "elsewhere")))
+    assert Solver().solve(HARD, timeout=LATE) == solver.solve(HARD)
+    assert Solver(library).solve(HARD, timeout=LATE) == Answer(0, Kind.MOVES, 2**63 + 2)
 
 
 def test_calls_of_several_threads_do_not_stop_each_other(solver):
@@ -386,7 +379,7 @@ def test_calls_of_several_threads_do_not_stop_each_other(solver):
     assert found == [[solver.solve(HARD)] * 4] * 3
 
 
-@pytest.mark.parametrize("name, threads, number", [*((*call, 9) for call in CALLS), ("solve", None, 15)])
+@pytest.mark.parametrize("name, threads, number", [*((*call, 9) for call in CALLS), ("solve", 1, 15)])
 def test_an_ended_process_is_reported_and_the_next_call_starts_another(name, threads, number, solver):
     is_over = threading.Event()
 
@@ -404,45 +397,73 @@ def test_an_ended_process_is_reported_and_the_next_call_starts_another(name, thr
     finally:
         is_over.set()
         killer.join()
-    wanted, (process,) = solver.solve(HARD), kept()
-    os.kill(process, signal.SIGKILL)
-    os.waitid(os.P_PID, process, os.WEXITED | os.WNOWAIT)  # until it has ended
-    assert solver.solve(HARD) == wanted
-    wait_until(lambda: children() == kept(), children, kept)
+    assert Solver().solve(HARD) == Solver(entries=0).solve(HARD)
 
 
-def test_left_calls_keep_no_descriptors_and_no_dead_processes(solver):
+@each_call
+def test_left_calls_end_in_time_and_keep_no_descriptors_no_dead_processes_and_no_memory(name, threads, solver):
+    """Some of these calls end in time even on a busy machine."""
     def all_kept():
         return psutil.Process().num_fds(), len(psutil.Process().children())
 
-    before = all_kept()
+    before, seconds, memory = all_kept(), [], []
+    tracemalloc.start()
     for _ in range(20):
+        begun = time.monotonic()
         with pytest.raises(TimeoutError):
-            solver.solve_all([HOPELESS] * 2, threads=2, timeout=0.01)
+            find(name, threads, solver, [HOPELESS], timeout=0.05)
+        seconds.append(time.monotonic() - begun)
+        gc.collect()
+        memory.append(tracemalloc.get_traced_memory()[0])
+    tracemalloc.stop()
     wait_until(lambda: all_kept() == before, all_kept)
+    assert (min(seconds) < 0.19, min(memory[15:]) - min(memory[5:10]) < 5000) == (True, True), (seconds, memory)
 
 
 def test_a_forked_process_has_processes_of_its_own(solver):
     wanted = solver.solve(HARD)
-    (process,) = kept()
-    forked = os.fork()
-    if not forked:
-        status = 1
-        with contextlib.suppress(BaseException):
-            status = 0 if not kept() and solver.solve(HARD) == wanted and process not in children() else 2
-        os._exit(status)
-    assert os.waitpid(forked, 0)[1] == 0
-    assert (solver.solve(HARD), kept()) == (wanted, [process])
+    with timer(0, pytest.raises, ChildProcessError, solver.solve, HOPELESS):
+        wait_until(lambda: _processes.PROCESSES)
+        (process,) = children()
+        forked = os.fork()
+        if not forked:
+            status = 1
+            with contextlib.suppress(BaseException):
+                status = 0 if not _processes.PROCESSES and solver.solve(HARD) == wanted else 2
+            os._exit(status)
+        assert os.waitpid(forked, 0)[1] == 0
+        assert (solver.solve(HARD), children()) == (wanted, [process])
+        os.kill(process, signal.SIGKILL)
 
 
-@pytest.mark.parametrize("name, value", [("executable", ""), ("executable", "/nowhere/python"), ("frozen", True)])
-def test_without_a_path_of_python_a_call_is_made_but_has_no_timeout(name, value, solver, monkeypatch):
-    wanted = solver.solve(HARD)
-    _processes.end_idle()
-    monkeypatch.setattr(sys, name, value, raising=False)
-    assert (solver.solve(HARD), children()) == (wanted, [])
-    with pytest.raises(FileNotFoundError, match=f"^no process can be started: |'{value}'$"):
-        solver.solve(HARD, timeout=100)
+def test_processes_that_are_forked_while_programs_start_do_not_keep_calls_from_ending(solver):
+    found, forked, end = [], [], time.monotonic() + LATE / 3
+    threads = [threading.Thread(target=lambda: found.extend(solver.solve_iter([HARD] * 20))) for _ in range(3)]
+    for thread in threads:
+        thread.start()
+    while any(thread.is_alive() for thread in threads) and time.monotonic() < end:
+        if len(forked) < 50:
+            forked.append(os.fork() or (time.sleep(600), os._exit(0)))
+        time.sleep(0.01)
+    ended_in_time = len(found)
+    for child in forked:
+        os.kill(child, signal.SIGKILL)
+        os.waitpid(child, 0)
+    assert (ended_in_time, found) == (60, [solver.solve(HARD)] * 60)
+
+
+@pytest.mark.parametrize("version", [None, "9.9.9"])
+def test_without_a_program_of_its_version_a_call_is_made_but_has_no_timeout(version, tmp_path, solver, monkeypatch):
+    library, path = with_programs(tmp_path, version), str(tmp_path / "bin") if version else ""
+    monkeypatch.setenv("PATH", path)
+    if not version:
+        shutil.rmtree(tmp_path / "bin")
+    alone = Solver(library)
+    assert [alone.solve(HARD), *alone.solve_all([HARD] * 2, threads=2)] == [solver.solve(HARD)] * 3
+    wanted = f"ffosolve {alone.library_version} is neither beside {tmp_path}/lib nor on the path"
+    with pytest.raises(FileNotFoundError, match=f"^no process can be started: {wanted}$"):
+        alone.solve(HARD, timeout=100)
+    assert not (tmp_path / "log").exists()
 
 
 def test_a_best_line_claims_the_score_that_is_known_and_has_one_timeout(monkeypatch):
@@ -454,7 +475,7 @@ def test_a_best_line_claims_the_score_that_is_known_and_has_one_timeout(monkeypa
     solver._library.ffosolve_confirm.side_effect = lambda *words: (claims.append(words[3].score), mock.DEFAULT)[1]
     assert solver.best_line(EASY, timeout=LATE) == [("H1", 62), ("PS", -62), ("A1", 62)]
     assert claims == [-62, 62, -62]
-    assert [call.args[1:] for call in calls.call_args_list] == [(LATE,)]
+    assert [call.args[1:] for call in calls.call_args_list] == [(LATE, 1)]
 
 
 PROGRAM = f"""if True:
@@ -480,7 +501,7 @@ def ran(code, packages=PACKAGES, **how):
 
 
 @pytest.mark.parametrize("code", [
-    "    solver.solve(hard); show()", "    begin()", "    begin(); os._exit(0)", "    begin(); sys.exit('failed')",
+    "    begin()", "    begin(); os._exit(0)", "    begin(); sys.exit('failed')",
     "    begin(); os.kill(os.getpid(), signal.SIGKILL)"])
 def test_the_processes_end_with_the_program(code):
     (process,) = map(int, ran(code).stdout.split())
@@ -508,14 +529,6 @@ def test_a_forked_process_does_not_keep_the_calls_of_its_killed_parent():
 def test_a_program_ends_with_an_iterator_half_way():
     found = ran("    answers = solver.solve_iter(iter(lambda: hard, None), threads=2); print(next(answers))")
     assert (found.returncode, found.stdout) == (0, f"{Solver().solve(HARD)}\n")
-
-
-def test_a_package_in_a_zip_makes_calls_but_has_no_timeout(tmp_path, monkeypatch):
-    packages = shutil.make_archive(str(tmp_path / "it"), "zip", PACKAGES, "ffosolve")
-    monkeypatch.setenv("FFOSOLVE_LIBRARY", _library.library_path(Solver()._library))
-    found = ran("    print(solver.solve(hard)); solver.solve(hard, timeout=60)", packages)
-    assert (found.returncode, found.stdout) == (1, f"{Solver().solve(HARD)}\n")
-    assert found.stderr.splitlines()[-1].startswith("FileNotFoundError: no process can be started: ")
 
 
 def test_an_object_that_is_deleted_while_python_ends_may_call_without_a_timeout():

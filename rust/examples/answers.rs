@@ -34,7 +34,7 @@ fn play_on(mut position: Position) -> Result<(), Box<dyn Error>> {
             println!("PS");
             position = position.passed();
         }
-        let square = Solver::new().solve(position)?.squares().next().ok_or("no best move")?;
+        let square = Solver::new().solve(position)?.squares().into_iter().next().ok_or("no best move")?;
         println!("{square} of {}", position.moves());
         position = position.play(square)?;
     }

@@ -98,8 +98,7 @@ pub struct Solver {
 }
 
 /// A call of the library for many positions, which writes an `R` for each.
-type CallForAll<R> =
-    unsafe extern "C" fn(*const raw::Position, usize, u32, usize, *mut R, usize, *mut usize) -> i32;
+type CallForAll<R> = unsafe extern "C" fn(*const raw::Position, usize, u32, usize, *mut R, usize, *mut usize) -> i32;
 
 impl Solver {
     /// A solver under `Scoring::Winner` for positions with up to `DEFAULT_EMPTIES` empty squares. It chooses the size
@@ -165,7 +164,8 @@ impl Solver {
     pub fn move_scores_all(&self, positions: &[Position]) -> Result<Vec<Vec<(Square, i8)>>, Error> {
         let unset = raw::MoveScores { scores: [0; 64], moves: 0 };
         let read = |found: raw::MoveScores| {
-            Squares(found.moves).map(|square| (square, found.scores[usize::from(square.number())])).collect()
+            let scored = |square: Square| (square, found.scores[usize::from(square.number())]);
+            Squares(found.moves).into_iter().map(scored).collect()
         };
         self.call_all(raw::ffosolve_move_scores_all, unset, read, positions)
     }
@@ -185,7 +185,8 @@ impl Solver {
     fn call_all<R: Copy + Send, A>(
         &self, call: CallForAll<R>, unset: R, read: fn(R) -> A, positions: &[Position],
     ) -> Result<Vec<A>, Error> {
-        self.entries_for(positions)?; // before any position is solved
+        // Refuses a position before any is solved.
+        self.entries_for(positions)?;
         // With threads, a part ends with the position that makes it last some hundredths of a second, or longer.
         let mut weight = 0; // doubles with each empty square from 8 to 16
         let ends_part = |position: &Position| {
@@ -213,7 +214,7 @@ impl Solver {
         };
         thread::scope(|scope| {
             let start = |_| thread::Builder::new().spawn_scoped(scope, work).ok(); // the caller works in any case
-            let started: Vec<_> = (1..threads).map_while(start).collect();
+            let started = Vec::from_iter((1..threads).map_while(start)); // all before any is joined
             let join = |thread: ScopedJoinHandle<_>| thread.join().expect("a thread that solves does not panic");
             started.into_iter().map(join).fold(work(), Result::and)
         })?;

@@ -28,7 +28,7 @@ impl Square {
     /// The square to which a symmetry sends this one.
     #[must_use]
     pub fn image(self, symmetry: Symmetry) -> Square {
-        Squares(self.bit()).image(symmetry).next().unwrap_or(self)
+        Squares(self.bit()).image(symmetry).into_iter().next().unwrap_or(self)
     }
 }
 
@@ -67,7 +67,7 @@ impl std::str::FromStr for Square {
     }
 }
 
-/// A set of squares. It is an iterator over them, in the order of their numbers, and prints as `A1,H1`.
+/// A set of squares. `into_iter()` yields them in the order of their numbers, and the set prints as `A1,H1`.
 #[derive(Clone, Copy, PartialEq, Eq, Hash, Default)]
 pub struct Squares(pub u64);
 
@@ -100,25 +100,39 @@ impl Squares {
     }
 }
 
-impl Iterator for Squares {
+impl IntoIterator for Squares {
+    type Item = Square;
+    type IntoIter = IntoIter;
+
+    fn into_iter(self) -> IntoIter {
+        IntoIter(self)
+    }
+}
+
+/// An iterator over the squares of a set.
+#[derive(Clone, Debug)]
+pub struct IntoIter(Squares);
+
+impl Iterator for IntoIter {
     type Item = Square;
 
     fn next(&mut self) -> Option<Square> {
-        let square = Square::new(self.0.trailing_zeros() as u8)?;
-        self.0 &= self.0 - 1;
+        let mask = &mut self.0 .0;
+        let square = Square::new(mask.trailing_zeros() as u8)?;
+        *mask &= *mask - 1;
         Some(square)
     }
 
     fn size_hint(&self) -> (usize, Option<usize>) {
-        (self.0.count_ones() as usize, Some(self.0.count_ones() as usize))
+        (self.0.len(), Some(self.0.len()))
     }
 }
 
-impl ExactSizeIterator for Squares {}
+impl ExactSizeIterator for IntoIter {}
 
 impl fmt::Display for Squares {
     fn fmt(&self, f: &mut fmt::Formatter<'_>) -> fmt::Result {
-        let names: Vec<String> = self.map(|square| square.to_string()).collect();
+        let names: Vec<String> = self.into_iter().map(|square| square.to_string()).collect();
         f.write_str(&names.join(","))
     }
 }

@@ -85,7 +85,7 @@ fn words_of(transcript: &str) -> Vec<String> {
     let text = text.trim_end_matches(is_separator);
     let result = text.rsplit(is_separator).next().filter(|last| is_result(last));
     let (mut words, mut rest, mut is_apart) = (Vec::new(), text, true);
-    while !rest.is_empty() && !(is_apart && Some(rest) == result) {
+    while !(rest.is_empty() || is_apart && Some(rest) == result) {
         let (length, is_word) = token(rest, is_apart);
         let (word, after) = rest.split_at(length);
         if is_word {

@@ -62,7 +62,7 @@ fn first_game() -> (Vec<Position>, Vec<String>) {
             at = at.passed();
             moves.push("--".to_owned());
         }
-        let square = at.moves().next().expect("a move");
+        let square = at.moves().into_iter().next().expect("a move");
         at = at.play(square).expect("a legal move");
         moves.push(square.to_string());
         positions.push(at);
@@ -104,8 +104,14 @@ fn transcripts_are_played() {
     let number = |at| format!("{}{}", at + 1, [".", ")", ":"][at % 3]);
     let numbered: String = moves.iter().enumerate().map(|(at, word)| format!("{} {word},", number(at))).collect();
     let glued = numbered.replace([' ', ','], "");
-    let texts = [moves.join(" "), without_passes.to_lowercase(), moves.join("-"), numbered + "33-31 % f5",
-        format!("[Event \"f5\"] [Black \"Ann\"]\n{glued} (40:24)"), glued.replace("--", "pass") + "---PA"];
+    let texts = [
+        moves.join(" "),
+        without_passes.to_lowercase(),
+        moves.join("-"),
+        numbered + "33-31 % f5",
+        format!("[Event \"f5\"] [Black \"Ann\"]\n{glued} (40:24)"),
+        glued.replace("--", "pass") + "---PA",
+    ];
     for text in texts {
         assert_eq!(start.positions(&text).as_ref(), Ok(&positions), "{text}");
         assert_eq!(start.play_all(&text), Ok(last));
@@ -122,8 +128,15 @@ fn transcripts_are_played() {
 #[test]
 fn the_first_word_of_a_transcript_that_is_no_legal_move_is_refused() {
     for (text, number, word) in [
-        ("f5d6d6", 3, "d6"), ("f5 pass", 2, "pass"), ("e3", 1, "e3"), ("F5z9d6", 2, "z9"), ("f5 d", 2, "d"),
-        ("f5 12 +2 d6", 2, "+2"), ("f5 ++", 2, "++"), ("f5d6c33d3", 4, "3d"), ("f5 [d6] c3", 2, "[d"),
+        ("f5d6d6", 3, "d6"),
+        ("f5 pass", 2, "pass"),
+        ("e3", 1, "e3"),
+        ("F5z9d6", 2, "z9"),
+        ("f5 d", 2, "d"),
+        ("f5 12 +2 d6", 2, "+2"),
+        ("f5 ++", 2, "++"),
+        ("f5d6c33d3", 4, "3d"),
+        ("f5 [d6] c3", 2, "[d"),
         ("f5\u{e4}\u{f6}", 2, "\u{e4}\u{f6}"),
     ] {
         let error = Position::start().play_all(text).expect_err(text);
@@ -206,7 +219,7 @@ fn positions_have_discs_and_sets_have_squares() {
     }
     for (mask, len, text) in [(0x81, 2, "A1,H1"), (2, 1, "B1"), (0, 0, "")] {
         let set = Squares(mask);
-        assert_eq!((set.mask(), set.len(), set.size_hint(), set.is_empty()), (mask, len, (len, Some(len)), len == 0));
+        assert_eq!((set.mask(), set.len(), set.into_iter().len(), set.is_empty()), (mask, len, len, len == 0));
         assert_eq!((set.to_string(), format!("{set:?}")), (text.to_owned(), format!("Squares({text})")));
         assert!((0..64).filter_map(Square::new).filter(|each| set.contains(*each)).eq(set));
     }

@@ -35,20 +35,25 @@ the scores of an evaluation with exact ones. With NumPy, `solver.solve_arrays(*m
 A notebook shows a position as a picture. `position.show(solver.move_scores(position))` adds the scores of its moves;
 `position.show().save("board.svg")` writes the picture to a file.
 
-A call stops at once if it is interrupted: by Ctrl-C, or another signal whose handler raises an exception; after
-`timeout=SECONDS` (TimeoutError); if its iterator is closed; or if asyncio cancels the task that awaits
+These calls take `threads=N` and `timeout=SECONDS`: `compare_scores`, and of a Solver `solve`, `confirm`, `best_line`,
+`move_scores`, `scored_line`, and those whose names end with `_all`, `_iter` or `_arrays`. Threads solve several
+positions at once and, except for an iterator, a position with at least 16 empty squares together.
+
+A call stops at once if it is interrupted: by Ctrl-C, or another signal whose handler raises an exception; after its
+`timeout` (TimeoutError); if its iterator is closed; or if asyncio cancels the task that awaits
 `ffosolve.to_thread(solver.solve, position)`. What awaits `asyncio.to_thread` or another pool of threads can be
 cancelled, too, but the call goes on in its thread until its `timeout`, and `asyncio.run` waits for it.
 
-Calls are made by processes of their own, which can be stopped and end with the program. If somebody else ends such a
-process, its call raises ChildProcessError. If none can be started, as while Python is ending, in a frozen program or
-with this package in a zip, a call with a `timeout` raises OSError, and one without is made in this process. A brief
-call, for one position with at most 14 empty squares or 4,096 with at most 8, is made in this process anyway: it ends as
-usual, within half a second, even after its `timeout`. Several threads may call at once, and so may the processes of a
-pool, since a Solver can be pickled.
+Positions with more than 14 empty squares are solved by the programs `ffosolve` and `ffoscores`, which end when their
+call stops, or with this program. They are those in the wheel, beside the library (`lib` and `bin`) or on the path, if
+they have the library's version. If somebody else ends one, its call raises ChildProcessError. If there is none, or
+while Python is ending, a call with a `timeout` raises OSError, and one without is made in this process. Positions with
+fewer empty squares are solved in this process anyway, some at a time: their call ends within half a second after its
+`timeout`. Several threads may call at once, and so may the processes of a pool, since a Solver can be pickled.
 
-The wheel that `make wheel` builds contains the shared library. Without that wheel, install the library, or name its
-path: `Solver("FOLDER/libffosolve.so")` or FFOSOLVE_LIBRARY. Reading, writing and showing positions needs no library.
+The wheel that `make wheel` builds contains the shared library and the programs. Without that wheel, install ffosolve,
+or name the library: `Solver("FOLDER/libffosolve.so")` or FFOSOLVE_LIBRARY. Reading, writing and showing positions needs
+no library.
 
 The classes and functions have a help of their own, such as `help(ffosolve.Position)`:
 
@@ -66,14 +71,14 @@ from ._answers import Answer, Kind, Scoring
 from ._arrays import masks_of, positions_from
 from ._boards import Board
 from ._games import Game, GameRefused, read_games
-from ._library import MOST_EMPTIES, MOST_ENTRIES, LibraryNotFound
+from ._library import MOST_EMPTIES, MOST_ENTRIES, NO_SCORE, LibraryNotFound
 from ._lists import parse_lines, read_lines
 from ._positions import START, Discs, Position
 from ._refusals import (
     BadSide, BadSquare, LineRefused, NoMemory, NoMove, NoPosition, OtherRefusal, Refused, SharedSquare, ShortBoard,
     Status, TooManyEmpties, TooManyEntries, UnequalLengths, UnknownScoring, UnknownSymmetry)
 from ._score_comparison import ScoreComparison, WrongScore, compare_scores
-from ._solvers import NO_SCORE, Solver, table_entries
+from ._solvers import Solver, table_entries
 from ._squares import square_name, square_number, square_names
 from ._symmetries import Symmetry
 from ._tasks import to_thread

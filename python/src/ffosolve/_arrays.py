@@ -1,10 +1,10 @@
 """Positions and answers in arrays. Only the calls for arrays need NumPy, so each imports it itself."""
-from typing import Any, Callable, Iterable, List, NamedTuple, Tuple
+from typing import Any, Iterable, Iterator, List, NamedTuple, Tuple
 
-from ._bulk import MOST_WEIGHT, in_order
+from ._bulk import Batch, slices_of
 from ._library import CPosition
 from ._positions import Position
-from ._processes import LIGHTEST, SolverCall
+from ._processes import SolverCall
 from ._rules import c_positions, checked_position, checked_positions, masks_and_empties
 
 
@@ -51,10 +51,9 @@ def rows_of(own: Any, opp: Any) -> Any:
     return numpy.stack((own, opp), axis=1)
 
 
-def slices_of(rows: Any, max_empties: int, threads: int) -> List[Tuple[slice, int]]:
-    """Cuts the `rows_of` arrays into slices; if `threads` is 1, into one. Returns each with the greatest number of
-    empty squares in its positions. Raises SharedSquare, or TooManyEmpties for more than `max_empties`, for the first
-    refused position."""
+def batches_in(rows: Any, max_empties: int, call: SolverCall) -> Iterator[Batch]:
+    """Yields Batches of the `rows_of` arrays. Raises SharedSquare, or TooManyEmpties for more than `max_empties`, for
+    the first refused position."""
     import numpy
 
     own, opp = rows[:, 0], rows[:, 1]
@@ -62,27 +61,13 @@ def slices_of(rows: Any, max_empties: int, threads: int) -> List[Tuple[slice, in
     empties = 64 - sizes[(own | opp).view(numpy.uint8)].reshape(-1, 8).sum(axis=1, dtype=numpy.int64)
     for index in numpy.flatnonzero((own & opp != 0) | (empties > max_empties)).tolist():
         checked_position(rows[index].tolist(), max_empties, index)
-    weights = numpy.left_shift(1, numpy.clip(empties - LIGHTEST, 0, None)) * (threads > 1)
-    ends = numpy.flatnonzero(numpy.diff(weights.cumsum() // MOST_WEIGHT)) + 1
-    bounds = [0, *ends.tolist(), len(rows)]
-    slices = [slice(start, end) for start, end in zip(bounds, bounds[1:]) if start < end]
-    return [(it, int(empties[it].max())) for it in slices]
+    for at, most in slices_of(empties.tolist(), call, True):
+        yield Batch((CPosition * len(rows[at])).from_buffer(rows[at]), most)
 
 
-def found_by(search: Callable[[Any, Any, int], None], call: SolverCall, record: Any, rows: Any, max_empties: int,
-             threads: int) -> List[Any]:
-    """Solves the positions in `rows`, as `rows_of` returns them, by `search`: it takes arrays of CPositions and of
-    records (C structures), and the greatest number of empty squares, and writes what it finds to the records. Returns
-    an array for each member of `record`. Raises what `slices_of` and `in_order` raise."""
+def columns_of(record: Any, parts: Iterable[Any]) -> List[Any]:
+    """Joins ctypes arrays of `record`, a C structure, and returns an array for each of its members."""
     import numpy
 
-    found: Any = numpy.empty(len(rows), record)
-
-    def solve(part: Tuple[slice, int]) -> Tuple[()]:
-        at, empties = part
-        count = len(rows[at])
-        search((CPosition * count).from_buffer(rows[at]), (record * count).from_buffer(found[at]), empties)
-        return ()  # the results are in `found`
-
-    list(in_order(call, solve, slices_of(rows, max_empties, threads), threads))
+    found: Any = numpy.frombuffer(bytearray().join(map(bytes, parts)), record)
     return [numpy.ascontiguousarray(found[field]) for field, _ in record._fields_]

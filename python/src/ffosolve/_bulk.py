@@ -5,11 +5,11 @@ import sys
 import threading
 import time
 from collections import deque
-from typing import Any, Callable, Deque, Iterable, Iterator, List, NamedTuple, TypeVar, Union
+from typing import Any, Callable, Deque, Iterable, Iterator, List, NamedTuple, Tuple, TypeVar, Union
 
-from ._processes import LIGHTEST, SolverCall
+from ._processes import LIGHTEST, SolverCall, is_brief
 from ._refusals import Refused
-from ._rules import checked_position, checked_positions
+from ._rules import c_positions, checked_position, checked_positions
 
 A = TypeVar("A")
 B = TypeVar("B")
@@ -17,41 +17,64 @@ B = TypeVar("B")
 # Positions of this weight together are solved in some hundredths of a second. A position with up to 8 empty squares
 # weighs 1, and each further empty square doubles the weight, so one with 16 is heavy enough for a batch of its own.
 MOST_WEIGHT = 256
-MOST_SECONDS = 0.01  # a batch ends with the first position that comes later than this after its start
+MOST_IN_LIST = 15_000  # of a program's list, which has at most 1 MiB
+MOST_SECONDS = 0.01  # for so long, positions are read before the first ones are solved
 BATCHES_AHEAD = 32  # batches that are read ahead for each thread, so that a slow one does not hold up the other threads
 
 
 class Batch(NamedTuple):
-    masks: List[int]  # the two masks of one position after those of another
-    empties: int  # the greatest number of empty squares in a position
+    positions: Any  # an array of CPositions
+    empties: int  # the greatest number of empty squares in one
 
 
 BatchOrRefusal = Union[Batch, Refused]
 
 
-def batches_of(positions: Iterable[Iterable[int]], max_empties: int, whole: bool = False
+def slices_of(empties: List[int], call: SolverCall, at_once: bool) -> Iterator[Tuple[slice, int]]:
+    """Cuts positions, given by their numbers of empty squares, into slices; yields each with its greatest number. The
+    call for a slice is brief, unless that for its first position alone is not: such a slice is for a program, which
+    gets all further positions if `at_once`."""
+    gets_all = at_once and not is_brief(1, max(empties, default=0)) and call.has_program()
+    start = greatest = weight = 0
+    for at, count in enumerate(empties):
+        more = 1 << max(0, count - LIGHTEST)
+        weight += more
+        fits = weight <= MOST_WEIGHT and is_brief(1, greatest) == is_brief(at + 1 - start, max(greatest, count))
+        if at > start and not (fits or gets_all and not is_brief(1, greatest) and at - start < MOST_IN_LIST):
+            yield slice(start, at), greatest
+            start, greatest, weight = at, 0, more
+        greatest = max(greatest, count)
+    if empties:
+        yield slice(start, len(empties)), greatest
+
+
+def batches_of(positions: Iterable[Iterable[int]], max_empties: int, call: SolverCall, at_once: bool
                ) -> Iterator[BatchOrRefusal]:
-    """Yields Batches of `positions`; if `whole`, one at most. At a refused position, yields the Batch that ends before
-    it, maybe empty, and last a Refused. Raises TypeError for what is no position, ValueError for most wrong masks."""
-    batch, most, weight, end = [], 0, 0, time.monotonic() + MOST_SECONDS  # type: ignore[var-annotated]
+    """Yields Batches of `positions`; reads all before if `at_once`. At a refused position, yields Batches of those
+    before it, and last a Refused. Raises TypeError for what is no position, ValueError for most wrong masks."""
+    masks: List[int] = []
+    empties: List[int] = []
+    refused: List[Refused] = []
+    weight, end = 0, time.monotonic() + MOST_SECONDS
+
+    def batches() -> Iterator[Batch]:
+        for at, most in slices_of(empties, call, at_once):
+            yield Batch(c_positions(masks[2 * at.start:2 * at.stop]), most)
+
     for index, position in enumerate(checked_positions(positions)):
         try:
-            own, opp, empties = checked_position(position, max_empties, index)
+            own, opp, count = checked_position(position, max_empties, index)
         except Refused as refusal:
-            yield Batch(batch, most)
-            yield refusal
-            return
-        more = 1 << max(0, empties - LIGHTEST)
-        if batch and weight + more > MOST_WEIGHT and not whole:
-            yield Batch(batch, most)
-            batch, most, weight = [], 0, 0
-        batch += own, opp
-        most, weight = max(most, empties), weight + more
-        if (weight >= MOST_WEIGHT or time.monotonic() > end) and not whole:
-            yield Batch(batch, most)
-            batch, most, weight, end = [], 0, 0, time.monotonic() + MOST_SECONDS
-    if batch:
-        yield Batch(batch, most)
+            refused.append(refusal)
+            break
+        masks += own, opp
+        empties.append(count)
+        weight += 1 << max(0, count - LIGHTEST)
+        if not at_once and (weight >= MOST_WEIGHT or time.monotonic() > end):
+            yield from batches()
+            masks, empties, weight, end = [], [], 0, time.monotonic() + MOST_SECONDS
+    yield from batches()
+    yield from refused
 
 
 def in_order(call: SolverCall, solve: Callable[[A], Iterable[B]], batches: Iterable[A], threads: int) -> Iterator[B]:

@@ -11,7 +11,7 @@ from ._positions import NO_SQUARE, START, Position, played
 from ._refusals import NoMove
 from ._squares import NAMES
 from ._text import NotText, ReadingWarning, refuse_archive, shown, text_lines
-from ._transcripts import PASSES, transcript_words
+from ._transcripts import PASSES, SPREAD, transcript_words
 
 PASS = 64  # instead of a square's number
 WORDS = {**{name.lower(): number for number, name in enumerate(NAMES)}, **dict.fromkeys(PASSES, PASS)}
@@ -67,7 +67,7 @@ class Game(NamedTuple):
         between them, and with or without move numbers. A pass may be left out, or written `pass`, `ps`, `pa` or `--`. A
         result at the end, such as `33-31` or, for an open one, `*`, is skipped, and so are headers in brackets before
         the moves and everything from `%` on. A game in GGF, `(;GM[Othello] .. ;)`, is read, too; one of another kind or
-        position gets a `fault`."""
+        position gets a `fault`, as does a game in SGF, or with marks such as `f5!`."""
         try:
             words = transcript_words(text)
         except ValueError as why:
@@ -144,6 +144,9 @@ def games_in(file: Any, name: str) -> Tuple[Iterator[Game], Optional[int]]:
     None for a text. Raises NotText; if the file is taken for a text, only while the games are iterated over."""
     refuse_archive(file.peek(4), name)
     if not name.lower().endswith(".wtb") and file.peek(1)[:1].strip(TEXT) == b"":
+        if SPREAD.search(file.peek(1)):
+            why = "a game is on several lines, as in a PGN or SGF file, but a text has one game in each line"
+            raise NotText(f"cannot read {name}: {why}")
         lines = enumerate(text_lines(file, name), 1)
         games = (Game.of_text(line.decode("utf-8", "replace"), number) for number, line in lines)
         return (game for game in games if game.moves or game.fault), None

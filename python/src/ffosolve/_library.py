@@ -1,19 +1,15 @@
-"""Finds the shared library, and declares its calls to ctypes, except for two that this package does not need.
-
-As a program, makes the calls that another process asks for (see `serve`), so it imports nothing of this package."""
-import contextlib
+"""Finds the shared library, and declares its calls to ctypes, except for two that this package does not need."""
 import ctypes
 import functools
 import os
-import select
 import sys
-import threading
 from typing import Any, List, Union
 
 FILE_NAME = "libffosolve.so.1"
 MAJOR = 1
 MOST_EMPTIES = 60
 MOST_ENTRIES = 4_194_304
+NO_SCORE = 127  # in an array of scores, for a square that is not a legal move
 _loaded: List[ctypes.CDLL] = []
 
 
@@ -91,16 +87,16 @@ def declared(place: str) -> ctypes.CDLL:
     return library
 
 
-class LinkMap(ctypes.Structure):  # see dlinfo(3)
-    _fields_ = [("address", ctypes.c_void_p), ("path", ctypes.c_char_p)]
+def folder_of(library: ctypes.CDLL) -> str:
+    """The folder of a loaded library, whose name may be one that the system's loader has found."""
+    folder = ctypes.create_string_buffer(4096)
+    ctypes.CDLL(None).dlinfo(ctypes.c_void_p(library._handle), 6, folder)  # RTLD_DI_ORIGIN in dlinfo(3)
+    return os.fsdecode(folder.value)
 
 
-def library_path(library: ctypes.CDLL) -> str:
-    """The path of a loaded library. Its name is not enough for another process: once a library is loaded, the system's
-    loader finds it by name wherever it is."""
-    found = ctypes.POINTER(LinkMap)()
-    ctypes.CDLL(None).dlinfo(ctypes.c_void_p(library._handle), 2, ctypes.byref(found))
-    return os.path.abspath(os.fsdecode(found.contents.path))
+def version_of(library: ctypes.CDLL) -> str:
+    number = library.ffosolve_version()
+    return f"{number // 10000}.{number // 100 % 100}.{number % 100}"
 
 
 def search(library: ctypes.CDLL, name: str, scoring: int, entries: int, positions: Any, found: Any) -> int:
@@ -110,30 +106,3 @@ def search(library: ctypes.CDLL, name: str, scoring: int, entries: int, position
         return int(library.ffosolve_confirm(positions[0], scoring, entries, found[0], found))
     call, count = getattr(library, name), len(positions)
     return int(call(positions, count, scoring, entries, found, count, ctypes.c_size_t()))
-
-
-def serve() -> None:
-    """Makes calls until the end of standard input, a socket, and then ends even in a call. A request has a library's
-    path and what `search` takes, with both arrays as bytes. The reply has the status and the bytes of `found`."""
-    from multiprocessing.connection import Connection
-
-    def end_with_the_socket() -> None:
-        hangup = select.poll()
-        hangup.register(0, 0)
-        hangup.poll()
-        os._exit(0)
-
-    threading.stack_size(1 << 18)
-    threading.Thread(target=end_with_the_socket, daemon=True).start()
-    connection = Connection(0)
-    with contextlib.suppress(EOFError):
-        while True:
-            place, name, scoring, entries, positions, found = connection.recv()
-            asked = (CPosition * (len(positions) // ctypes.sizeof(CPosition))).from_buffer(positions)
-            answers = ((CMoveScores if name == "ffosolve_move_scores_all" else CAnswer) * len(asked)).from_buffer(found)
-            status = search(declared(place), name, scoring, entries, asked, answers)
-            connection.send((status, bytes(found)))
-
-
-if __name__ == "__main__":
-    serve()

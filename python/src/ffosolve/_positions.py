@@ -1,13 +1,14 @@
 """Positions, and the moves that lead from one to the next."""
+import contextlib
 import copy
 import reprlib
 from typing import Any, Dict, Iterable, Iterator, List, Mapping, NamedTuple, Optional, Tuple, Type, TypeVar, Union
 
 from ._answers import Answer, Kind, Scoring
 from ._boards import OTHER, SIDES, Board, checked_score, checked_side
-from ._library import CAnswer, CPosition, loaded, search
+from ._library import CAnswer, CPosition, LibraryNotFound, loaded, search
 from ._obf import MOVES, Listed, parsed
-from ._refusals import NoMemory, NoMove, Status
+from ._refusals import NoMemory, NoMove, Refused, Status
 from ._rules import accept, c_position, c_positions, moves, size_of
 from ._squares import NAMES, mask_of, number_of, square_names, square_of
 from ._symmetries import Symmetry, canonical_form, image
@@ -40,22 +41,30 @@ class Position:
     one outside 0 to 2**64 - 1, and SharedSquare if a square is in both.
     """
 
-    __slots__ = ("_own", "_opp", "_side", "_last_move", "_listed", "_number")
+    __slots__ = ("_all",)  # one tuple of all, since `__setattr__` makes assignments slow
     __match_args__ = ("own", "opp")
-    _own: int
-    _opp: int
-    _side: str
-    _last_move: Optional[str]
-    _listed: Listed
-    _number: Optional[int]
+    _all: Tuple[Tuple[int, int], str, Optional[str], Listed, Optional[int]]
 
     def __new__(cls: Type[P], own: int, opp: int, side: str = "X") -> P:
         if type(own) is not int or type(opp) is not int:
             own, opp = mask_of(own), mask_of(opp)
         position = object.__new__(cls)
-        position._own, position._opp, position._side = own, opp, side if side == "X" else checked_side(side)
-        position._last_move, position._listed, position._number = None, (), None
+        fill(position, ((own, opp), side if side == "X" else checked_side(side), None, (), None))
         return position
+
+    def __setattr__(self, name: str, *value: Any) -> None:
+        """Assigns or deletes an attribute of a subclass; raises AttributeError for one of a Position."""
+        if name in Position.__slots__:
+            raise AttributeError(f"a Position does not change, so {name} stays")
+        change: Any = object.__setattr__ if value else object.__delattr__
+        change(self, name, *value)
+
+    __delattr__ = __setattr__
+
+    def __setstate__(self, state: Tuple[Optional[Dict[str, Any]], Dict[str, Any]]) -> None:
+        """Fills a copy, or what pickle reads, with all attributes."""
+        for name, value in {**(state[0] or {}), **state[1]}.items():
+            object.__setattr__(self, name, value)
 
     @classmethod
     def start(cls: Type[P]) -> P:
@@ -80,7 +89,7 @@ class Position:
         position's `listed`, for example, or what `Solver.move_scores` returns. If `side` is given and not the
         position's, all colours are exchanged. Raises ValueError for a side other than "X" and "O" and for another word
         than a move, TypeError for a score that is not a number."""
-        text = self.show(side=side).to_obf()
+        text = Board(self.own, self.opp, self.side if side is None else side).to_obf()
         for move, score in moves.items() if isinstance(moves, Mapping) else moves:
             name = MOVES.get(str(move).upper().encode())
             if name is None:
@@ -91,34 +100,34 @@ class Position:
     @property
     def own(self) -> int:
         """The mask of the discs of the side to move."""
-        return self._own
+        return self._all[0][0]
 
     @property
     def opp(self) -> int:
         """The mask of the discs of the other side."""
-        return self._opp
+        return self._all[0][1]
 
     @property
     def side(self) -> str:
         """The colour of the side to move: "X" (Black) or "O" (White)."""
-        return self._side
+        return self._all[1]
 
     @property
     def last_move(self) -> Optional[str]:
         """The move that led from another position to this one, such as "F5" or "PS"; None if that is not known."""
-        return self._last_move
+        return self._all[2]
 
     @property
     def listed(self) -> Listed:
         """Each move that the position's line of OBF text lists with a whole score from -64 to 64, and this score, in
         order, such as `(("H1", 62), ("A1", 52))`. "PS" is a pass, and "--" the end of the game. The moves may be
         illegal and the scores wrong."""
-        return self._listed
+        return self._all[3]
 
     @property
     def number(self) -> Optional[int]:
         """The line's number, from 1, if `read_lines` or `parse_lines` read the position's line; otherwise None."""
-        return self._number
+        return self._all[4]
 
     @property
     def empties(self) -> int:
@@ -228,9 +237,9 @@ class Position:
     def show(self, scores: Union[Mapping[str, float], Answer, None] = None, side: Optional[str] = None) -> Board:
         """The board, which a notebook shows as a picture and print() as text. If `scores` is {square's name: score}, as
         from `Solver.move_scores`, each score is written into its square, and the best are marked. If it is an Answer,
-        the score is written into each best move's square or, for a pass or a finished game, below the board. The
-        picture marks the disc of `last_move`. If `side` is given and not the position's, all colours are exchanged.
-        Raises the same as Board."""
+        the score is written into each best move's square or, for a pass or a finished game, below the board. A finished
+        game has its score there in any case, if there is a library. The picture marks the disc of `last_move`. If
+        `side` is given and not the position's, all colours are exchanged. Raises the same as Board."""
         state = "is to move"
         if isinstance(scores, Answer):
             state = STATES.get(scores.kind, state).format(scores.score)
@@ -238,6 +247,9 @@ class Position:
         elif scores is not None and not isinstance(scores, Mapping):
             wanted = "scores are an Answer, or a mapping from squares' names such as move_scores returns"
             raise TypeError(f"{wanted}, not {reprlib.repr(scores)}")
+        else:
+            with contextlib.suppress(LibraryNotFound, Refused, ValueError):  # as while the game goes on
+                state = STATES[Kind.OVER].format(self.score())
         last = self.last_move if self.last_move in NAMES else None
         return Board(self.own, self.opp, self.side if side is None else side, scores, state, last)
 
@@ -249,20 +261,20 @@ class Position:
         return f"{type(self).__name__}(own={self.own!r}, opp={self.opp!r}{side})"
 
     def __iter__(self) -> Iterator[int]:
-        return iter((self._own, self._opp))
+        return iter(self._all[0])
 
     def __eq__(self, other: object) -> bool:
         if isinstance(other, Position):
-            return self._own == other._own and self._opp == other._opp
+            return self._all[0] == other._all[0]
         if isinstance(other, tuple):
-            return (self._own, self._opp) == other
+            return self._all[0] == other
         return NotImplemented
 
     def __hash__(self) -> int:
-        return hash((self._own, self._opp))
+        return hash(self._all[0])
 
     def __getnewargs__(self) -> Tuple[int, int]:
-        return self._own, self._opp
+        return self._all[0]
 
     def _asdict(self) -> Dict[str, Any]:
         return {"own": self.own, "opp": self.opp, "side": self.side}
@@ -271,9 +283,7 @@ class Position:
         """Returns a copy with other masks or another side. With other masks, it is another board, of which neither the
         last move nor a line is known."""
         changed, position = Position(**{**Position._asdict(self), **changes}), copy.copy(self)
-        position._own, position._opp, position._side = changed.own, changed.opp, changed.side
-        if changed != self:
-            position._last_move, position._listed, position._number = None, (), None
+        fill(position, changed._all if changed != self else (*changed._all[:2], *self._all[2:]))
         return position
 
     __replace__ = _replace
@@ -282,6 +292,7 @@ class Position:
         return self.show()._repr_svg_()
 
 
+fill = vars(Position)["_all"].__set__
 START = Position(0x0000000810000000, 0x0000001008000000)  # Black, on E4 and D5, is to move
 
 
@@ -315,7 +326,7 @@ def illegal_move(position: Position, move: str) -> NoMove:
 def following(before: P, own: int, opp: int, move: str) -> P:
     """The position with these masks after a move of the side to move in another."""
     position = type(before)(own, opp, OTHER[before.side])
-    position._last_move = move
+    fill(position, (*position._all[:2], move, (), None))
     return position
 
 
@@ -327,5 +338,5 @@ def read_line(text: Union[str, bytes], number: Optional[int], kind: Type[P]) -> 
         line = kind(own, opp, side)
     except MemoryError:
         raise NoMemory() from None
-    line._listed, line._number = listed, number
+    fill(line, (*line._all[:3], listed, number))
     return line

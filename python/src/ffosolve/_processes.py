@@ -1,25 +1,37 @@
-"""Makes the library's calls, those that may last in other processes. `help(ffosolve)` says how calls stop."""
-import atexit
+"""Makes a Solver's calls: brief ones by the library, and others, which may last, by the programs `ffosolve` and
+`ffoscores`, since these can be stopped. `help(ffosolve)` says how."""
 import contextlib
 import ctypes
+import fcntl
+import functools
 import math
-import multiprocessing
 import numbers
 import os
+import re
 import reprlib
+import select
+import shutil
 import signal
 import subprocess
 import sys
+import threading
 import time
 from concurrent.futures import CancelledError
 from typing import Any, List, Optional, Set
 
-from . import _library
-from ._library import search
+from ._answers import Kind, Scoring
+from ._library import MOST_EMPTIES, NO_SCORE, CMoveScores, folder_of, search, version_of
+from ._obf import parsed
+from ._positions import Position
+from ._refusals import NoMemory, Status
+from ._squares import NAMES
 from ._tasks import is_cancelled
+from ._text import BOOK_HEADER
 
 BRIEF, LIGHTEST = 4096, 8  # the most positions of a brief call, and their most empty squares
 CHECK_SECONDS = 0.2  # how often a waiting call finds out whether it has to stop, also by a signal to another thread
+MOST_WORKERS = 64  # of a program
+STARTS = threading.RLock()  # is held while this process has ends of pipes that a forked process must not have
 
 
 def is_brief(count: int, empties: int) -> bool:
@@ -28,79 +40,109 @@ def is_brief(count: int, empties: int) -> bool:
     return count << 2 * max(0, empties - LIGHTEST) <= BRIEF
 
 
-class SearchProcess:
-    """A process that makes calls, one at a time, as `serve` says. It ends when this process does."""
+@functools.lru_cache(maxsize=None)
+def program(name: str, library: ctypes.CDLL) -> str:
+    """The path of the program `name` that has the library's version. It is in the library's folder, as in the wheel; in
+    the one above, as in a checkout; in `bin` beside the library's `lib`; or on the path. Raises FileNotFoundError."""
+    folder, wanted = folder_of(library), f"{name} {version_of(library)}"
+    bin_folder = re.sub("/lib(64)?(/[^/]*-linux-gnu)?(/glibc-hwcaps/[^/]*)?$", "/bin", folder)
+    for place in (f"{folder}/{name}", f"{folder}/../{name}", f"{bin_folder}/{name}", name):
+        with STARTS, contextlib.suppress(OSError, subprocess.SubprocessError):
+            path = os.path.join(os.getcwd(), shutil.which(place) or "")
+            found = subprocess.check_output([path, "--version"], stdin=subprocess.DEVNULL, timeout=10)
+            if found.decode() == f"{wanted}\n":
+                return path
+    raise FileNotFoundError(f"no process can be started: {wanted} is neither beside {folder} nor on the path")
 
-    def __init__(self) -> None:
-        if not sys.executable or hasattr(sys, "frozen") or not os.path.isfile(_library.__file__):
-            raise FileNotFoundError("no process can be started: this program is frozen, has this package in a zip, or "
-                                    "does not know the path of Python")
+
+class SearchProcess:
+    """A program that reads a list and maybe a book. It ends with this process: then nothing reads its errors any more,
+    and the kernel kills it. Raises OSError if it can't be started."""
+
+    def __init__(self, words: List[str], book: str) -> None:
         if sys.is_finalizing():
             raise OSError("Python is ending, so it can't start a process")
-        words = [sys.executable, "-S", _library.__file__]
-        self.connection, theirs = multiprocessing.Pipe()
         masked = signal.pthread_sigmask(signal.SIG_BLOCK, {signal.SIGINT})  # Ctrl-C is for this process alone
         try:
-            with theirs:
-                self.process = subprocess.Popen(words, stdin=theirs.fileno(), stdout=theirs.fileno(), cwd="/")
-            PROCESSES.add(self)
+            with STARTS, open(os.memfd_create("book"), "w") as claims:
+                claims.write(book)
+                claims.flush()
+                words += ["--book-in", f"/dev/fd/{claims.fileno()}"] * bool(book)
+                self.errors, theirs = (open(end, mode, 0) for end, mode in zip(os.pipe(), ("rb", "wb")))
+                with theirs:
+                    self.process: Any = subprocess.Popen(
+                        words, stdin=subprocess.PIPE, stdout=subprocess.PIPE, stderr=theirs, cwd="/", encoding="ascii",
+                        pass_fds=[claims.fileno()])
+                    PROCESSES.add(self)
+                    fcntl.fcntl(theirs, fcntl.F_SETSIG, signal.SIGKILL)
+                    fcntl.fcntl(theirs, fcntl.F_SETOWN, self.process.pid)
+                    fcntl.fcntl(theirs, fcntl.F_SETFL, os.O_ASYNC)
         finally:
             signal.pthread_sigmask(signal.SIG_SETMASK, masked)
 
-    def keep(self) -> None:
-        """Keeps the process for later calls, unless there is already one for each processor."""
-        if len(IDLE) < (os.cpu_count() or 1):
-            IDLE.append(self)
-        else:
-            self.end()
-
-    def end(self) -> int:
-        """Ends the process and returns its status, or -N if the signal N had ended it."""
-        PROCESSES.discard(self)
-        self.connection.close()
-        self.process.kill()
-        return self.process.wait()
+    def find(self, lines: str, call: "SolverCall") -> List[str]:
+        """Returns the rows that the program prints for a list, or kills it if `call` has to stop. Raises NoMemory, and
+        ChildProcessError if somebody ended the program."""
+        ready, printed, piece = select.poll(), b"", b"-"
+        ready.register(self.process.stdout)
+        try:
+            with STARTS, contextlib.suppress(BrokenPipeError), self.process.stdin as to:
+                to.write(lines)
+            while piece:
+                if ready.poll(1000 * call.wait_seconds()):
+                    piece = os.read(self.process.stdout.fileno(), 1 << 16)
+                    printed += piece
+            status, errors = self.process.wait(), self.errors.read().decode().strip()
+        finally:
+            PROCESSES.discard(self)
+            self.process.kill()
+            with contextlib.suppress(BrokenPipeError), self.errors, self.process:
+                pass
+        if errors.endswith("out of memory"):
+            raise NoMemory()
+        if status:
+            how = f"was ended by signal {-status}" if status < 0 else f"ended with status {status}: {errors}"
+            raise ChildProcessError(f"the process that solved {how}")
+        return printed.decode().splitlines()
 
 
 PROCESSES: Set[SearchProcess] = set()
-IDLE: List[SearchProcess] = []  # those that make no call, and are kept for later ones
-
-
-def idle_process() -> SearchProcess:
-    with contextlib.suppress(IndexError):  # until none is kept; other threads take processes meanwhile
-        while True:
-            process = IDLE.pop()
-            if process.process.poll() is None:
-                return process
-            process.end()
-    return SearchProcess()
-
-
-@atexit.register
-def end_idle() -> None:
-    with contextlib.suppress(IndexError):
-        while True:
-            IDLE.pop().end()
 
 
 def forget() -> None:
-    """Closes what a forked process has of its parent's SearchProcesses, since only the parent may use and end them."""
-    for process in PROCESSES:
-        process.connection.close()
-        process.process.returncode = 0
+    """Closes what a forked process has of its parent's programs."""
+    for it in PROCESSES:
+        it.errors.close()
+        it.process.stdin.close()
     PROCESSES.clear()
-    IDLE.clear()
+    STARTS.release()
 
 
-os.register_at_fork(after_in_child=forget)
+os.register_at_fork(before=STARTS.acquire, after_in_parent=STARTS.release, after_in_child=forget)
+
+
+def read_rows(rows: List[str], found: Any) -> None:
+    """Writes what a program printed to the records of `found`, as the library does."""
+    for it, row in zip(found, rows if isinstance(found[0], CMoveScores) else rows[1:]):
+        if isinstance(it, CMoveScores):
+            scores = dict(parsed(row, None)[3])
+            it.scores[:] = [scores.get(name, NO_SCORE) for name in NAMES]
+            it.moves = sum(1 << at for at, name in enumerate(NAMES) if name in scores)
+        else:
+            _, score, moves, _ = row.split()
+            it.score, it.kind = int(score), {"PS": Kind.PASS, "--": Kind.OVER}.get(moves, Kind.MOVES)
+            it.best = sum(1 << NAMES.index(move) for move in moves.split(",") if it.kind == Kind.MOVES)
 
 
 class SolverCall:
     """Makes the calls of a library for one call of a Solver, until this has taken `timeout` seconds, its task is
-    cancelled, or it sets `is_left`. Raises TypeError and ValueError for a wrong `timeout`; None stands for any time."""
+    cancelled, or it sets `is_left`. A program gets `threads`. Raises TypeError and ValueError for a wrong `timeout`;
+    None stands for any time."""
 
-    def __init__(self, library: ctypes.CDLL, timeout: Optional[float] = None) -> None:
+    def __init__(self, library: ctypes.CDLL, timeout: Optional[float] = None, threads: int = 1) -> None:
         self.library, self.timeout, self.is_left, self.end = library, timeout, False, math.inf
+        self.workers = min(threads - 1, MOST_WORKERS)
+        self.turn: Any = threading.Lock() if threads > 1 else contextlib.nullcontext()
         if timeout is not None:
             if not isinstance(timeout, numbers.Real):
                 raise TypeError(f"timeout is a number of seconds, not {reprlib.repr(timeout)}")
@@ -121,31 +163,31 @@ class SolverCall:
         if self.is_left or is_cancelled():
             raise CancelledError
 
-    def search(self, empties: int, name: str, scoring: int, entries: int, positions: Any, found: Any) -> int:
+    def has_program(self) -> bool:
+        with contextlib.suppress(OSError):
+            return bool(program("ffosolve", self.library))
+        return False
+
+    def search(self, empties: int, name: str, scoring: Scoring, entries: int, positions: Any, found: Any) -> int:
         """Makes the call that `_library.search` describes, for positions with at most `empties` empty squares; unless
-        it is brief, in a SearchProcess. Raises TimeoutError, CancelledError, and ChildProcessError if somebody ended
-        the process."""
+        it is brief, by a program. Raises TimeoutError, CancelledError, and what `SearchProcess.find` raises."""
         self.check()
-        if is_brief(len(positions), empties):
-            return search(self.library, name, scoring, entries, positions, found)
-        try:
-            process = idle_process()
-        except OSError:
-            if self.timeout is not None:
-                raise
-            return search(self.library, name, scoring, entries, positions, found)
-        try:
-            place = _library.library_path(self.library)
-            process.connection.send((place, name, int(scoring), int(entries), bytearray(positions), bytearray(found)))
-            while not process.connection.poll(self.wait_seconds()):
-                pass
-            status, data = process.connection.recv()
-        except BaseException as error:
-            ended = process.end()
-            if not isinstance(error, (EOFError, ConnectionError)) and type(error) is not OSError:  # in a cut-off reply
-                raise
-            how = f"was ended by signal {-ended}" if ended < 0 else f"ended with status {ended}"
-            raise ChildProcessError(f"the process that solved {how}") from None
-        process.keep()
-        ctypes.memmove(found, data, len(data))
-        return int(status)
+        if not is_brief(len(positions), empties):
+            lines = [Position(it.own, it.opp) for it in positions]
+            with self.turn:
+                try:
+                    process = self.started(name, scoring, entries, lines[0], found[0])
+                except OSError:
+                    if self.timeout is not None:
+                        raise
+                else:
+                    read_rows(process.find("".join(f"{line.to_obf()}\n" for line in lines), self), found)
+                    return Status.DONE
+        return search(self.library, name, scoring, entries, positions, found)
+
+    def started(self, name: str, scoring: Scoring, entries: int, position: Position, claim: Any) -> SearchProcess:
+        path, book = program("ffoscores" if "move_scores" in name else "ffosolve", self.library), ""
+        if name == "ffosolve_confirm" and abs(claim.score) <= 64:
+            book = f"{BOOK_HEADER}{scoring}\n{position.canonical().to_obf(moves={'PS': claim.score})}\n"
+        return SearchProcess([path, f"--workers={self.workers}", f"--table={entries}", f"--scoring={scoring}",
+                              f"--max-empties={MOST_EMPTIES}"], book)

@@ -1,20 +1,26 @@
-"""Compares the scores of an evaluation with the exact ones, which a Solver finds or ffoscores printed."""
+"""Compares the scores of an evaluation with the exact ones, which a Solver finds, ffoscores printed or are known."""
 import itertools
 import math
 import re
+import time
 from typing import Any, Dict, Iterable, Iterator, List, Mapping, NamedTuple, Optional, Tuple, Union
 
+from ._answers import Answer
+from ._arrays import Answers
 from ._boards import checked_score
 from ._obf import OBF_LINE, MOVES, Source, lines_of, without_end
 from ._positions import Position, read_line
 from ._refusals import LineRefused, NoPosition
 from ._solvers import Solver, as_position
+from ._squares import NAMES
 
 LISTED_SCORE = re.compile(rb"([A-Ha-h][1-8]|[Pp][Ss]|--):([+-]?(?:\d{1,15}(?:\.\d*)?|\.\d+))")
 Number = Union[int, float]
 Values = Union[Number, Mapping[str, Number]]
 Evaluated = Union[Source, Mapping[Position, Values], Iterable[Tuple[Position, Values]]]
+Known = Union[Mapping[Position, Union[int, Answer, Mapping[str, int]]], Answers]
 Scores = List[Tuple[Optional[str], Number]]  # of moves, or with None of the position
+Exact = Dict[Optional[str], int]  # of each move, or with None of the position alone
 
 
 class WrongScore(NamedTuple):
@@ -32,42 +38,48 @@ class WrongScore(NamedTuple):
 
 
 class ScoreComparison(NamedTuple):
-    """How far scores are from the exact ones, in discs. A mean of nothing is 0.0.
+    """How far scores are from the exact ones, in discs. A mean of nothing is 0.0; without choices, `mean_loss` and
+    `best_share` are None.
 
     The chosen move of a position is the one with the highest score in the list, and the first of several. `choices`
     counts the positions in which there is one, and at least one other legal move."""
 
-    lines: int  # positions with exact scores
+    lines: int  # positions, without refused ones
     moves: int  # scores of legal moves and of positions
     wrong: List[WrongScore]  # those that are not exact, in the order of the list
     mean_error: float  # over all `moves`, without sign
+    root_mean_square_error: float  # over all `moves`
     bias: float  # the mean of score minus exact score over all `moves`; above 0 if the evaluation is too hopeful
     greatest_error: Number  # without sign
     choices: int
-    mean_loss: float  # how much less the chosen moves are worth than best ones, over all `choices`
-    best_share: float  # the share of `choices` whose chosen move is a best one, 0.0 to 1.0
+    mean_loss: Optional[float]  # how much less the chosen moves are worth than best ones, over all `choices`
+    best_share: Optional[float]  # the share of `choices` whose chosen move is a best one, 0.0 to 1.0
     refused: int  # lines that `ffoscores` refused, or positions that the Solver refuses
     illegal: int  # scores of illegal moves
     unread: int  # other pieces between semicolons
     by_empties: "Dict[int, ScoreComparison]"  # the same for each number of empty squares, in rising order
 
     def __str__(self) -> str:
+        chosen = "" if self.mean_loss is None else f"mean loss {self.mean_loss:.2f} best {self.best_share:.0%} "
         return (f"lines {self.lines} moves {self.moves} wrong {len(self.wrong)} mean error {self.mean_error:.2f} "
-                f"bias {self.bias:+.2f} greatest {self.greatest_error:g} choices {self.choices} "
-                f"mean loss {self.mean_loss:.2f} best {self.best_share:.0%} refused {self.refused} "
+                f"root mean square {self.root_mean_square_error:.2f} bias {self.bias:+.2f} "
+                f"greatest {self.greatest_error:g} choices {self.choices} {chosen}refused {self.refused} "
                 f"illegal {self.illegal} unread {self.unread}")
 
 
-def compare_scores(listed: Evaluated, scored: Union[Source, Solver, None] = None, *, threads: int = 1
-                   ) -> ScoreComparison:
+def compare_scores(listed: Evaluated, scored: Union[Source, Solver, None] = None, *, known: Optional[Known] = None,
+                   threads: int = 1, timeout: Optional[float] = None) -> ScoreComparison:
     """Compares the scores of an evaluation with the exact ones.
 
     `listed` is {position: its score}, {position: {move: its score}}, an iterable of such pairs, or a list in OBF: a
     path, an open file or an iterable of lines. A score is for the side to move. In OBF it may be any decimal number
     with up to 15 digits before its point, such as +61.5.
 
-    The exact scores are found by the Solver `scored`, by default `Solver()`, on so many `threads`; positions that it
-    refuses are only counted. Otherwise `scored` has the lines that `ffoscores` printed for the list.
+    The exact scores are found by the Solver `scored`, by default `Solver()`, on so many `threads`, and within `timeout`
+    seconds; positions that it refuses are only counted. A position whose moves are not listed is solved alone, which
+    is faster. What is `known` is not solved: {position: score, Answer or {move: score} with all legal moves}, or the
+    Answers of `Solver.solve_arrays` for all positions of the list. Otherwise `scored` has the lines that `ffoscores`
+    printed for the list.
 
         evaluated = {position: {"F5": 1.5, "D6": -2.0} for position in positions}
         for empties, found in compare_scores(evaluated).by_empties.items():
@@ -76,12 +88,12 @@ def compare_scores(listed: Evaluated, scored: Union[Source, Solver, None] = None
         print(compare_scores("list.obf", "list.scores"))
 
     Raises ValueError if a line of `scored` does not score each legal move of the position in the same line of the list,
-    or for a score that is no finite number or is of another word than a move; LibraryNotFound; and OSError and
-    TypeError as `read_lines` does.
+    for a score that is no finite number or is of another word than a move, or for `known` scores that don't fit;
+    TimeoutError; LibraryNotFound; and OSError and TypeError as `read_lines` does.
     """
     entries = list_entries(listed)
     if scored is None or isinstance(scored, Solver):
-        rows = solved(list(entries), Solver() if scored is None else scored, threads)
+        rows = solved(list(entries), Solver() if scored is None else scored, known, threads, timeout)
     else:
         rows = printed(entries, scored)
     read = list(rows)
@@ -102,7 +114,7 @@ class ListEntry(NamedTuple):
     unread: int = 0
 
 
-Row = Tuple[ListEntry, Dict[str, int]]  # with the exact score of each move
+Row = Tuple[ListEntry, Exact]
 
 
 def list_entries(listed: Evaluated) -> Iterator[ListEntry]:
@@ -137,21 +149,54 @@ def as_scores(values: Values) -> Scores:
     return scores
 
 
-def solved(entries: List[ListEntry], solver: Solver, threads: int
-           ) -> Iterator[Tuple[ListEntry, Optional[Dict[str, int]]]]:
-    """Yields each entry that is a position or refused, with the exact scores of its moves, or None if it is refused."""
-    positions = dict.fromkeys(it.position for it in entries if isinstance(it.position, Position))
-    taken = [position for position in positions if position.empties <= solver.max_empties]
-    found = dict(zip(taken, solver.move_scores_all(taken, threads=threads)))
+def solved(entries: List[ListEntry], solver: Solver, known: Optional[Known], threads: int, timeout: Optional[float]
+           ) -> Iterator[Tuple[ListEntry, Optional[Exact]]]:
+    """Yields each entry that is a position or refused, with its exact scores, or None if it is refused. Solves what is
+    not known: all moves of a position if a square is listed, otherwise the position alone."""
+    call = solver._call(timeout)
+    exact = known_scores(known, [it.position for it in entries if isinstance(it.position, Position)])
+
+    def lacks(entry: ListEntry) -> bool:
+        return entry.position not in exact or None in exact[entry.position] and has_squares(entry)
+
+    taken = [it for it in entries if isinstance(it.position, Position) and it.position.empties <= solver.max_empties]
+    calls: Any = (solver.move_scores_all, has_squares), (solver.solve_all, bool)
+    for find, is_for in calls:
+        rest = list(dict.fromkeys(it.position for it in taken if it.scores and lacks(it) and is_for(it)))
+        left = None if timeout is None else max(0, call.end - time.monotonic())
+        exact.update(zip(rest, map(exact_of, rest, find(rest, threads=threads, timeout=left))))
+    exact = {**dict.fromkeys((it.position for it in taken), {}), **exact}  # nothing is asked of those without scores
     for entry in entries:
-        position = entry.position
-        if position in found:
-            yield entry, found[position] or {"PS" if position.must_pass else "--": solver.solve(position).score}
-        elif not isinstance(position, NoPosition):
-            yield entry, None
+        if not isinstance(entry.position, NoPosition):
+            yield entry, None if lacks(entry) else exact[entry.position]
 
 
-def printed(entries: Iterable[ListEntry], scored: Source) -> Iterator[Tuple[ListEntry, Optional[Dict[str, int]]]]:
+def has_squares(entry: ListEntry) -> bool:
+    """Whether the scores of an entry are of moves that its position may have."""
+    return any(move in NAMES for move, _ in entry.scores) and bool(entry.position.legal_moves)
+
+
+def known_scores(known: Optional[Known], positions: List[Position]) -> Dict[Position, Exact]:
+    """The exact scores in `known`, as `compare_scores` takes it; no moves without scores tell nothing."""
+    if isinstance(known, Answers):
+        if len(known.score) != len(positions):
+            raise ValueError(f"{len(known.score)} known scores are not those of {len(positions)} positions")
+        known = dict(zip(positions, known.score.tolist()))
+    pairs = ((as_position(position), found) for position, found in (known or {}).items() if found != {})
+    return {position: exact_of(position, found) for position, found in pairs}
+
+
+def exact_of(position: Position, found: Union[int, Answer, Mapping[str, int]]) -> Exact:
+    """The exact scores of a position, from what is known or found of it. Raises ValueError for wrong ones."""
+    scores, moves = dict(as_scores(found.score if isinstance(found, Answer) else found)), moves_to_score(position)
+    if None in scores and not position.legal_moves:
+        scores = {moves[0]: scores[None]}
+    if scores.keys() not in ({None}, {*moves}) or any(score not in range(-64, 65) for score in scores.values()):
+        raise ValueError(f"not the exact scores of the legal moves in {position.to_obf()} {found!r}")
+    return {move: int(score) for move, score in scores.items()}
+
+
+def printed(entries: Iterable[ListEntry], scored: Source) -> Iterator[Tuple[ListEntry, Optional[Exact]]]:
     """Yields what `solved` does, by the lines that `ffoscores` printed. Raises ValueError as `compare_scores` does."""
     nothing = ListEntry(0, NoPosition(), [])
     both = itertools.zip_longest(entries, lines_of(scored), fillvalue=None)
@@ -161,16 +206,16 @@ def printed(entries: Iterable[ListEntry], scored: Source) -> Iterator[Tuple[List
         if isinstance(line, NoPosition) and isinstance(exact, NoPosition):
             continue
         is_refused = isinstance(exact, NoPosition) and without_end(text).startswith(b"% refused: ")
-        answers = isinstance(line, Position) and isinstance(exact, Position) and exact == line and has_all_moves(exact)
+        answers = (isinstance(line, Position) and isinstance(exact, Position) and exact == line
+                   and sorted(move for move, _ in exact.listed) == sorted(moves_to_score(exact)))
         if not is_refused and not answers:
             raise ValueError(f"line {number} of the scores is not what ffoscores prints for line {number} of the list")
         yield entry, None if is_refused else dict(exact.listed)
 
 
-def has_all_moves(line: Position) -> bool:
-    """Whether a line has a score for each legal move, and for no other. A pass and the end of a game count as moves."""
-    moves = line.legal_moves or ["PS" if line.must_pass else "--"]
-    return sorted(move for move, _ in line.listed) == sorted(moves)
+def moves_to_score(position: Position) -> List[str]:
+    """The legal moves. A pass and the end of a game count as moves."""
+    return position.legal_moves or ["PS" if position.must_pass else "--"]
 
 
 def position_in(text: Union[str, bytes], number: int) -> Any:
@@ -185,7 +230,7 @@ def summary(rows: List[Row], refused: int, by_empties: Dict[int, ScoreComparison
     errors: List[Number] = []
     losses: List[int] = []
     for entry, exact in rows:
-        worth: Dict[Any, int] = {None: max(exact.values()), **exact}
+        worth: Exact = {None: max(exact.values(), default=0), **exact}
         legal = [it for it in entry.scores if it[0] in worth]
         errors += [score - worth[move] for move, score in legal]
         found = [WrongScore(entry.number, move, score, worth[move]) for move, score in legal]
@@ -194,9 +239,10 @@ def summary(rows: List[Row], refused: int, by_empties: Dict[int, ScoreComparison
         losses += [worth[None] - chosen.exact] if chosen and len(exact) > 1 else []
     illegal = sum(len(entry.scores) for entry, _ in rows) - len(errors)
     sizes = [abs(error) for error in errors]
-    return ScoreComparison(len(rows), len(errors), wrong, mean_of(sizes), mean_of(errors), max(sizes, default=0),
-                           len(losses), mean_of(losses), mean_of([not loss for loss in losses]), refused, illegal,
-                           sum(entry.unread for entry, _ in rows), by_empties)
+    squares, unread = [error * error for error in errors], sum(entry.unread for entry, _ in rows)
+    of_choices = (mean_of(losses), mean_of([not loss for loss in losses])) if losses else (None, None)
+    return ScoreComparison(len(rows), len(errors), wrong, mean_of(sizes), math.sqrt(mean_of(squares)), mean_of(errors),
+                           max(sizes, default=0), len(losses), *of_choices, refused, illegal, unread, by_empties)
 
 
 def mean_of(numbers: List[Any]) -> float:

@@ -6,17 +6,16 @@ import struct
 from typing import Any, Callable, Dict, Iterable, Iterator, List, Optional, Tuple, Union
 
 from ._answers import ENDS, Answer, Kind, Scoring
-from ._arrays import Answers, found_by, rows_of
+from ._arrays import Answers, batches_in, columns_of, rows_of
 from ._bulk import Batch, BatchOrRefusal, batches_of, in_order
 from ._games import Game, positions_of
-from ._library import MOST_EMPTIES, MOST_ENTRIES, CAnswer, CMoveScores, load
+from ._library import MOST_EMPTIES, MOST_ENTRIES, NO_SCORE, CAnswer, CMoveScores, load, version_of
 from ._positions import P, Position
 from ._processes import SolverCall
 from ._refusals import Refused, TooManyEntries, checked_number
 from ._rules import accept, c_positions, checked_position, masks_and_empties, moves
 from ._squares import NAMES
 
-NO_SCORE = 127  # in an array of scores, for a square that is not a legal move
 KINDS = tuple(Kind)
 ANSWER, MOVE_SCORES = struct.Struct("iiQ"), struct.Struct("64bQ")  # the layouts of CAnswer and CMoveScores
 
@@ -83,27 +82,30 @@ class Solver:
     @property
     def library_version(self) -> str:
         """The version of the shared library, such as "1.2.3"."""
-        number = self._library.ffosolve_version()
-        return f"{number // 10000}.{number // 100 % 100}.{number % 100}"
+        return version_of(self._library)
 
-    def solve(self, position: Position, *, timeout: Optional[float] = None) -> Answer:
-        """The answer for a position. Raises SharedSquare, TooManyEmpties and NoMemory; ValueError for a mask below 0
-        or above 2**64 - 1; and TypeError for an object that is not a position."""
-        return self._answers(self._call(timeout), self._batch(position))[0]
+    def solve(self, position: Position, *, threads: int = 1, timeout: Optional[float] = None) -> Answer:
+        """The answer for a position. From 16 empty squares on, several threads search it together. Raises SharedSquare,
+        TooManyEmpties and NoMemory; ValueError for a mask below 0 or above 2**64 - 1; and TypeError for an object that
+        is not a position."""
+        return self._answers(self._call(timeout, threads), self._batch(position))[0]
 
-    def confirm(self, position: Position, claim: Answer, *, timeout: Optional[float] = None) -> Answer:
+    def confirm(self, position: Position, claim: Answer, *, threads: int = 1, timeout: Optional[float] = None
+                ) -> Answer:
         """The answer for a position, found by testing the claimed score first; the answer is exact even if the claim is
         wrong. If most claimed scores are right, this is faster than `solve` from 6 empty squares on. Raises the same as
         `solve`, and TypeError for a claim that is not an Answer."""
         if not isinstance(claim, Answer):
             raise TypeError(f"a claim is an Answer(score, kind, best), not {reprlib.repr(claim)}")
-        return self._answers(self._call(timeout), self._batch(position), "ffosolve_confirm", CAnswer(*claim))[0]
+        call, batch = self._call(timeout, threads), self._batch(position)
+        return self._answers(call, batch, "ffosolve_confirm", CAnswer(*claim))[0]
 
-    def best_line(self, position: Position, *, timeout: Optional[float] = None) -> List[Tuple[str, int]]:
+    def best_line(self, position: Position, *, threads: int = 1, timeout: Optional[float] = None
+                  ) -> List[Tuple[str, int]]:
         """Perfect play from a position to the end of the game: each move and its score for the side that makes it, such
         as [("H1", 62), ("PS", -62), ("A1", 62)]. Of several best moves, it has the first. Raises the same as `solve`.
         """
-        call, line = self._call(timeout), []
+        call, line = self._call(timeout, threads), []
         answer = self._answers(call, self._batch(position))[0]
         while answer.kind != Kind.OVER:
             move = answer.squares[0] if answer.best else ENDS[answer.kind]
@@ -113,15 +115,15 @@ class Solver:
             answer = self._answers(call, self._batch(position), "ffosolve_confirm", CAnswer(*claim))[0]
         return line
 
-    def move_scores(self, position: Position, *, timeout: Optional[float] = None) -> Dict[str, int]:
+    def move_scores(self, position: Position, *, threads: int = 1, timeout: Optional[float] = None) -> Dict[str, int]:
         """Returns {square's name: score for the side to move} for all legal moves, in the order A1, B1, .. H8. The dict
         is empty if there is no legal move. One table serves all moves. Raises the same as `solve`."""
-        return self._scores(self._call(timeout), self._batch(position))[0]
+        return self._scores(self._call(timeout, threads), self._batch(position))[0]
 
-    def scored_line(self, position: Position, *, timeout: Optional[float] = None) -> str:
+    def scored_line(self, position: Position, *, threads: int = 1, timeout: Optional[float] = None) -> str:
         """The line that `ffoscores` prints for a position: an OBF line that lists all legal moves with their scores,
         the best ones first; or a pass, or the end of the game, with its score. Raises the same as `solve`."""
-        call, batch = self._call(timeout), self._batch(position)
+        call, batch = self._call(timeout, threads), self._batch(position)
         moves = sorted(self._scores(call, batch)[0].items(), key=lambda it: -it[1])
         if not moves:
             (answer,) = self._answers(call, batch)
@@ -130,9 +132,10 @@ class Solver:
 
     def solve_all(self, positions: Iterable[Position], *, threads: int = 1, timeout: Optional[float] = None
                   ) -> List[Answer]:
-        """The answers for positions, in their order. One thread uses one table for all positions; for several threads,
-        the list is cut into batches, each with its own table. Raises the same as `solve`. SharedSquare and
-        TooManyEmpties come before any position is solved, and have the `index` of the first refused position."""
+        """The answers for positions, in their order. The threads share a table for up to 15,000 positions; those with
+        at most 14 empty squares may be solved in batches, each with its own table. Raises the same as `solve`.
+        SharedSquare and TooManyEmpties come before any position is solved, and have the `index` of the first refused
+        position."""
         return list(self._each(self._answers, positions, threads, timeout, at_once=True))
 
     def solve_iter(self, positions: Iterable[Position], *, threads: int = 1, timeout: Optional[float] = None
@@ -182,20 +185,20 @@ class Solver:
             raise TypeError(f"a game is a Game or the text of a transcript, not {reprlib.repr(game)}")
         return positions_of(game)
 
-    def _call(self, timeout: Optional[float]) -> SolverCall:
-        return SolverCall(self._library, timeout)
+    def _call(self, timeout: Optional[float], threads: int = 1) -> SolverCall:
+        return SolverCall(self._library, timeout, checked_number("threads", threads, 1))
 
     def _batch(self, position: Iterable[int]) -> Batch:
         """Returns a Batch with one position, or raises SharedSquare, TooManyEmpties, TypeError or ValueError."""
         own, opp, empties = checked_position(position, self._max_empties)
-        return Batch([own, opp], empties)
+        return Batch(c_positions([own, opp]), empties)
 
     def _each(self, solve: Callable[[SolverCall, BatchOrRefusal], List[Any]], positions: Iterable[Position],
               threads: int, timeout: Optional[float], at_once: bool = False) -> Iterator[Any]:
-        """Yields what `solve` finds for positions. If `at_once`, reads all of them before the first call, raises a
-        Refused if one is refused, and makes one call of all if `threads` is 1."""
-        call, threads = self._call(timeout), checked_number("threads", threads, 1)
-        batches: Iterable[BatchOrRefusal] = batches_of(positions, self._max_empties, whole=at_once and threads == 1)
+        """Yields what `solve` finds for positions. If `at_once`, reads all of them before the first call, and raises a
+        Refused if one is refused."""
+        call, threads = self._call(timeout, threads if at_once else 1), checked_number("threads", threads, 1)
+        batches: Iterable[BatchOrRefusal] = batches_of(positions, self._max_empties, call, at_once)
         if at_once:
             batches = list(batches)
             if batches and isinstance(batches[-1], Refused):
@@ -206,9 +209,9 @@ class Solver:
                    ) -> List[Any]:
         """Makes the call `name` of the library for arrays of positions. Returns an array for each member of `record`,
         the C structure that the library writes for a position."""
-        call, rows = self._call(timeout), rows_of(own, opp)
-        search = functools.partial(self._search, call, name)
-        return found_by(search, call, record, rows, self._max_empties, checked_number("threads", threads, 1))
+        call = self._call(timeout, threads)
+        batches = batches_in(rows_of(own, opp), self._max_empties, call)
+        return columns_of(record, in_order(call, lambda it: [self._found(call, it, name, record)], batches, threads))
 
     def _answers(self, call: SolverCall, batch: BatchOrRefusal, name: str = "ffosolve_solve_all", *claim: CAnswer
                  ) -> List[Answer]:
@@ -224,15 +227,10 @@ class Solver:
         `batch`. Raises `batch` if it is a Refused, and another if the library refuses the call."""
         if isinstance(batch, Refused):
             raise batch
-        positions = c_positions(batch.masks)
-        found = (record * len(positions))(*claim)
-        self._search(call, name, positions, found, batch.empties)
+        found = (record * len(batch.positions))(*claim)
+        entries = table_entries(batch.empties) if self._entries is None else self._entries
+        accept(call.search(batch.empties, name, self._scoring, entries, batch.positions, found))
         return found
-
-    def _search(self, call: SolverCall, name: str, positions: Any, found: Any, empties: int) -> None:
-        """Makes a call as `search` does, for positions with at most `empties` empty squares."""
-        entries = table_entries(empties) if self._entries is None else self._entries
-        accept(call.search(empties, name, self._scoring, entries, positions, found))
 
 
 def as_position(position: P) -> P:

@@ -18,7 +18,10 @@ TOKEN = re.compile(
 
 
 HEADERS = re.compile(r"\s*(?:\[[^\]]*\]\s*)+")  # such as [Event "Final"] [Black "Ann"]
+# What a game on several lines has: a first line in SGF, or lines with headers alone and then two with moves.
+SPREAD = re.compile(rb"\A\s*\(;.*[^)\s]\s*\n|^(?:\[[^]\n]*][ \t\r]*)+\n\s*[^[%\s].*\n[^[%\n]*[a-h][1-8]", re.I | re.M)
 GGF = re.compile(r"\s*(?:\d+\s*)?\(;")
+MARKED = re.compile(r"[a-h]\s*[1-8]\s*[!?]", re.IGNORECASE)  # a move with a mark, such as f5!
 PROPERTY = re.compile(r"([A-Z]+)\[((?:[^\]\\]|\\.)*)\]")
 GGF_START = f"8{27 * '-'}O*{6 * '-'}*O{27 * '-'}*"  # 8 by 8 squares, the usual discs, Black to move; without blanks
 
@@ -27,11 +30,14 @@ def transcript_words(text: str) -> List[str]:
     """The words of a transcript, in lower case: squares without blanks inside, passes (several hyphens become `--`)
     and other text in words of one or two characters. Skips headers in brackets before the moves, blanks, commas, a
     hyphen between moves, move numbers such as `1.` and `12`, a result at the end such as `33-31`, `+2` or `*`, and
-    everything from `%` on. Of a game in GGF, `(;GM[Othello] .. ;)`, has the moves; raises ValueError as `ggf_words`."""
+    everything from `%` on. Of a game in GGF, `(;GM[Othello] .. ;)`, has the moves; raises ValueError as `ggf_words`,
+    and for a move with a mark."""
     if GGF.match(text):
         return ggf_words(text)
     text = HEADERS.sub("", text, 1) if HEADERS.match(text) else text
     text = text.partition("%")[0].lower().translate(DASHES)
+    if marked := MARKED.search(text):
+        raise ValueError(f"{marked[0]} has a mark, but a transcript has only moves, as f5d6c3")
     words = (move or other for move, other in TOKEN.findall(text))
     return [word if len(word) < 3 else "--" if word[0] == "-" else "".join(word.split()) for word in words if word]
 
@@ -43,8 +49,8 @@ def ggf_words(text: str) -> List[str]:
     properties = {name: "".join(value.split()) for name, value in found}
     for is_wrong, why in (
         (text.count("(;") > 1, "a line has one game, but this has several in GGF"),
+        (properties.get("GM", "").lower() != "othello", "it is a game in SGF, or in GGF without GM[Othello]"),
         (not text.rstrip().endswith(";)"), "it begins like a game in GGF, but does not end with `;)`"),
-        (properties.get("GM", "").lower() != "othello", "it is a game in GGF or SGF without GM[Othello]"),
         (properties.get("BO", GGF_START) != GGF_START, "it is in GGF, and does not begin from the usual position"),
     ):
         if is_wrong:
