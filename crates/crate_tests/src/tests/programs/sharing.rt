@@ -22,9 +22,9 @@ use suite_solver::laws::client_part;
 use suite_solver::{Gate, NoGate};
 
 // A line of a position with 18 empty squares, and its score. The same search in plain Rust gives it.
-const EIGHTEEN: &[u8] = b"-OXX-X---XX--XX-OXXO-X-O-XXXOXOOXOOXXXO-O-OOOOXO-XOOOXX-X-OO-OX- X\n";
+const EIGHTEEN: &[u8] = b"OO-O-O--XOXOXX---XOOOOOOXXXOOX--OXOXX---OOXXXX--OXX-OXX--XXO-OOO X\n";
 
-const SCORE: i8 = 14;
+const SCORE: i8 = -16;
 
 // Lines of positions with 16 and 15 empty squares. The first one is worth 6, by H4 alone.
 const SIXTEEN: &[u8] = b"X---OO--XXXXOO--XXXXOO-X--XXOOX--XXOOXXOXXOXOXOOXOOOOXXO---OOO-X X\n";
@@ -253,7 +253,7 @@ fn threads_help_where_it_is_of_use(rt: HostRuntime) -> Result<(), Fail> {
 
 // A book that claims a lower score of that position, in its canonical form.
 const WRONG_BOOK: &[u8] = b"% ffobook 2 winner\n\
-X-OX-O---X-OXXXOOOOOXXXXOOOXXO-X-OOXO---OXOXXXXXXXXOO-X---O-OO-- X; H1:+10;\n";
+-OOOX-XOXXOXXXOOXXXOXOX-O-XXOOOO-OXXOOX-OXX-XOXOOX---O--O----O-- X; A1:-20;\n";
 
 // Threads share the test of a claim, too.
 #[test]
