@@ -550,6 +550,14 @@ def test_ffosolve_many_gets_the_options(alone, words, given, folder_named):
     assert ran.stdout == "output\n" * ("--cut" in words)
 
 
+def test_the_list_is_the_same_in_any_order_of_the_files(alone):
+    write("22.wtb", wthor([record(PLAYED[0])], empties=22))
+    write("bin/ffosolve-many", "#!/bin/sh\nwhile read line; do echo $line; done >list\nexit 3\n")
+    lists = {(alone("check", "--folder=a", *names), Path("list").read_bytes())[1]
+             for names in (("22.wtb", "it.wtb"), ("it.wtb", "22.wtb", "22.wtb"))}
+    assert [text.count(b"\n") for text in lists] == [1 + COUNT]
+
+
 @pytest.mark.parametrize("end, status", ((None, 4), ("exit 1", 3), ("exit 2", 2), ("exit 3", 3), ("exit 4", 4),
                                          ("kill $$", 3)))
 def test_the_status_is_that_of_ffosolve_many_if_it_is_missing_or_fails(folder, alone, end, status):

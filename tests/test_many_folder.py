@@ -601,7 +601,7 @@ def test_as_many_parts_are_solved_at_once_as_there_are_jobs_by_default_one_for_e
 def test_signals_that_the_caller_ignores_do_not_end_the_run_such_as_that_of_a_terminal_that_closes_after_nohup(case):
     for number, last in ((signal.SIGKILL, 0), (signal.SIGTERM, 99)):  # the former ends long programs, too
         ran = begin(case, "sh", "-c", 'trap "" INT TERM; exec nohup "$@"', "sh", case.ACTS, last=last)
-        wait_until(lambda: programs(case))
+        wait_until(lambda: len(programs(case)) == 2)  # not only that for the known line
         output, _ = end(case, ran, signal.SIGINT, signal.SIGHUP, number)
         wanted = (b"", -number) if number == signal.SIGKILL else (case.one, 0)
         assert (output, ran.returncode) == wanted

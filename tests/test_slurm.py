@@ -53,9 +53,9 @@ def test_the_job_array_of_the_document_solves_all_parts_and_shows_why_some_fail(
     run(case.ACTS, "--cut", *words, check=True)
     run("sbatch", "--wait", "--array=0-3", "part.sh", timeout=5 * SECONDS)
     (log,) = Path(".").glob("parts-*.log")
-    assert log.read_text() == "part 0000020: ffosolve: out of memory\n"
+    assert log.read_text() == "part 0000019: ffosolve: out of memory\n"
     Path("work/ffosolve-0").unlink()
-    case.many(*words, message="in 21 parts, 20 of them solved before")
+    case.many(*words, message="in 20 parts, 19 of them solved before")
 
 
 def test_the_job_of_the_document_waits_for_its_own_scheduler_ends_it_and_has_the_status(folder):
@@ -82,4 +82,4 @@ def test_the_job_of_the_document_solves_a_list_on_its_own_cluster_and_ends_with_
         ran = run("sbatch", "--wait", "--output=job.log", "job.sh", timeout=5 * SECONDS)
         log = Path("job.log").read_text()
         assert (ran.returncode, Path("list.report").read_bytes()) == (status, b"" if status else case.one), log
-        assert f"in {20 + status} parts, {20 * status} of them solved before" in log
+        assert f"in 20 parts, {19 * status} of them solved before" in log
