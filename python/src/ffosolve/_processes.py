@@ -30,7 +30,6 @@ from ._text import BOOK_HEADER
 
 BRIEF, LIGHTEST = 4096, 8  # the most positions of a brief call, and their most empty squares
 CHECK_SECONDS = 0.2  # how often a waiting call finds out whether it has to stop, also by a signal to another thread
-MOST_WORKERS = 64  # of a program
 STARTS = threading.RLock()  # is held while this process has ends of pipes that a forked process must not have
 
 
@@ -65,8 +64,7 @@ class SearchProcess:
         masked = signal.pthread_sigmask(signal.SIG_BLOCK, {signal.SIGINT})  # Ctrl-C is for this process alone
         try:
             with STARTS, open(os.memfd_create("book"), "w") as claims:
-                claims.write(book)
-                claims.flush()
+                print(book, file=claims, end="", flush=True)
                 words += ["--book-in", f"/dev/fd/{claims.fileno()}"] * bool(book)
                 self.errors, theirs = (open(end, mode, 0) for end, mode in zip(os.pipe(), ("rb", "wb")))
                 with theirs:
@@ -100,7 +98,7 @@ class SearchProcess:
                 pass
         if errors.endswith("out of memory"):
             raise NoMemory()
-        if status:
+        if status or printed.count(b"\n") - 2 * printed.startswith(b"[1]") != lines.count("\n"):
             how = f"was ended by signal {-status}" if status < 0 else f"ended with status {status}: {errors}"
             raise ChildProcessError(f"the process that solved {how}")
         return printed.decode().splitlines()
@@ -141,7 +139,7 @@ class SolverCall:
 
     def __init__(self, library: ctypes.CDLL, timeout: Optional[float] = None, threads: int = 1) -> None:
         self.library, self.timeout, self.is_left, self.end = library, timeout, False, math.inf
-        self.workers = min(threads - 1, MOST_WORKERS)
+        self.workers = min(threads - 1, 64)  # as many as a program takes
         self.turn: Any = threading.Lock() if threads > 1 else contextlib.nullcontext()
         if timeout is not None:
             if not isinstance(timeout, numbers.Real):
