@@ -16,8 +16,9 @@ import subprocess
 import sys
 import threading
 import time
+import weakref
 from concurrent.futures import CancelledError
-from typing import Any, List, Optional, Set
+from typing import Any, List, Optional
 
 from ._answers import Kind, Scoring
 from ._library import MOST_EMPTIES, NO_SCORE, CMoveScores, folder_of, search, version_of
@@ -55,8 +56,8 @@ def program(name: str, library: ctypes.CDLL) -> str:
 
 
 class SearchProcess:
-    """A program that reads a list and maybe a book. It ends with this process: then nothing reads its errors any more,
-    and the kernel kills it. Raises OSError if it can't be started."""
+    """A program that reads a list and maybe a book. It ends with this object, or this process: then nothing reads its
+    errors any more, and the kernel kills it. Raises OSError if it can't be started."""
 
     def __init__(self, words: List[str], book: str) -> None:
         if sys.is_finalizing():
@@ -92,7 +93,6 @@ class SearchProcess:
                     printed += piece
             status, errors = self.process.wait(), self.errors.read().decode().strip()
         finally:
-            PROCESSES.discard(self)
             self.process.kill()
             with contextlib.suppress(BrokenPipeError), self.errors, self.process:
                 pass
@@ -104,7 +104,7 @@ class SearchProcess:
         return printed.decode().splitlines()
 
 
-PROCESSES: Set[SearchProcess] = set()
+PROCESSES: "weakref.WeakSet[SearchProcess]" = weakref.WeakSet()
 
 
 def forget() -> None:
@@ -171,15 +171,16 @@ class SolverCall:
         it is brief, by a program. Raises TimeoutError, CancelledError, and what `SearchProcess.find` raises."""
         self.check()
         if not is_brief(len(positions), empties):
-            lines = [Position(it.own, it.opp) for it in positions]
+            asked = [Position(it.own, it.opp) for it in positions]
+            lines = "".join(f"{position.to_obf()}\n" for position in asked)
             with self.turn:
                 try:
-                    process = self.started(name, scoring, entries, lines[0], found[0])
+                    process = self.started(name, scoring, entries, asked[0], found[0])
                 except OSError:
                     if self.timeout is not None:
                         raise
                 else:
-                    read_rows(process.find("".join(f"{line.to_obf()}\n" for line in lines), self), found)
+                    read_rows(process.find(lines, self), found)
                     return Status.DONE
         return search(self.library, name, scoring, entries, positions, found)
 
