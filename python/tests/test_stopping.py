@@ -321,6 +321,7 @@ if "--table=77" in words:
 print(end="[1]\\n" * (name == "ffosolve"))
 for number, line in enumerate(lines.splitlines()):
     print(*[line, f"B1:{{number:+03}}; A1:-64;"] if name == "ffoscores" else [1, f"{{number:+03}}", "B1,H8 unlisted"])
+print(end="solved\\n" * (name == "ffosolve"))
 """
 
 
@@ -398,6 +399,21 @@ def test_an_ended_process_is_reported_and_the_next_call_starts_another(name, thr
         is_over.set()
         killer.join()
     assert Solver().solve(HARD) == Solver(entries=0).solve(HARD)
+
+
+def test_a_process_whose_call_is_left_before_it_gets_its_list_ends(solver, monkeypatch):
+    monkeypatch.setattr(_processes.SearchProcess, "find", mock.Mock(side_effect=Left))
+    with pytest.raises(Left):
+        solver.solve(HARD)
+    gc.collect()
+    wait_until(lambda: not children(), children)
+
+
+def test_an_ended_process_is_reported_even_if_its_status_is_lost(solver):
+    before = signal.signal(signal.SIGCHLD, signal.SIG_IGN)
+    with pytest.raises(ChildProcessError), timer(0.3, lambda: [os.kill(it, signal.SIGKILL) for it in children()]):
+        solver.solve(HOPELESS)
+    signal.signal(signal.SIGCHLD, before)
 
 
 @each_call
@@ -559,7 +575,7 @@ def test_ctrl_c_is_for_the_program_alone():
     before = set(_processes.PROCESSES)
     os.killpg(os.getpgrp(), signal.SIGINT)
     time.sleep(0.5)
-    print(solver.solve(hard).score, _processes.PROCESSES == before)
+    print(solver.solve(hard).score, set(_processes.PROCESSES) == before)
     threading.Timer(0.5, os.killpg, (os.getpgrp(), signal.SIGINT)).start()
     try:
         solver.solve(START, timeout=5)

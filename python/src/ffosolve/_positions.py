@@ -48,7 +48,7 @@ class Position:
     def __new__(cls: Type[P], own: int, opp: int, side: str = "X") -> P:
         if type(own) is not int or type(opp) is not int:
             own, opp = mask_of(own), mask_of(opp)
-        position = object.__new__(cls)
+        position: P = create(cls)
         fill(position, ((own, opp), side if side == "X" else checked_side(side), None, (), None))
         return position
 
@@ -132,7 +132,8 @@ class Position:
     @property
     def empties(self) -> int:
         """How many squares are empty."""
-        return 64 - size_of(self.own | self.opp)
+        own, opp = self._all[0]
+        return 64 - size_of(own | opp)
 
     @property
     def discs(self) -> Discs:
@@ -202,7 +203,8 @@ class Position:
 
     def passed(self: P) -> P:
         """The position after a pass, even if a pass is not legal. The other side is to move."""
-        return following(self, self.opp, self.own, "PS")
+        own, opp = self._all[0]
+        return following(self, opp, own, "PS")
 
     def score(self, scoring: Union[Scoring, int, str] = Scoring.WINNER) -> int:
         """The mover's score, if the game is over; else raises ValueError. Raises TooManyEmpties and UnknownScoring."""
@@ -292,6 +294,7 @@ class Position:
         return self.show()._repr_svg_()
 
 
+create: Any = object.__new__
 fill = vars(Position)["_all"].__set__
 START = Position(0x0000000810000000, 0x0000001008000000)  # Black, on E4 and D5, is to move
 
@@ -325,8 +328,9 @@ def illegal_move(position: Position, move: str) -> NoMove:
 
 def following(before: P, own: int, opp: int, move: str) -> P:
     """The position with these masks after a move of the side to move in another."""
-    position = type(before)(own, opp, OTHER[before.side])
-    fill(position, (*position._all[:2], move, (), None))
+    side = OTHER[before._all[1]]
+    position = type(before)(own, opp, side)
+    fill(position, ((own, opp), side, move, (), None))
     return position
 
 
@@ -338,5 +342,5 @@ def read_line(text: Union[str, bytes], number: Optional[int], kind: Type[P]) -> 
         line = kind(own, opp, side)
     except MemoryError:
         raise NoMemory() from None
-    fill(line, (*line._all[:3], listed, number))
+    fill(line, ((own, opp), side, None, listed, number))
     return line

@@ -16,8 +16,9 @@ import subprocess
 import sys
 import threading
 import time
+import weakref
 from concurrent.futures import CancelledError
-from typing import Any, List, Optional, Set
+from typing import Any, List, Optional
 
 from ._answers import Kind, Scoring
 from ._library import MOST_EMPTIES, NO_SCORE, CMoveScores, folder_of, search, version_of
@@ -30,7 +31,6 @@ from ._text import BOOK_HEADER
 
 BRIEF, LIGHTEST = 4096, 8  # the most positions of a brief call, and their most empty squares
 CHECK_SECONDS = 0.2  # how often a waiting call finds out whether it has to stop, also by a signal to another thread
-MOST_WORKERS = 64  # of a program
 STARTS = threading.RLock()  # is held while this process has ends of pipes that a forked process must not have
 
 
@@ -56,8 +56,8 @@ def program(name: str, library: ctypes.CDLL) -> str:
 
 
 class SearchProcess:
-    """A program that reads a list and maybe a book. It ends with this process: then nothing reads its errors any more,
-    and the kernel kills it. Raises OSError if it can't be started."""
+    """A program that reads a list and maybe a book. It ends with this object, or this process: then nothing reads its
+    errors any more, and the kernel kills it. Raises OSError if it can't be started."""
 
     def __init__(self, words: List[str], book: str) -> None:
         if sys.is_finalizing():
@@ -65,8 +65,7 @@ class SearchProcess:
         masked = signal.pthread_sigmask(signal.SIG_BLOCK, {signal.SIGINT})  # Ctrl-C is for this process alone
         try:
             with STARTS, open(os.memfd_create("book"), "w") as claims:
-                claims.write(book)
-                claims.flush()
+                print(book, file=claims, end="", flush=True)
                 words += ["--book-in", f"/dev/fd/{claims.fileno()}"] * bool(book)
                 self.errors, theirs = (open(end, mode, 0) for end, mode in zip(os.pipe(), ("rb", "wb")))
                 with theirs:
@@ -94,19 +93,18 @@ class SearchProcess:
                     printed += piece
             status, errors = self.process.wait(), self.errors.read().decode().strip()
         finally:
-            PROCESSES.discard(self)
             self.process.kill()
             with contextlib.suppress(BrokenPipeError), self.errors, self.process:
                 pass
         if errors.endswith("out of memory"):
             raise NoMemory()
-        if status:
+        if status or printed.count(b"\n") - 2 * printed.startswith(b"[1]") != lines.count("\n"):
             how = f"was ended by signal {-status}" if status < 0 else f"ended with status {status}: {errors}"
             raise ChildProcessError(f"the process that solved {how}")
         return printed.decode().splitlines()
 
 
-PROCESSES: Set[SearchProcess] = set()
+PROCESSES: "weakref.WeakSet[SearchProcess]" = weakref.WeakSet()
 
 
 def forget() -> None:
@@ -141,7 +139,7 @@ class SolverCall:
 
     def __init__(self, library: ctypes.CDLL, timeout: Optional[float] = None, threads: int = 1) -> None:
         self.library, self.timeout, self.is_left, self.end = library, timeout, False, math.inf
-        self.workers = min(threads - 1, MOST_WORKERS)
+        self.workers = min(threads - 1, 64)  # as many as a program takes
         self.turn: Any = threading.Lock() if threads > 1 else contextlib.nullcontext()
         if timeout is not None:
             if not isinstance(timeout, numbers.Real):
@@ -173,15 +171,16 @@ class SolverCall:
         it is brief, by a program. Raises TimeoutError, CancelledError, and what `SearchProcess.find` raises."""
         self.check()
         if not is_brief(len(positions), empties):
-            lines = [Position(it.own, it.opp) for it in positions]
+            asked = [Position(it.own, it.opp) for it in positions]
+            lines = "".join(f"{position.to_obf()}\n" for position in asked)
             with self.turn:
                 try:
-                    process = self.started(name, scoring, entries, lines[0], found[0])
+                    process = self.started(name, scoring, entries, asked[0], found[0])
                 except OSError:
                     if self.timeout is not None:
                         raise
                 else:
-                    read_rows(process.find("".join(f"{line.to_obf()}\n" for line in lines), self), found)
+                    read_rows(process.find(lines, self), found)
                     return Status.DONE
         return search(self.library, name, scoring, entries, positions, found)
 
