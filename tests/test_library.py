@@ -186,8 +186,8 @@ def test_each_wrong_header_is_noticed():
 
 
 @pytest.mark.parametrize(("requests", "call"), [
-    (1, "solve {CORNERS} 0 64"), (1, "confirm {CORNERS} 0 64 62 0 0x80"), (1, "move_scores {CORNERS} 0 64"),
-    (1, "solve_all 0 64 1 {CORNERS}"), (1, "move_scores_all 0 64 1 {CORNERS}"), (1, "read_line 0 {BOARD} X;A1:0"),
+    (2, "solve {CORNERS} 0 64"), (2, "confirm {CORNERS} 0 64 62 0 0x80"), (2, "move_scores {CORNERS} 0 64"),
+    (2, "solve_all 0 64 1 {CORNERS}"), (2, "move_scores_all 0 64 1 {CORNERS}"), (1, "read_line 0 {BOARD} X;A1:0"),
     (0, "solve {CORNERS} 0 0"),
 ])
 def test_a_call_without_memory_returns_its_status(requests, call):
