@@ -329,11 +329,12 @@ def with_programs(folder, version):
     """Returns the path of a copy of the library, in `lib`, beside which `bin` has stand-ins of a version for both
     programs. They write what they are asked to the file `log`, find the index of each position, and refuse 77 entries.
     """
-    for name in ("bin/ffosolve", "bin/ffoscores", "lib/it.so"):
+    (folder / "lib").mkdir()
+    for name in ("bin/ffosolve", "bin/ffoscores"):
         (folder / name).parent.mkdir(exist_ok=True)
         (folder / name).write_text(STAND_IN.format(python=sys.executable, version=version, log=folder / "log"))
         (folder / name).chmod(0o755)
-    return shutil.copy(Solver()._library._name, folder / "lib/it.so")
+    return shutil.copy(Solver()._library._name, folder / "lib" / "it.so")
 
 
 def test_another_process_gets_each_argument_and_returns_each_status(tmp_path):
