@@ -203,7 +203,6 @@ def test_a_silent_worker_keeps_none_that_joins_from_work(cluster, case, others):
     cluster.signal(signal.SIGSTOP, "worker2")  # which alone has the program
     cluster.start_workers("worker3")
     wait_until(lambda: case.parts_solved() == 15)
-    assert ", waiting for 1 silent worker, " in messages()
     cluster.signal(signal.SIGCONT, "worker2")
     cluster.ended(ran)
 
