@@ -30,7 +30,7 @@ impl Begun {
     // The place of a hash. None if there are no places.
     #[inline]
     fn place(&self, hash: u64) -> Option<&AtomicU64> {
-        let index = hash.checked_rem(self.hashes.len() as u64)?;
+        let index = (hash >> 32).checked_rem(self.hashes.len() as u64)?;
         self.hashes.get(index as usize)
     }
 

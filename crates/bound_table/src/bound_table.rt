@@ -10,6 +10,7 @@ use crate::bounds::Bounds;
 use crate::entry::{Entry, Slot, empty_slot, read, write};
 use crate::range::Range;
 use crate::table_fault::TableFault;
+use crate::worths::{Foreseen, Worths};
 use othello_bits::Pos;
 use othello_rules::Scoring;
 use std::alloc::Global;
@@ -21,6 +22,9 @@ const ABOVE_ALL_EMPTIES: u8 = 65;
 
 // The most places for positions that threads are searching: 64 threads need fewer than 64 each.
 const MOST_BEGUN: usize = 4096;
+
+// The most places for what threads foresee. With 4,096, four threads evaluate 3 to 6 % more.
+const MOST_WORTHS: usize = 16_384;
 
 // The fewest entries of a table over which threads share a position. With fewer, the table forgets
 // much of what they find, and one thread is as fast.
@@ -40,6 +44,8 @@ pub struct BoundTable {
     slots: Vec<Slot>,
     // The positions that threads are searching.
     begun: Begun,
+    // What threads foresee that positions are worth.
+    worths: Worths,
 }
 
 impl Model for BoundTable {
@@ -60,6 +66,12 @@ fn hash_of(position: Pos) -> u64 {
     let products = position.own().wrapping_mul(0x9e37_79b9_7f4a_7c15)
         ^ position.opp().wrapping_mul(0xc2b2_ae3d_27d4_eb4f);
     (products ^ (products >> 29)).wrapping_mul(0xbf58_476d_1ce4_e5b9)
+}
+
+// The same of a position in a respect.
+#[inline]
+fn hash_in(position: Pos, respect: u16) -> u64 {
+    (hash_of(position) ^ u64::from(respect)).wrapping_mul(0x9e37_79b9_7f4a_7c15)
 }
 
 // The quarter of the table that holds positions with this number of empty squares. A store replaces
@@ -116,11 +128,15 @@ impl BoundTable {
         let Ok(begun) = Begun::new(alloc, entries.min(MOST_BEGUN)) else {
             return Err(TableFault::Memory);
         };
+        let Ok(worths) = Worths::new(alloc, entries.min(MOST_WORTHS)) else {
+            return Err(TableFault::Memory);
+        };
         Ok(BoundTable {
             scoring,
             fewest_empties: AtomicU8::new(ABOVE_ALL_EMPTIES),
             slots,
             begun,
+            worths,
         })
     }
 
@@ -206,5 +222,15 @@ impl Bounds for BoundTable {
     #[inline]
     fn is_begun(&self, position: &Pos) -> bool {
         self.begun.has(hash_of(*position))
+    }
+
+    #[inline]
+    fn foreseen(&self, position: &Pos, respect: u16) -> Foreseen {
+        self.worths.find(hash_in(*position, respect))
+    }
+
+    #[inline]
+    fn note_foreseen(&self, position: &Pos, respect: u16, foreseen: Foreseen) {
+        self.worths.keep(hash_in(*position, respect), foreseen);
     }
 }

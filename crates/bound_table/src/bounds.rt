@@ -5,6 +5,7 @@ ghost use Rattle.othello_rules.specs.declared.scoring.Scoring.{Scoring};
 ghost use Rattle.bound_table.specs.Range.{IsTrueOf};
 
 use crate::range::Range;
+use crate::worths::Foreseen;
 use othello_bits::Pos;
 use othello_rules::Scoring;
 use std::marker::Model;
@@ -49,6 +50,18 @@ pub trait Bounds {
     fn is_begun(&self, _position: &Pos) -> bool {
         false
     }
+
+    /// What threads have noted that a position is worth, in a respect that the search numbers. Any answer
+    /// is right: it is advice.
+    #[inline]
+    fn foreseen(&self, _position: &Pos, _respect: u16) -> Foreseen {
+        Foreseen::Unknown
+    }
+
+    /// Is told what a thread foresees that a position is worth in this respect, or that it has begun to
+    /// look, so that others need not look.
+    #[inline]
+    fn note_foreseen(&self, _position: &Pos, _respect: u16, _foreseen: Foreseen) {}
 
     /// Is told of each evaluation that orders moves or begins a search. Tests count them.
     #[inline]

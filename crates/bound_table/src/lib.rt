@@ -23,8 +23,10 @@ mod bounds;
 mod entry;
 mod range;
 mod table_fault;
+mod worths;
 
 pub use bound_table::BoundTable;
 pub use bounds::{Bounds, NoTable};
 pub use range::Range;
 pub use table_fault::TableFault;
+pub use worths::Foreseen;

@@ -19,7 +19,6 @@ use crate::shallow::{MOST_SHALLOW_EMPTIES, search_shallow};
 use crate::table_cutoff::{
     BELOW_ALL_SCORES, enhanced_cutoff, possible_scores, probe_cutoff, store_always, store_if_deep,
 };
-use crate::task::Task;
 use arrayvec::ArrayVec;
 use bound_table::Bounds;
 use othello_bits::{Pos, lowest, without};
@@ -191,26 +190,42 @@ fn search_by_worth<T: Bounds>(table: &T, position: Pos, moves: u64, bound: i8) -
     }
     judge_children(table, position, bound, &mut children);
     sort_children(&mut children);
-    if position.empties() < Task::FEWEST_SHARED_EMPTIES || children.len() >= 64 {
+    if position.empties() < FEWEST_SHARED || children.len() >= 64 {
         return search_children(table, position, &children, BELOW_ALL_SCORES, bound);
     }
     search_shared_children(table, position, &children, bound)
 }
 
-// How many children, the eldest ones, each thread searches in their order. If none of them is worth
-// more than the bound, all others most likely have to be searched ("young brothers wait": Feldmann,
-// Mysliwietz, Monien and Vornberger, 1989).
-const ELDEST_CHILDREN: u8 = 3;
+// The fewest empty squares of a position whose children threads share out among them. With fewer, a
+// thread has searched a child by the time that it has looked what others search.
+const FEWEST_SHARED: u8 = 14;
+
+// How many children, the eldest ones, each thread searches in their order, by the empty squares of
+// their parent. If none of them is worth more than the bound, all others most likely have to be
+// searched ("young brothers wait": Feldmann, Mysliwietz, Monien and Vornberger, 1989). The more empty
+// squares, the more a child costs that need not be searched.
+fn eldest_children(empties: u8) -> u8 {
+    match empties {
+        0..=17 => 1,
+        18..=20 => 2,
+        _ => 3,
+    }
+}
 
 // The index of the child to search next, of those in the mask `unsearched`. After the eldest children
 // it is the first one that no thread is searching (ABDADA: Weill, 1996), otherwise the first one.
-fn next_to_share<T: Bounds>(table: &T, children: &[Child], unsearched: u64) -> ChildIndex
+fn next_to_share<T: Bounds>(
+    table: &T,
+    children: &[Child],
+    unsearched: u64,
+    eldest: u8,
+) -> ChildIndex
     requires some { unsearched ≢ 0 }
     requires listed { (i : ℕ) → in_mask unsearched i ≡ true → i < length children.now }
     ensures { in_mask unsearched result ≡ true }
 {
     let first = lowest(unsearched);
-    if first.number() < ELDEST_CHILDREN {
+    if first.number() < eldest {
         return first;
     }
     let mut rest = unsearched;
@@ -238,8 +253,9 @@ fn search_shared_children<T: Bounds>(table: &T, position: Pos, children: &[Child
 {
     let mut best = BELOW_ALL_SCORES;
     let mut unsearched = indices_of(children);
+    let eldest = eldest_children(position.empties());
     while unsearched != 0 {
-        let index = next_to_share(table, children, unsearched);
+        let index = next_to_share(table, children, unsearched, eldest);
         unsearched = without(unsearched, index);
         let child = children[usize::from(index.number())];
         table.begin(&child.position);

@@ -1,7 +1,7 @@
 //! What a position is worth after some plies, by alpha-beta search over the evaluation: a guess, as
 //! the evaluation itself, that orders moves and begins searches. No contract depends on it.
 
-ghost use Rattle.std.specs.Prelude.{◌≡◌, ◌<◌, ◌≤ℤ◌, pos, All};
+ghost use Rattle.std.specs.Prelude.{◌≡◌, ◌<◌, ◌≤ℤ◌, pos, negsuc, All};
 ghost use Rattle.othello_rules.specs.Answer.{IsScore};
 ghost use Rattle.othello_bits.specs.Pos.{moves_of};
 ghost use Rattle.endgame_search.specs.Children.{IsChildOf};
@@ -9,7 +9,7 @@ ghost use Rattle.endgame_search.specs.Children.{IsChildOf};
 use crate::evaluation::{DISC, evaluate};
 use crate::move_order::{Child, add_children, next_child, sort_children};
 use arrayvec::ArrayVec;
-use bound_table::Bounds;
+use bound_table::{Bounds, Foreseen};
 use othello_bits::Pos;
 use othello_rules::{GREATEST_SCORE, Scoring};
 
@@ -185,6 +185,103 @@ fn guess_by(worth: u32) -> i8
     (discs.saturating_sub(GUESS_LESS) / 2 * 2) as i8
 }
 
+// The fewest empty squares of a position whose guess threads make together.
+const FEWEST_GUESSED_TOGETHER: u8 = 16;
+
+// The number under which threads note what a child is worth for a guess. `judged` has lower ones.
+const GUESS: u16 = 1000;
+
+// What a move is worth after some plies after it, if that is more than `low`; otherwise a bound of
+// it. From -`GREATEST_WORTH` to `GREATEST_WORTH`.
+fn foresee_move<T: Bounds>(table: &T, child: Child, plies: u8, low: i32) -> i32
+    requires { child.replies ≡ moves_of child.position }
+    ensures least { negsuc 511 ≤ℤ result }
+    ensures most { result ≤ℤ pos 512 }
+{
+    let least = low.max(-GREATEST_WORTH).wrapping_neg();
+    let worth = foresee(
+        table,
+        child.position,
+        child.replies,
+        plies,
+        -GREATEST_WORTH,
+        least,
+    );
+    worth.wrapping_neg().clamp(-GREATEST_WORTH, GREATEST_WORTH)
+}
+
+// The greatest worth of a move that a thread has noted, or that this one finds and notes. Where
+// `is_left` is false, it leaves out those that another thread has begun.
+fn best_noted<T: Bounds>(
+    table: &T,
+    position: Pos,
+    children: &[Child],
+    plies: u8,
+    is_left: bool,
+    best_so_far: i32,
+) -> i32
+    requires { All (IsChildOf position) children.now }
+{
+    let mut best = best_so_far;
+    for child in children {
+        if best >= GREATEST_WORTH {
+            return best;
+        }
+        let worth = match table.foreseen(&child.position, GUESS) {
+            Foreseen::Worth(noted) => i32::from(noted) - GREATEST_WORTH,
+            Foreseen::Begun if !is_left => BELOW_ALL_WORTHS,
+            _ => {
+                table.note_foreseen(&child.position, GUESS, Foreseen::Begun);
+                let worth = foresee_move(table, *child, plies, best);
+                let noted = Foreseen::Worth((worth + GREATEST_WORTH) as u16);
+                table.note_foreseen(&child.position, GUESS, noted);
+                worth
+            }
+        };
+        best = best.max(worth);
+    }
+    best
+}
+
+// The greatest worth of the moves to the children, by notes that threads share. Each thread looks at
+// those that no other one has begun, and then at what is left.
+fn foresee_noted<T: Bounds>(table: &T, position: Pos, children: &[Child], plies: u8) -> i32
+    requires { All (IsChildOf position) children.now }
+{
+    let best = best_noted(table, position, children, plies, false, BELOW_ALL_WORTHS);
+    best_noted(table, position, children, plies, true, best)
+}
+
+// What a position is worth after some plies, by notes that threads share.
+fn foresee_together<T: Bounds>(table: &T, position: Pos, moves: u64, plies: u8) -> i32
+    requires moves { moves ≡ moves_of position }
+    requires some { 0 < plies }
+{
+    let mut children = ArrayVec::<Child, 64>::new();
+    add_children(position, moves, &mut children);
+    sort_children(&mut children);
+    foresee_noted(table, position, &children, plies - 1)
+}
+
+// What a position is worth after some plies, by the work of all threads that guess its value.
+fn foresee_root<T: Bounds>(table: &T, position: Pos, plies: u8) -> i32
+    requires { 0 < plies }
+{
+    let moves = position.moves();
+    let is_shared = position.empties() >= FEWEST_GUESSED_TOGETHER && table.is_worth_sharing();
+    if moves != 0 && is_shared {
+        return foresee_together(table, position, moves, plies);
+    }
+    foresee(
+        table,
+        position,
+        moves,
+        plies,
+        -GREATEST_WORTH,
+        GREATEST_WORTH,
+    )
+}
+
 // A guess of a position's value.
 pub(crate) fn first_guess<T: Bounds>(table: &T, position: Pos) -> i8
     ensures { IsScore result }
@@ -194,14 +291,7 @@ pub(crate) fn first_guess<T: Bounds>(table: &T, position: Pos) -> i8
         return 0;
     }
     let plies = (empties - LEFT_BY_GUESS).min(MOST_PLIES_OF_GUESS);
-    let worth = foresee(
-        table,
-        position,
-        position.moves(),
-        plies,
-        -GREATEST_WORTH,
-        GREATEST_WORTH,
-    );
+    let worth = foresee_root(table, position, plies);
     let guess = guess_by(worth.unsigned_abs());
     if worth < 0 { -guess } else { guess }
 }

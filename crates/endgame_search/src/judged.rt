@@ -1,14 +1,15 @@
 //! The order of moves where many squares are empty: by what a shallow search finds that the children
-//! are worth, and by the opponent's mobility.
+//! are worth, and by the opponent's mobility. Threads that search one position share that work by
+//! notes in the table.
 
-ghost use Rattle.std.specs.Prelude.{◌≡◌, ◌≤ℤ◌, pos, negsuc};
+ghost use Rattle.std.specs.Prelude.{◌≡◌, ◌<◌, ◌≤ℤ◌, pos, negsuc, All};
 ghost use Rattle.othello_bits.specs.Pos.{moves_of};
-ghost use Rattle.endgame_search.specs.Children.{AreChildrenOf, IsSameChild};
+ghost use Rattle.endgame_search.specs.Children.{AreChildrenOf, IsChildOf};
 
 use crate::evaluation::DISC;
 use crate::foresight::{GREATEST_WORTH, foresee};
 use crate::move_order::Child;
-use bound_table::Bounds;
+use bound_table::{Bounds, Foreseen};
 use othello_bits::Pos;
 
 // The fewest empty squares of a position whose children are sorted by what they are worth. With
@@ -31,26 +32,83 @@ const ENOUGH: i32 = 32;
 // What more a child is worth makes no difference.
 const MOST_WORTH: i32 = 2000;
 
-// The child in the order by what it is worth for the opponent after some plies, and by the opponent's
-// mobility. All that is worth no more than `enough` counts alike.
-#[inline(always)]
-fn judged<T: Bounds>(table: &T, child: Child, plies: u8, enough: i32) -> Child
-    requires replies { child.replies ≡ moves_of child.position }
-    requires least { negsuc 1999 ≤ℤ enough }
-    requires most { enough ≤ℤ pos 2000 }
-    ensures { IsSameChild child result }
-{
-    let worth = foresee(
-        table,
-        child.position,
-        child.replies,
-        plies,
-        enough,
-        GREATEST_WORTH,
-    );
-    let above = worth.clamp(enough, MOST_WORTH) - enough;
-    child.judged(above as u16)
+// How children are judged: how many plies are foreseen, from which worth for the opponent on it makes
+// a difference, and the number under which threads note what they find.
+#[derive(Clone, Copy)]
+struct Look {
+    plies: u8,
+    enough: i32,
+    respect: u16,
 }
+
+impl Look {
+    // How the children of a position with this number of empty squares are judged, in a search for
+    // moves that are worth more than the bound.
+    fn at(empties: u8, bound: i8) -> Look
+        ensures least { negsuc 1999 ≤ℤ result.enough }
+        ensures most { result.enough ≤ℤ pos 2000 }
+    {
+        Look {
+            plies: plies_ahead(empties),
+            enough: DISC * (-i32::from(bound) - ENOUGH),
+            respect: 2 * u16::from(bound.unsigned_abs()) + u16::from(bound < 0),
+        }
+    }
+
+    // What the child is worth for the opponent after some plies, above what makes no difference.
+    #[inline(always)]
+    fn foresee<T: Bounds>(self, table: &T, child: Child) -> u16
+        requires replies { child.replies ≡ moves_of child.position }
+        requires least { negsuc 1999 ≤ℤ self.enough }
+        requires most { self.enough ≤ℤ pos 2000 }
+        ensures { result < 8192 }
+    {
+        let worth = foresee(
+            table,
+            child.position,
+            child.replies,
+            self.plies,
+            self.enough,
+            GREATEST_WORTH,
+        );
+        (worth.clamp(self.enough, MOST_WORTH) - self.enough) as u16
+    }
+
+    // The same, as a thread has noted it if threads note it at all; otherwise as it is foreseen.
+    #[inline(always)]
+    fn find<T: Bounds>(self, table: &T, child: Child, is_noted: bool) -> u16
+        requires replies { child.replies ≡ moves_of child.position }
+        requires least { negsuc 1999 ≤ℤ self.enough }
+        requires most { self.enough ≤ℤ pos 2000 }
+        ensures { result < 8192 }
+    {
+        if is_noted {
+            if let Foreseen::Worth(worth) = table.foreseen(&child.position, self.respect) {
+                return worth.min(8191);
+            }
+        }
+        self.foresee(table, child)
+    }
+
+    // Notes what each child is worth, but for those that another thread notes.
+    fn note<T: Bounds>(self, table: &T, position: Pos, children: &[Child])
+        requires children { All (IsChildOf position) children.now }
+        requires least { negsuc 1999 ≤ℤ self.enough }
+        requires most { self.enough ≤ℤ pos 2000 }
+    {
+        for child in children {
+            if table.foreseen(&child.position, self.respect) == Foreseen::Unknown {
+                table.note_foreseen(&child.position, self.respect, Foreseen::Begun);
+                let worth = self.foresee(table, *child);
+                table.note_foreseen(&child.position, self.respect, Foreseen::Worth(worth));
+            }
+        }
+    }
+}
+
+// The fewest empty squares of a position whose children's worths are noted. With fewer, to evaluate
+// a child takes no longer than to find it noted.
+const FEWEST_NOTED: u8 = 16;
 
 // Gives each child of a position its place in the order of a search for moves that are worth more
 // than the bound, if many squares are empty; with fewer it stays that by mobility. Nothing is sorted.
@@ -58,12 +116,16 @@ pub(crate) fn judge_children<T: Bounds>(table: &T, position: Pos, bound: i8, chi
     requires { AreChildrenOf position children.old }
     ensures { AreChildrenOf position children.new }
 {
-    if position.empties() < FEWEST_JUDGED || children.len() == 1 {
+    let empties = position.empties();
+    if empties < FEWEST_JUDGED || children.len() == 1 {
         return;
     }
-    let plies = plies_ahead(position.empties());
-    let enough = DISC * (-i32::from(bound) - ENOUGH);
+    let look = Look::at(empties, bound);
+    let is_noted = empties >= FEWEST_NOTED && table.is_worth_sharing();
+    if is_noted {
+        look.note(table, position, children);
+    }
     for child in children.iter_mut() {
-        *child = judged(table, *child, plies, enough);
+        *child = child.judged(look.find(table, *child, is_noted));
     }
 }

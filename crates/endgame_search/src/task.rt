@@ -39,8 +39,8 @@ impl Task {
     /// The greatest number of empty squares of a task.
     pub const MOST_EMPTIES: u8 = 60;
 
-    /// The fewest empty squares of a position whose moves threads share out among them. A thread
-    /// searches a position with fewer in less time than it takes to look what others search.
+    /// The fewest empty squares of a task that threads solve together. One thread solves a task with
+    /// fewer in less time than others take to join it.
     pub const FEWEST_SHARED_EMPTIES: u8 = 16;
 
     /// The task of a position under a scoring. `TooMany` if the position has more than `limit`
