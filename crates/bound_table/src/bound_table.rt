@@ -26,6 +26,17 @@ const MOST_BEGUN: usize = 4096;
 // The most places for what threads foresee. With 4,096, four threads evaluate 3 to 6 % more.
 const MOST_WORTHS: usize = 16_384;
 
+// How many places there are for what threads foresee, beside this number of entries.
+fn worths_beside(entries: usize) -> usize
+    ensures { entries ≡ 0 → result ≡ 0 }
+{
+    if entries < FEWEST_SHARED_ENTRIES {
+        0
+    } else {
+        entries.min(MOST_WORTHS)
+    }
+}
+
 // The fewest entries of a table over which threads share a position. With fewer, the table forgets
 // much of what they find, and one thread is as fast.
 const FEWEST_SHARED_ENTRIES: usize = 4096;
@@ -128,7 +139,7 @@ impl BoundTable {
         let Ok(begun) = Begun::new(alloc, entries.min(MOST_BEGUN)) else {
             return Err(TableFault::Memory);
         };
-        let Ok(worths) = Worths::new(alloc, entries.min(MOST_WORTHS)) else {
+        let Ok(worths) = Worths::new(alloc, worths_beside(entries)) else {
             return Err(TableFault::Memory);
         };
         Ok(BoundTable {

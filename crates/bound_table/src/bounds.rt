@@ -55,7 +55,7 @@ pub trait Bounds {
     /// is right: it is advice.
     #[inline]
     fn foreseen(&self, _position: &Pos, _respect: u16) -> Foreseen {
-        Foreseen::Unknown
+        Foreseen::Unkept
     }
 
     /// Is told what a thread foresees that a position is worth in this respect, or that it has begun to

@@ -8,6 +8,8 @@ use std::sync::atomic::{AtomicU64, Ordering};
 /// What is noted of a position's worth in one respect.
 #[derive(Clone, Copy, PartialEq, Eq, Debug)]
 pub enum Foreseen {
+    /// The table keeps no notes.
+    Unkept,
     /// Nothing, or no longer.
     Unknown,
     /// A thread has begun to look.
@@ -52,7 +54,7 @@ impl Worths {
     #[inline]
     pub(crate) fn find(&self, hash: u64) -> Foreseen {
         let Some(place) = self.place(hash) else {
-            return Foreseen::Unknown;
+            return Foreseen::Unkept;
         };
         let note = place.load(Ordering::SeqCst);
         if note & HASH_BITS != hash & HASH_BITS {
@@ -71,7 +73,7 @@ impl Worths {
             return;
         };
         let low = match foreseen {
-            Foreseen::Unknown => return,
+            Foreseen::Unkept | Foreseen::Unknown => return,
             Foreseen::Begun => 0,
             Foreseen::Worth(worth) => worth.saturating_add(1),
         };

@@ -229,7 +229,7 @@ fn best_noted<T: Bounds>(
         }
         let worth = match table.foreseen(&child.position, GUESS) {
             Foreseen::Worth(noted) => i32::from(noted) - GREATEST_WORTH,
-            Foreseen::Begun if !is_left => BELOW_ALL_WORTHS,
+            Foreseen::Begun | Foreseen::Unkept if !is_left => BELOW_ALL_WORTHS,
             _ => {
                 table.note_foreseen(&child.position, GUESS, Foreseen::Begun);
                 let worth = foresee_move(table, *child, plies, best);
@@ -268,8 +268,7 @@ fn foresee_root<T: Bounds>(table: &T, position: Pos, plies: u8) -> i32
     requires { 0 < plies }
 {
     let moves = position.moves();
-    let is_shared = position.empties() >= FEWEST_GUESSED_TOGETHER && table.is_worth_sharing();
-    if moves != 0 && is_shared {
+    if moves != 0 && position.empties() >= FEWEST_GUESSED_TOGETHER {
         return foresee_together(table, position, moves, plies);
     }
     foresee(

@@ -74,7 +74,7 @@ impl Look {
         (worth.clamp(self.enough, MOST_WORTH) - self.enough) as u16
     }
 
-    // The same, as a thread has noted it if threads note it at all; otherwise as it is foreseen.
+    // The same, as a thread has noted it if `is_noted`; otherwise as it is foreseen.
     #[inline(always)]
     fn find<T: Bounds>(self, table: &T, child: Child, is_noted: bool) -> u16
         requires replies { child.replies ≡ moves_of child.position }
@@ -121,7 +121,7 @@ pub(crate) fn judge_children<T: Bounds>(table: &T, position: Pos, bound: i8, chi
         return;
     }
     let look = Look::at(empties, bound);
-    let is_noted = empties >= FEWEST_NOTED && table.is_worth_sharing();
+    let is_noted = empties >= FEWEST_NOTED;
     if is_noted {
         look.note(table, position, children);
     }
