@@ -23,6 +23,7 @@ known_of_canonical g p range holds = record {
 }
 
 -- what is known of q is shown of p only where q is the canonical position of p
-pub shown_of_canonical : (shown : Option RangeView) (g : Scoring) (p q : PosView) (range : RangeView) → SomeIff shown (q ≡ canonical_of p) range → IsKnown g q range → IfSome shown (IsTrueOf g p)
+pub shown_of_canonical : (shown : Option RangeView) (g : Scoring) (p q : PosView) (range : RangeView)
+    → SomeIff shown (q ≡ canonical_of p) range → IsKnown g q range → IfSome shown (IsTrueOf g p)
 shown_of_canonical None g p q range is known = tt
 shown_of_canonical (Some r) g p q range (same, is) known = rw (is, ← value_of-canonical_of g p, ← same) known.holds

@@ -1,5 +1,6 @@
 -- The best moves of a position, found by what each move is worth.
-use Rattle.std.proofs.Common.{◌≡◌, ◌≢◌, ◌⊎◌, ℕ, ◌+◌, ◌^◌, ◌<◌, ℤ, pos, negsuc, neg_ℤ, ◌-ℤ◌, ◌≤ℤ◌, ◌<ℤ◌, true, ◌||◌, ◌==◌, List, [], take, length, get_or, All, refl, ap, sym, ◌∙◌, subst, inl, inr, arith}
+use Rattle.std.proofs.Common.{◌≡◌, ◌≢◌, ◌⊎◌, ℕ, ◌+◌, ◌^◌, ◌<◌, ℤ, pos, negsuc, neg_ℤ, ◌-ℤ◌, ◌≤ℤ◌, ◌<ℤ◌, true, ◌||◌}
+use Rattle.std.proofs.Common.{◌==◌, List, [], take, length, get_or, All, refl, ap, sym, ◌∙◌, subst, inl, inr, arith}
 use Rattle.std.proofs.lemmas.Int.{ints, by_lt_z}
 use Rattle.std.proofs.lemmas.Bool.{cases_Bool, both_ways, and_parts, and_from, or_cases, eqb-true, eq-eqb, false_from_ne_true}
 use Rattle.std.proofs.lemmas.Bool.Decides.{Decides-int_eq}
@@ -107,7 +108,8 @@ module _ (g : Scoring) (p : PosView) (low high : ℤ) (items : List Child) (i : 
             covered = All-more (λ (c : Child). neg_ℤ (value_of g c.position) ≤ℤ score) items i x here held.covered
                 (subst (λ (c : Child). neg_ℤ (value_of g c.position) ≤ℤ score) is (omega (arith, ints)));
             kept = All-more (λ (c : Child). neg_ℤ (value_of g c.position) ≡ score → in_mask new c.square ≡ true) items i x here
-                (All-weaker (λ (c : Child). neg_ℤ (value_of g c.position) ≡ score → in_mask squares c.square ≡ true) (λ (c : Child). neg_ℤ (value_of g c.position) ≡ score → in_mask new c.square ≡ true)
+                (All-weaker (λ (c : Child). neg_ℤ (value_of g c.position) ≡ score → in_mask squares c.square ≡ true)
+                    (λ (c : Child). neg_ℤ (value_of g c.position) ≡ score → in_mask new c.square ≡ true)
                 (λ c k e. added c.square ∙ ap (λ b. b || x.square == c.square) (k e)) (take i items) held.kept)
                 (subst (λ (c : Child). neg_ℤ (value_of g c.position) ≡ score → in_mask new c.square ≡ true) is
                 (λ e. added x.square ∙ ap (λ b. in_mask squares x.square || b) (eq-eqb x.square x.square refl) ∙ or-true (in_mask squares x.square)));
@@ -120,7 +122,8 @@ module _ (g : Scoring) (p : PosView) (low high : ℤ) (items : List Child) (i : 
           )
 
     -- more than the best one before it
-    module _ (more : score <ℤ w) (same : w ≡ neg_ℤ (value_of g x.position)) (above : value_of g p ≤ℤ high) (alone : (q : ℕ) → in_mask new q ≡ (in_mask 0 q || x.square == q)) where
+    module _ (more : score <ℤ w) (same : w ≡ neg_ℤ (value_of g x.position)) (above : value_of g p ≤ℤ high)
+        (alone : (q : ℕ) → in_mask new q ≡ (in_mask 0 q || x.square == q)) where
       pub begun_with : HoldsBest g p low high (take (i + 1) items) w new
       begun_with =
           let k = child_worth g p x child in
@@ -139,7 +142,8 @@ module _ (g : Scoring) (p : PosView) (low high : ℤ) (items : List Child) (i : 
                 (λ c h. let j : neg_ℤ (value_of g c.position) ≤ℤ score = h in omega (arith, ints)) (take i items) held.covered)
                 (subst (λ (c : Child). neg_ℤ (value_of g c.position) ≤ℤ w) is (omega (arith, ints)));
             kept = All-more (λ (c : Child). neg_ℤ (value_of g c.position) ≡ w → in_mask new c.square ≡ true) items i x here
-                (All-weaker (λ (c : Child). neg_ℤ (value_of g c.position) ≤ℤ score) (λ (c : Child). neg_ℤ (value_of g c.position) ≡ w → in_mask new c.square ≡ true)
+                (All-weaker (λ (c : Child). neg_ℤ (value_of g c.position) ≤ℤ score)
+                    (λ (c : Child). neg_ℤ (value_of g c.position) ≡ w → in_mask new c.square ≡ true)
                 (λ c h e. let j : neg_ℤ (value_of g c.position) ≤ℤ score = h in absurd (omega (arith, ints))) (take i items) held.covered)
                 (subst (λ (c : Child). neg_ℤ (value_of g c.position) ≡ w → in_mask new c.square ≡ true) is
                 (λ e. alone x.square ∙ ap (λ b. in_mask 0 x.square || b) (eq-eqb x.square x.square refl) ∙ or-true (in_mask 0 x.square)));
@@ -169,10 +173,14 @@ module _ (g : Scoring) (p : PosView) (low high : ℤ) (items : List Child) (scor
       ]
 
   squares_found : low ≤ℤ value_of g p → squares ≡ mask_where (is_best_move g p)
-  squares_found k = is_where squares (is_best_move g p) held.small (λ q h. elim (cases_Bool (is_best_move g p q)) [ inl b ↦ kept q b ∙ sym b | inr n ↦ false_from_ne_true (in_mask squares q) (λ b. both_ways (is_best_move g p q) n (best q b)) ∙ sym n ])
+  squares_found k =
+      is_where squares (is_best_move g p) held.small
+          (λ q h. elim (cases_Bool (is_best_move g p q)) [ inl b ↦ kept q b ∙ sym b | inr n ↦
+          false_from_ne_true (in_mask squares q) (λ b. both_ways (is_best_move g p q) n (best q b)) ∙ sym n ])
     where
       by_square : All (λ (c : Child). neg_ℤ (value_of g (play_of p c.square)) ≡ score → in_mask squares c.square ≡ true) items
-      by_square i x h = subst (λ d. neg_ℤ (value_of g d) ≡ score → in_mask squares (get_or items i x).square ≡ true) (children.each i x h).position (held.kept i x h)
+      by_square i x h =
+          subst (λ d. neg_ℤ (value_of g d) ≡ score → in_mask squares (get_or items i x).square ≡ true) (children.each i x h).position (held.kept i x h)
 
       kept : (q : ℕ) → is_best_move g p q ≡ true → in_mask squares q ≡ true
       kept q b =

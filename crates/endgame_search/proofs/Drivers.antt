@@ -56,7 +56,8 @@ at_first low high v l h lower upper i w range holds is_low is_high raised' lower
     let n : shown h ≡ i.high = omega (arith, ints) in
     let m : shown lower ≡ int_max (shown low) i.low = omega (arith, ints, clamps, raised', z, x, a, b, k, c, d, e) in
     let o : shown upper ≡ int_min (shown high) i.high = omega (arith, ints, clamps, lowered', n, y, a, b, k, c, d, e) in
-    begun (shown low) (shown high) v (shown lower) (shown upper) i (omega (arith, ints, x, c), omega (arith, ints, x, y, d), omega (arith, ints, y, e)) range holds m o
+    begun (shown low) (shown high) v (shown lower) (shown upper) i
+        (omega (arith, ints, x, c), omega (arith, ints, x, y, d), omega (arith, ints, y, e)) range holds m o
 
 -- the bound asked lies between them, so that its score brings them closer
 module _ (lower upper s m b : ℤ) (l : IsScore lower) (u : IsScore upper) (small : negsuc 127 ≤ℤ s) (great : s ≤ℤ pos 127) (open' : lt_z lower upper ≡ true)
@@ -115,7 +116,8 @@ module _ (low high v lower upper b s : ℤ) (held : IsBetween low high v lower u
       }
 
 -- where they meet one of them is a fail-soft score of the window
-module _ (low high v lower upper : ℤ) (window : IsWindow low high) (held : IsBetween (shown low) (shown high) v lower upper) (met : lt_z lower upper ≡ false) where
+module _ (low high v lower upper : ℤ) (window : IsWindow low high)
+    (held : IsBetween (shown low) (shown high) v lower upper) (met : lt_z lower upper ≡ false) where
   pub lower_fail_soft : le_z (shown high) lower ≡ true → IsFailSoft low high v lower
   lower_fail_soft h =
       let a = shown_same low window.0 (let d = window.1 in let e = window.2 in omega (arith, ints)) in

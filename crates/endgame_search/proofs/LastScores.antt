@@ -1,10 +1,13 @@
 -- The value where one square is empty and the mover moves there, from the count of discs that the move turns.
-use Rattle.std.proofs.Common.{◌≡◌, ℕ, zero, suc, ◌+◌, ◌-◌, ◌<◌, ◌≤◌, ◌^◌, Bool, true, false, cond, not, ◌&&◌, ◌||◌, eqb, nat_eq, List, [], ◌∷◌, length, get_or, Option, Some, None, refl, sym, ap, ◌∙◌, subst, inl, inr, arith, ℤ, pos, negsuc, neg_ℤ, ◌-ℤ◌}
+use Rattle.std.proofs.Common.{◌≡◌, ℕ, zero, suc, ◌+◌, ◌-◌, ◌<◌, ◌≤◌, ◌^◌, Bool, true, false, cond, not, ◌&&◌, ◌||◌, eqb}
+use Rattle.std.proofs.Common.{nat_eq, List, [], ◌∷◌, length, get_or, Option, Some, None, refl, sym, ap, ◌∙◌, subst, inl}
+use Rattle.std.proofs.Common.{inr, arith, ℤ, pos, negsuc, neg_ℤ, ◌-ℤ◌}
 use Rattle.std.specs.Prelude.{slice_get, nat_lt}
 use Rattle.std.specs.List.{list_any, count_by}
 use Rattle.std.specs.Int.{int_signum}
 use Rattle.std.specs.Int.Count.{ones}
-use Rattle.std.proofs.lemmas.Bool.{agree_below_at, cases_Bool, cases_lt, eqb-true, eq-eqb, false≢true, false_from_ne_true, and_parts, or_cases, both_ways, ltb-true}
+use Rattle.std.proofs.lemmas.Bool.{agree_below_at, cases_Bool, cases_lt, eqb-true, eq-eqb, false≢true}
+use Rattle.std.proofs.lemmas.Bool.{false_from_ne_true, and_parts, or_cases, both_ways, ltb-true}
 use Rattle.std.proofs.lemmas.Int.{ints}
 use Rattle.std.proofs.lemmas.Nat.{ones-le, zero_from_ones}
 use Rattle.std.proofs.Math.Bool.{or-true, or-false}
@@ -171,7 +174,8 @@ module _ (p : PosView) (s : ℕ) (m : IsMove p s) where
   placed_apart i =
       false_from_ne_true (eqb i s && turns i) (λ t.
       let h = and_parts (eqb i s) (turns i) t in
-      both_ways (same_cell cell.White (cell_at Black p s)) (empty_not_white (in_mask p.own s) (in_mask p.opp s) was_empty) (turns_cell s (ap turns (sym (eqb-true i s h.0)) ∙ h.1)))
+      both_ways (same_cell cell.White (cell_at Black p s)) (empty_not_white (in_mask p.own s) (in_mask p.opp s) was_empty)
+          (turns_cell s (ap turns (sym (eqb-true i s h.0)) ∙ h.1)))
 
   own_apart : (i : ℕ) → (in_mask p.own i && (eqb i s || turns i)) ≡ false
   own_apart i =
@@ -185,7 +189,9 @@ module _ (p : PosView) (s : ℕ) (m : IsMove p s) where
   own_count : p.own < 2 ^ 64 → ones (play_of p s).opp ≡ ones p.own + ones (flips_of p s) + 1
   own_count fits =
       let r = play_of p s in
-      let e : ones r.opp ≡ count_below 64 (λ i. in_mask p.own i || (eqb i s || turns i)) = ap ones (is_where r.opp (λ i. in_mask p.own i || (eqb i s || turns i)) (play_apart p s).opp_fits after_move) ∙ ones_where (λ i. in_mask p.own i || (eqb i s || turns i)) in
+      let e : ones r.opp ≡ count_below 64 (λ i. in_mask p.own i || (eqb i s || turns i)) =
+          ap ones (is_where r.opp (λ i. in_mask p.own i || (eqb i s || turns i)) (play_apart p s).opp_fits after_move)
+              ∙ ones_where (λ i. in_mask p.own i || (eqb i s || turns i)) in
       let a = both_below 64 (in_mask p.own) (λ i. eqb i s || turns i) own_apart in
       let b = both_below 64 (λ i. eqb i s) turns placed_apart in
       let c = one_below s on_board in
@@ -197,7 +203,8 @@ module _ (p : PosView) (s : ℕ) (m : IsMove p s) where
   last_count fits = omega (arith, own_count fits, ones-le 64 (play_of p s).opp (play_apart p s).opp_fits)
 
   -- where nothing is empty after it, so much is the position worth
-  pub last_score : (g : Scoring) → p.own < 2 ^ 64 → IsFullExcept p s → (n : ℕ) → n ≡ ones p.own + ones (flips_of p s) + 1 → value_of g p ≡ score_of g n (64 - n) 0
+  pub last_score : (g : Scoring) → p.own < 2 ^ 64 → IsFullExcept p s → (n : ℕ)
+      → n ≡ ones p.own + ones (flips_of p s) + 1 → value_of g p ≡ score_of g n (64 - n) 0
   unfolding final_of
   last_score g fits last n is =
       let r = play_of p s in
@@ -219,7 +226,8 @@ turns_none p s e m =
     let t = first_turned (rules.flips P s) (is_move-from_IsMove p s m) in
     let h : has P cell.White t.0 ≡ true = turns_other p s m t.0 t.1 in
     let low : t.0 < 64 = subst (λ n. t.0 < n) (length-cells_of Black p) (counts.has_within P cell.White t.0 h) in
-    both_ways (in_mask (mask_where (λ i. mem i (rules.flips P s))) t.0) (none_from_zero _ (zero_from_ones (mask_where (λ i. mem i (rules.flips P s))) e) t.0) (in_mask-where (λ i. mem i (rules.flips P s)) t.0 low ∙ t.1)
+    both_ways (in_mask (mask_where (λ i. mem i (rules.flips P s))) t.0)
+        (none_from_zero _ (zero_from_ones (mask_where (λ i. mem i (rules.flips P s))) e) t.0) (in_mask-where (λ i. mem i (rules.flips P s)) t.0 low ∙ t.1)
 
 pub turns_some : (p : PosView) (s : ℕ) → 0 < ones (flips_of p s) → IsMove p s
 unfolding flips_of ones
@@ -227,7 +235,8 @@ turns_some p s h =
     let P = position_of Black p in
     let f : ℕ → Bool = λ i. mem i (rules.flips P s) in
     let t = some_square (mask_where f) (where_lt f) (λ e. let z : ones (mask_where f) ≡ 0 = ap ones e in omega (arith, h, z)) in
-    let low : t.0 < 64 = elim (cases_lt t.0 64) [ inl l ↦ l | inr g ↦ absurd (both_ways (in_mask (mask_where f) t.0) (in_mask-above (mask_where f) t.0 (where_lt f) g) t.1) ] in
+    let low : t.0 < 64 =
+        elim (cases_lt t.0 64) [ inl l ↦ l | inr g ↦ absurd (both_ways (in_mask (mask_where f) t.0) (in_mask-above (mask_where f) t.0 (where_lt f) g) t.1) ] in
     let m : rules.is_move P s ≡ true = not_empty (rules.flips P s) t.0 (sym (in_mask-where f t.0 low) ∙ t.1) in
     let b : s < 64 = subst (λ n. s < n) (length-cells_of Black p) (counts.has_within P cell.Empty s (move_empty P s m)) in
     IsMove-from p s b m

@@ -40,7 +40,8 @@ moves_to_empty p q m = move_empty (position_of side.Black p) q (is_move-from_IsM
 pub pass_empty : (p : PosView) (q : ℕ) → IsEmptySquare (pass_of p) q → IsEmptySquare p q
 unfolding pass_of
 pass_empty p q h =
-    let e : position_of side.White (pass_of p) ≡ rules.pass (position_of side.Black p) = position_of-discs_of (rules.pass (position_of side.Black p)) (length-cells_of side.Black p) in
+    let e : position_of side.White (pass_of p) ≡ rules.pass (position_of side.Black p) =
+        position_of-discs_of (rules.pass (position_of side.Black p)) (length-cells_of side.Black p) in
     subst (λ P. has P cell.Empty q ≡ true) e (empty-either side.Black side.White (pass_of p) q h)
 
 disc-no_empty : (s : Side) → same_cell cell.Empty (disc s) ≡ false
@@ -58,13 +59,19 @@ play_empty p q i h =
     let after : has (rules.play P q) cell.Empty i ≡ true = subst (λ Q. has Q cell.Empty i ≡ true) e (empty-either side.Black side.White (play_of p q) i h) in
     let low : i < 64 = on_board side.Black (play_of p q) i h in
     let within : i < length P.cells = subst (λ n. i < n) (sym (length-cells_of side.Black p)) low in
-    let painted : get_or (rules.painted_cells (own P) qs P.cells) i cell.Empty ≡ cond (list_any (nat_eq i) qs) (own P) (get_or P.cells i cell.Empty) = get_or-painted (own P) qs P.cells i cell.Empty within in
-    let there : same_cell cell.Empty (cond (list_any (nat_eq i) qs) (own P) (get_or P.cells i cell.Empty)) ≡ true = ap (same_cell cell.Empty) (sym painted) ∙ counts.has_get_or (rules.play P q) cell.Empty i cell.Empty after in
+    let painted : get_or (rules.painted_cells (own P) qs P.cells) i cell.Empty ≡ cond (list_any (nat_eq i) qs) (own P) (get_or P.cells i cell.Empty) =
+        get_or-painted (own P) qs P.cells i cell.Empty within in
+    let there : same_cell cell.Empty (cond (list_any (nat_eq i) qs) (own P) (get_or P.cells i cell.Empty)) ≡ true =
+        ap (same_cell cell.Empty) (sym painted) ∙ counts.has_get_or (rules.play P q) cell.Empty i cell.Empty after in
     elim (cases_Bool (list_any (nat_eq i) qs)) [
-      | inl b ↦ absurd (both_ways (same_cell cell.Empty (own P)) (disc-no_empty side.Black) (subst (λ t. same_cell cell.Empty (cond t (own P) (get_or P.cells i cell.Empty)) ≡ true) b there))
+      | inl b ↦
+          absurd (both_ways (same_cell cell.Empty (own P)) (disc-no_empty side.Black)
+              (subst (λ t. same_cell cell.Empty (cond t (own P) (get_or P.cells i cell.Empty)) ≡ true) b there))
       | inr b ↦
-          let old : same_cell cell.Empty (get_or P.cells i cell.Empty) ≡ true = subst (λ t. same_cell cell.Empty (cond t (own P) (get_or P.cells i cell.Empty)) ≡ true) b there in
-          let was : same_cell cell.Empty (cell_at side.Black p i) ≡ true = ap (same_cell cell.Empty) (sym (get_or-cells_of side.Black p i cell.Empty low)) ∙ old in (
+          let old : same_cell cell.Empty (get_or P.cells i cell.Empty) ≡ true =
+              subst (λ t. same_cell cell.Empty (cond t (own P) (get_or P.cells i cell.Empty)) ≡ true) b there in
+          let was : same_cell cell.Empty (cell_at side.Black p i) ≡ true =
+              ap (same_cell cell.Empty) (sym (get_or-cells_of side.Black p i cell.Empty low)) ∙ old in (
             has_empty side.Black p i low ∙ sym (same-empty_cell side.Black p i) ∙ was,
             λ same. both_ways (list_any (nat_eq i) qs) b (or_left (nat_eq i q) (list_any (nat_eq i) (rules.flips P q)) (eq-eqb i q same)),
           )
@@ -82,7 +89,8 @@ last_some p s m z = both_ways (in_mask (moves_of p) s) (none_from_zero (moves_of
 
 module _ (p : PosView) (full : (q : ℕ) → IsEmptySquare p q → ⊥) where
   full_over : HasNoMove p × HasNoMove (pass_of p)
-  full_over = (no_moves_from p (λ q m. full q (moves_to_empty p q m)), no_moves_from (pass_of p) (λ q m. full q (pass_empty p q (moves_to_empty (pass_of p) q m))))
+  full_over =
+      (no_moves_from p (λ q m. full q (moves_to_empty p q m)), no_moves_from (pass_of p) (λ q m. full q (pass_empty p q (moves_to_empty (pass_of p) q m))))
 
 module _ (p : PosView) (s : ℕ) (last : IsFullExcept p s) where
   pub full_after : (q : ℕ) → IsEmptySquare (play_of p s) q → ⊥

@@ -1,5 +1,6 @@
 -- The value of a position by the worth of its moves.
-use Rattle.std.proofs.Common.{◌≡◌, ◌≢◌, ◌⊎◌, ℕ, ◌+◌, ◌<◌, ℤ, neg_ℤ, ◌≤ℤ◌, true, List, take, drop, length, get_or, set, All, Contains, inl, inr, sym, ap, ◌∙◌, subst, arith}
+use Rattle.std.proofs.Common.{◌≡◌, ◌≢◌, ◌⊎◌, ℕ, ◌+◌, ◌<◌, ℤ, neg_ℤ, ◌≤ℤ◌, true, List, take, drop, length, get_or, set}
+use Rattle.std.proofs.Common.{All, Contains, inl, inr, sym, ap, ◌∙◌, subst, arith}
 use Rattle.othello_rules.specs.Masks.{in_mask}
 use Rattle.std.specs.List.Sorted.{IsPermutation}
 use Rattle.std.proofs.lemmas.Int.{ints}
@@ -25,7 +26,8 @@ child_empties p c h =
     omega (arith, e, empties_positive p c.square h.legal, empties-play p c.square h.legal)
 
 -- a pass where the opponent has a move
-pub passed_worth : (g : Scoring) (p c : PosView) (replies : ℕ) → HasNoMove p → c ≡ pass_of p → replies ≡ moves_of c → replies ≢ 0 → value_of g p ≡ neg_ℤ (value_of g c)
+pub passed_worth : (g : Scoring) (p c : PosView) (replies : ℕ) → HasNoMove p → c ≡ pass_of p → replies ≡ moves_of c
+    → replies ≢ 0 → value_of g p ≡ neg_ℤ (value_of g c)
 passed_worth g p c replies none e r some =
     value-pass g p none (λ z. some (r ∙ ap moves_of e ∙ z)) ∙ ap (λ d. neg_ℤ (value_of g d)) (sym e)
 
@@ -48,7 +50,8 @@ searched_more g items i x best more h is grow one all =
     (subst (λ (c : Child). neg_ℤ (value_of g c.position) ≤ℤ more) is one)
 
 -- where every move is worth no more than the best, nor is the value
-pub value_at_most : (g : Scoring) (p : PosView) (items : List Child) (searched best : ℤ) → moves_of p ≢ 0 → UnlistedAreAtMost g p searched items → searched ≤ℤ best
+pub value_at_most : (g : Scoring) (p : PosView) (items : List Child) (searched best : ℤ) → moves_of p ≢ 0
+    → UnlistedAreAtMost g p searched items → searched ≤ℤ best
     → All (λ (c : Child). neg_ℤ (value_of g c.position) ≤ℤ best) items
     → value_of g p ≤ℤ best
 value_at_most g p items searched best some unlisted more all =
@@ -69,7 +72,8 @@ none_unlisted g p items best children = record { each = children.each; every = �
 
 -- what a sort of the list leaves
 listed_sorted : (items sorted : List Child) (q : ℕ) → IsPermutation items sorted → Contains (child_squares items) q → Contains (child_squares sorted) q
-listed_sorted items sorted q permuted l = Contains-permutation (child_squares items) (child_squares sorted) q (IsPermutation-map (λ (c : Child). c.square) items sorted permuted) l
+listed_sorted items sorted q permuted l =
+    Contains-permutation (child_squares items) (child_squares sorted) q (IsPermutation-map (λ (c : Child). c.square) items sorted permuted) l
 
 pub children_sorted : (p : PosView) (items sorted : List Child) → IsPermutation items sorted → AreChildrenOf p items → AreChildrenOf p sorted
 children_sorted p items sorted permuted children =
@@ -82,7 +86,8 @@ children_sorted p items sorted permuted children =
 refilled : (n : ℕ) (old items : List Child) → n ≡ length items → refill n old items ≡ items
 refilled n old items e = take_at items (drop (length items) old) n (sym e)
 
-pub judged_sorted : (p : PosView) (n : ℕ) (old items sorted : List Child) → n ≡ length items → IsPermutation (refill n old items) sorted → AreChildrenOf p items → AreChildrenOf p sorted
+pub judged_sorted : (p : PosView) (n : ℕ) (old items sorted : List Child) → n ≡ length items
+    → IsPermutation (refill n old items) sorted → AreChildrenOf p items → AreChildrenOf p sorted
 judged_sorted p n old items sorted e permuted children =
     children_sorted p items sorted (subst (λ l. IsPermutation l sorted) (refilled n old items e) permuted) children
 
@@ -95,14 +100,16 @@ child_judged p c d same h =
       replies = same.replies ∙ h.replies ∙ ap moves_of (sym same.position);
     }
 
-pub children_judged : (p : PosView) (items : List Child) (i : ℕ) (x d : Child) → i < length items → IsSameChild (get_or items i x) d → AreChildrenOf p items → AreChildrenOf p (set items i d)
+pub children_judged : (p : PosView) (items : List Child) (i : ℕ) (x d : Child) → i < length items
+    → IsSameChild (get_or items i x) d → AreChildrenOf p items → AreChildrenOf p (set items i d)
 children_judged p items i x d h same children =
     record {
       each = All-set (IsChildOf p) items i d (child_judged p (get_or items i x) d same (children.each i x h)) children.each;
       every = λ q m. subst (λ l. Contains l q) (sym (map-set_same (λ (c : Child). c.square) items i d x same.square)) (children.every q m);
     }
 
-pub unlisted_sorted : (g : Scoring) (p : PosView) (best : ℤ) (items sorted : List Child) → IsPermutation items sorted → UnlistedAreAtMost g p best items → UnlistedAreAtMost g p best sorted
+pub unlisted_sorted : (g : Scoring) (p : PosView) (best : ℤ) (items sorted : List Child) → IsPermutation items sorted
+    → UnlistedAreAtMost g p best items → UnlistedAreAtMost g p best sorted
 unlisted_sorted g p best items sorted permuted unlisted =
     record {
       each = All-permutation (IsChildOf p) items sorted permuted unlisted.each;
@@ -110,7 +117,8 @@ unlisted_sorted g p best items sorted permuted unlisted =
     }
 
 -- the children after one without replies that was searched
-pub unlisted_after_first : (g : Scoring) (p : PosView) (s : NextChild) (items more : List Child) (best : ℤ) → AreSplitAt p s items → neg_ℤ (value_of g s.child.position) ≤ℤ best
+pub unlisted_after_first : (g : Scoring) (p : PosView) (s : NextChild) (items more : List Child) (best : ℤ)
+    → AreSplitAt p s items → neg_ℤ (value_of g s.child.position) ≤ℤ best
     → All (IsChildOf p) more → ((q : ℕ) → (in_mask s.rest q ≡ true) ⊎ Contains (child_squares items) q → Contains (child_squares more) q)
     → UnlistedAreAtMost g p best more
 unlisted_after_first g p s items more best split worth each every =

@@ -19,7 +19,8 @@ pub none_among : (p : PosView) (squares left : ℕ) → left ≡ 0 → AreAmong 
 none_among p squares left none among q m h = both_ways (in_mask left q) (none_from_zero left none q) (among q m h)
 
 -- the square t is taken out of the mask old
-module _ (p : PosView) (squares old new t : ℕ) (here : in_mask old t ≡ true) (taken : (i : ℕ) → in_mask new i ≡ (in_mask old i && not (nat_eq t i))) (among : AreAmong p squares old) where
+module _ (p : PosView) (squares old new t : ℕ) (here : in_mask old t ≡ true)
+    (taken : (i : ℕ) → in_mask new i ≡ (in_mask old i && not (nat_eq t i))) (among : AreAmong p squares old) where
   after_taken : (q : ℕ) → IsMove p q → in_mask squares q ≡ true → (q ≡ t) ⊎ (in_mask new q ≡ true)
   after_taken q m h = still_there old new t here taken q (among q m h)
 
@@ -44,7 +45,8 @@ pub record IsTriedUpTo (g : Scoring) (p : PosView) (m : NextMove) (best : ℤ) :
   pub every : (q : ℕ) → IsMove p q → (q ≡ square) ⊎ ((in_mask m.rest q ≡ true) ⊎ (neg_ℤ (value_of g (play_of p q)) ≤ℤ best))
 
 -- all moves are on squares of the mask
-pub none_tried : (g : Scoring) (p : PosView) (squares : ℕ) (m : NextMove) (best : ℤ) → ((q : ℕ) → IsMove p q → in_mask squares q ≡ true) → IsNextMove p squares m → IsTriedUpTo g p m best
+pub none_tried : (g : Scoring) (p : PosView) (squares : ℕ) (m : NextMove) (best : ℤ)
+    → ((q : ℕ) → IsMove p q → in_mask squares q ≡ true) → IsNextMove p squares m → IsTriedUpTo g p m best
 none_tried g p squares m best all h =
     record {
       square = h.square;
@@ -54,7 +56,8 @@ none_tried g p squares m best all h =
     }
 
 -- m is tried: it is worth at most more, which is no less than the best before
-module _ (g : Scoring) (p : PosView) (m : NextMove) (best more : ℤ) (tried : IsTriedUpTo g p m best) (grows : best ≤ℤ more) (covers : neg_ℤ (value_of g m.position) ≤ℤ more) where
+module _ (g : Scoring) (p : PosView) (m : NextMove) (best more : ℤ) (tried : IsTriedUpTo g p m best)
+    (grows : best ≤ℤ more) (covers : neg_ℤ (value_of g m.position) ≤ℤ more) where
   left_or_covered : (q : ℕ) → IsMove p q → (in_mask m.rest q ≡ true) ⊎ (neg_ℤ (value_of g (play_of p q)) ≤ℤ more)
   left_or_covered q k =
       elim (tried.every q k) [

@@ -16,7 +16,8 @@ abbrev pub SearchedBut : Scoring → List Child → ℕ → ℤ → Type 0
 SearchedBut g items left best = (i : ℕ) (d : Child) → i < length items
     → (in_mask left i ≡ true) ⊎ (neg_ℤ (value_of g (get_or items i d).position) ≤ℤ best)
 
-pub none_searched : (g : Scoring) (items : List Child) (left : ℕ) (best : ℤ) → ((i : ℕ) → i < length items → in_mask left i ≡ true) → SearchedBut g items left best
+pub none_searched : (g : Scoring) (items : List Child) (left : ℕ) (best : ℤ)
+    → ((i : ℕ) → i < length items → in_mask left i ≡ true) → SearchedBut g items left best
 none_searched g items left best all i d l = inl (all i l)
 
 -- the child at an index that is left

@@ -1,5 +1,6 @@
 -- Goals that a search would prove are answered too: the search takes longer.
-use Rattle.std.proofs.Common.{arith, rules, refl, pos, negsuc, ◌≡◌, ◌<◌, ◌+◌, ◌*◌, ◌-ℤ◌, neg_ℤ, ◌≤ℤ◌, get_or, to_z, w8, length, sym, ap, ◌∙◌, subst, take, take_all}
+use Rattle.std.proofs.Common.{arith, rules, refl, pos, negsuc, ◌≡◌, ◌<◌, ◌+◌, ◌*◌, ◌-ℤ◌, neg_ℤ, ◌≤ℤ◌, get_or, to_z, w8}
+use Rattle.std.proofs.Common.{length, sym, ap, ◌∙◌, subst, take, take_all}
 use borrow.Author.Count.{falls}
 use Rattle.std.proofs.lemmas.Int.{ints}
 use Rattle.std.proofs.lemmas.List.Elements.{All-same}
@@ -8,9 +9,13 @@ use Rattle.othello_bits.proofs.GameLaws.{value_score, value-over}
 use Rattle.endgame_search.specs.declared.move_order.Child.{Child}
 use Rattle.endgame_search.specs.Children.{IsChildOf, AreChildrenOf, UnlistedAreAtMost}
 use Rattle.endgame_search.specs.Windows.{IsNullWindowScore}
-use Rattle.endgame_search.proofs.Bounds.{bound_same, shown_bound, other_bound, stored_window, stored_fail_soft, same_fail_soft, turned_above, cut_above, score_open, score_covers, best_grows, best_covers, best_open, best_least, none_above, before_first, after_first}
+use Rattle.endgame_search.proofs.Bounds.{bound_same, shown_bound, other_bound, stored_window, stored_fail_soft}
+use Rattle.endgame_search.proofs.Bounds.{same_fail_soft, turned_above, cut_above, score_open, score_covers, best_grows}
+use Rattle.endgame_search.proofs.Bounds.{best_covers, best_open, best_least, none_above, before_first, after_first}
 use Rattle.endgame_search.proofs.EmptySquares.{few_moves}
-use Rattle.endgame_search.proofs.Moves.{child_worth, child_empties, passed_worth, passed_empties, at_index, searched_more, value_at_most, unlisted_after_first, unlisted_sorted, none_unlisted, judged_sorted}
+use Rattle.endgame_search.proofs.Moves.{child_worth, child_empties, passed_worth, passed_empties, at_index}
+use Rattle.endgame_search.proofs.Moves.{searched_more, value_at_most, unlisted_after_first, unlisted_sorted}
+use Rattle.endgame_search.proofs.Moves.{none_unlisted, judged_sorted}
 use Rattle.endgame_search.proofs.SearchedChildren.{at_left, none_searched, one_searched, all_searched_of}
 use Rattle.endgame_search.proofs.TakenSquares.{was_there, on_board, one_less}
 use Rattle.endgame_search.proofs.WindowLemmas.{shown, shown_same, exact, at_least_as, unshown}
@@ -36,7 +41,8 @@ search-returns-else-moves-ne0 g t c = same_fail_soft c.args.bound c.requires.bou
 
 pub search_pass-returns-then-replies-eq0 : goal.search_pass-returns-then-replies-eq0
 search_pass-returns-then-replies-eq0 g t c =
-    let over : HasNoMove (pass_of c.args.position) = ap moves_of (sym c.pass-passed.ensures.value) ∙ sym c.moves-replies.ensures.value ∙ c.if-replies-eq0.true in
+    let over : HasNoMove (pass_of c.args.position) =
+        ap moves_of (sym c.pass-passed.ensures.value) ∙ sym c.moves-replies.ensures.value ∙ c.if-replies-eq0.true in
     let r = g.T.Bounds.scoring c.args.table.now in
     let s = value_score r c.args.position in
     let e : c.final_score.result ≡ value_of r c.args.position =
@@ -63,14 +69,20 @@ search_pass-store_if_deep-requires-clause-window g t c = stored_window c.args.bo
 
 pub search_pass-store_if_deep-requires-clause-fail_soft : goal.search_pass-store_if_deep-requires-clause-fail_soft
 search_pass-store_if_deep-requires-clause-fail_soft g t c =
-    let w = passed_worth (g.T.Bounds.scoring c.args.table.now) c.args.position c.pass-passed.result c.moves-replies.result c.requires.none c.pass-passed.ensures.value c.moves-replies.ensures.value c.if-replies-eq0.false in
+    let w =
+        passed_worth (g.T.Bounds.scoring c.args.table.now)
+            c.args.position c.pass-passed.result c.moves-replies.result c.requires.none c.pass-passed.ensures.value
+            c.moves-replies.ensures.value c.if-replies-eq0.false in
     stored_fail_soft c.args.bound c.requires.bound _ _
     (subst (λ z. IsNullWindowScore c.args.bound z (shown (pos 0 -ℤ shown c.search_moves-score.result))) (sym w)
     (turned_above c.args.bound _ _ c.requires.bound c.search_moves-score.ensures))
 
 pub search_pass-returns : goal.search_pass-returns
 search_pass-returns g t c =
-    let w = passed_worth (g.T.Bounds.scoring c.args.table.now) c.args.position c.pass-passed.result c.moves-replies.result c.requires.none c.pass-passed.ensures.value c.moves-replies.ensures.value c.if-replies-eq0.false in
+    let w =
+        passed_worth (g.T.Bounds.scoring c.args.table.now)
+            c.args.position c.pass-passed.result c.moves-replies.result c.requires.none c.pass-passed.ensures.value
+            c.moves-replies.ensures.value c.if-replies-eq0.false in
     subst (λ z. IsNullWindowScore c.args.bound z (shown (pos 0 -ℤ shown c.search_moves-score.result))) (sym w)
     (turned_above c.args.bound _ _ c.requires.bound c.search_moves-score.ensures)
 
@@ -125,7 +137,9 @@ search_by_mobility-search_children-requires g t c κs within =
     let r = g.T.Bounds.scoring c.args.table.now in
     let d : 8 * empties_of c.args.position + 3 ≡ t = c.decreases in
     let w : 8 * empties_of c.args.position + 2 < t = omega (arith, d) in
-    let unlisted = unlisted_sorted r c.args.position (negsuc 64) _ _ c.sort_children.ensures (none_unlisted r c.args.position _ (negsuc 64) (c.in_default.ensures.all refl)) in (
+    let unlisted =
+        unlisted_sorted r c.args.position (negsuc 64) _ _ c.sort_children.ensures
+            (none_unlisted r c.args.position _ (negsuc 64) (c.in_default.ensures.all refl)) in (
       w,
       (
         within,
@@ -171,7 +185,9 @@ search_by_mobility-search_children-requires-2 g t c κs within =
     let s = shown (pos 0 -ℤ shown c.search-score.result) in
     let p = turned_above c.args.bound _ _ c.requires.bound c.search-score.ensures in
     let covered = score_covers c.args.bound _ _ s c.requires.bound p above c.if-score-bound.false in
-    let unlisted = unlisted_sorted r c.args.position _ _ _ c.sort_children-2.ensures (unlisted_after_first r c.args.position c.in-Some.split _ _ _ split covered c.add_children.ensures.each c.add_children.ensures.every) in (
+    let unlisted =
+        unlisted_sorted r c.args.position _ _ _ c.sort_children-2.ensures
+            (unlisted_after_first r c.args.position c.in-Some.split _ _ _ split covered c.add_children.ensures.each c.add_children.ensures.every) in (
       w,
       (
         within,
@@ -197,7 +213,9 @@ search_by_worth-search_children-requires g t c κs within =
     let p = c.args.position in
     let d : 8 * empties_of p + 3 ≡ t = c.decreases in
     let w : 8 * empties_of p + 2 < t = omega (arith, d) in
-    let sorted = judged_sorted p _ _ c.judge_children.new.children _ (sym (c.judge_children.auto.children ∙ ap length c.deref_mut.ensures.value)) c.sort_children.ensures c.judge_children.ensures in
+    let sorted =
+        judged_sorted p _ _ c.judge_children.new.children _
+            (sym (c.judge_children.auto.children ∙ ap length c.deref_mut.ensures.value)) c.sort_children.ensures c.judge_children.ensures in
     let unlisted = none_unlisted r p _ (negsuc 64) sorted in (
       w,
       (
@@ -220,9 +238,13 @@ search_by_worth-search_shared_children-requires g t c κs within =
     let p = c.args.position in
     let d : 8 * empties_of p + 3 ≡ t = c.decreases in
     let w : 8 * empties_of p + 2 < t = omega (arith, d) in
-    let sorted = judged_sorted p _ _ c.judge_children.new.children _ (sym (c.judge_children.auto.children ∙ ap length c.deref_mut.ensures.value)) c.sort_children.ensures c.judge_children.ensures in
+    let sorted =
+        judged_sorted p _ _ c.judge_children.new.children _
+            (sym (c.judge_children.auto.children ∙ ap length c.deref_mut.ensures.value)) c.sort_children.ensures c.judge_children.ensures in
     let few : length c.deref-2.result.now < 64 = subst (λ n. n < 64) (c.len.ensures.value ∙ ap length (sym c.deref-2.ensures.0)) c.if-len-ge64.false in
-    (w, (within, (subst (AreChildrenOf p) (sym c.deref-2.ensures.0) sorted, (few, (λ z. c.requires.some (c.requires.moves ∙ z), shown_bound c.args.bound c.requires.bound)))))
+    (w, (within,
+        (subst (AreChildrenOf p) (sym c.deref-2.ensures.0) sorted,
+        (few, (λ z. c.requires.some (c.requires.moves ∙ z), shown_bound c.args.bound c.requires.bound)))))
 
 pub search_shared_children-loop-unsearched-init : goal.search_shared_children-loop-unsearched-init
 search_shared_children-loop-unsearched-init g t c =
@@ -241,7 +263,10 @@ search_shared_children-search-score-requires g t c κs within =
     let d : 8 * empties_of c.args.position + 2 ≡ t = c.decreases in
     let x = c.index-children-from.result in
     let at = c.from.ensures ∙ c.number.ensures.value in
-    let child = at_left (IsChildOf c.args.position) c.args.children.now c.loop-unsearched.unsearched c.next_to_share-index.result c.from.result x c.loop-unsearched.invariant.listed c.next_to_share-index.ensures at c.index-children-from.is c.requires.children.each in
+    let child =
+        at_left (IsChildOf c.args.position) c.args.children.now c.loop-unsearched.unsearched
+            c.next_to_share-index.result c.from.result x c.loop-unsearched.invariant.listed
+            c.next_to_share-index.ensures at c.index-children-from.is c.requires.children.each in
     let w : 8 * empties_of x.position + 7 < t = omega (arith, d, child_empties c.args.position x child) in
     (w, (within, (child.replies, other_bound c.args.bound c.requires.bound)))
 
@@ -249,7 +274,10 @@ pub search_shared_children-returns-then-score-bound : goal.search_shared_childre
 search_shared_children-returns-then-score-bound g t c =
     let x = c.index-children-from.result in
     let at = c.from.ensures ∙ c.number.ensures.value in
-    let child = at_left (IsChildOf c.args.position) c.args.children.now c.loop-unsearched.unsearched c.next_to_share-index.result c.from.result x c.loop-unsearched.invariant.listed c.next_to_share-index.ensures at c.index-children-from.is c.requires.children.each in
+    let child =
+        at_left (IsChildOf c.args.position) c.args.children.now c.loop-unsearched.unsearched
+            c.next_to_share-index.result c.from.result x c.loop-unsearched.invariant.listed
+            c.next_to_share-index.ensures at c.index-children-from.is c.requires.children.each in
     cut_above c.args.bound _ _ (shown (pos 0 -ℤ shown c.search-score.result)) c.requires.bound
     (turned_above c.args.bound _ _ c.requires.bound c.search-score.ensures)
     (child_worth (g.T.Bounds.scoring c.args.table.now) c.args.position x child) c.if-score-bound.true
@@ -263,7 +291,9 @@ search_shared_children-returns-in-Some g t c = same_fail_soft c.args.bound c.req
 pub search_shared_children-loop-unsearched-smaller : goal.search_shared_children-loop-unsearched-smaller
 search_shared_children-loop-unsearched-smaller g t c =
     let small = c.loop-unsearched.invariant.small in
-    let k = one_less _ _ _ c.next_to_share-index.ensures c.without-unsearched.ensures small c.without-unsearched.type_inv (on_board _ _ small c.next_to_share-index.ensures) in
+    let k =
+        one_less _ _ _ c.next_to_share-index.ensures c.without-unsearched.ensures small c.without-unsearched.type_inv
+            (on_board _ _ small c.next_to_share-index.ensures) in
     omega (arith, k)
 
 pub search_shared_children-loop-unsearched-preserved : goal.search_shared_children-loop-unsearched-preserved
@@ -274,7 +304,9 @@ search_shared_children-loop-unsearched-preserved g t c =
     let x = c.index-children-from.result in
     let here = c.next_to_share-index.ensures in
     let at = c.from.ensures ∙ c.number.ensures.value in
-    let child = at_left (IsChildOf c.args.position) items c.loop-unsearched.unsearched c.next_to_share-index.result c.from.result x kept.listed here at c.index-children-from.is c.requires.children.each in
+    let child =
+        at_left (IsChildOf c.args.position) items c.loop-unsearched.unsearched c.next_to_share-index.result
+            c.from.result x kept.listed here at c.index-children-from.is c.requires.children.each in
     let above = child_worth r c.args.position x child in
     let s = shown (pos 0 -ℤ shown c.search-score.result) in
     let p = turned_above c.args.bound _ _ c.requires.bound c.search-score.ensures in
@@ -321,13 +353,17 @@ search_children-loop-child-init g t c =
 pub search_children-search-score-requires : goal.search_children-search-score-requires
 search_children-search-score-requires g t c κs within =
     let d : 8 * empties_of c.args.position + 2 ≡ t = c.decreases in
-    let child = at_index (IsChildOf c.args.position) c.args.children.now c.loop-child.child-index c.child-item.result c.loop-child-test.true c.child-item.is c.requires.unlisted.each in
+    let child =
+        at_index (IsChildOf c.args.position)
+            c.args.children.now c.loop-child.child-index c.child-item.result c.loop-child-test.true c.child-item.is c.requires.unlisted.each in
     let w : 8 * empties_of c.child-item.result.position + 7 < t = omega (arith, d, child_empties c.args.position c.child-item.result child) in
     (w, (within, (child.replies, other_bound c.args.bound c.requires.bound)))
 
 pub search_children-returns-then-score-bound : goal.search_children-returns-then-score-bound
 search_children-returns-then-score-bound g t c =
-    let child = at_index (IsChildOf c.args.position) c.args.children.now c.loop-child.child-index c.child-item.result c.loop-child-test.true c.child-item.is c.requires.unlisted.each in
+    let child =
+        at_index (IsChildOf c.args.position)
+            c.args.children.now c.loop-child.child-index c.child-item.result c.loop-child-test.true c.child-item.is c.requires.unlisted.each in
     cut_above c.args.bound _ _ (shown (pos 0 -ℤ shown c.search-score.result)) c.requires.bound
     (turned_above c.args.bound _ _ c.requires.bound c.search-score.ensures)
     (child_worth (g.T.Bounds.scoring c.args.table.now) c.args.position c.child-item.result child) c.if-score-bound.true
@@ -340,7 +376,9 @@ search_children-loop-child-preserved g t c =
     let kept = c.loop-child.invariant in
     let items = c.args.children.now in
     let r = g.T.Bounds.scoring c.args.table.now in
-    let child = at_index (IsChildOf c.args.position) items c.loop-child.child-index c.child-item.result c.loop-child-test.true c.child-item.is c.requires.unlisted.each in
+    let child =
+        at_index (IsChildOf c.args.position)
+            items c.loop-child.child-index c.child-item.result c.loop-child-test.true c.child-item.is c.requires.unlisted.each in
     let above = child_worth r c.args.position c.child-item.result child in
     let s = shown (pos 0 -ℤ shown c.search-score.result) in
     let p = turned_above c.args.bound _ _ c.requires.bound c.search-score.ensures in

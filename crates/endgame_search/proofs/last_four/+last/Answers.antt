@@ -5,7 +5,8 @@ use Rattle.othello_rules.specs.Masks.{in_mask}
 use Rattle.othello_bits.specs.Pos.{pass_of, empties_of, moves_of, final_of, value_of, HasNoMove}
 use Rattle.othello_bits.proofs.GameLaws.{empties_positive, empties-play, value-over, value_score, value_above}
 use Rattle.endgame_search.specs.Windows.{IsNullWindowScore}
-use Rattle.endgame_search.proofs.Bounds.{other_bound, shown_bound, turned_above, cut_above, best_grows, best_covers, best_open, best_least, none_above, before_first}
+use Rattle.endgame_search.proofs.Bounds.{other_bound, shown_bound, turned_above, cut_above, best_grows, best_covers}
+use Rattle.endgame_search.proofs.Bounds.{best_open, best_least, none_above, before_first}
 use Rattle.endgame_search.proofs.LastSquareLemmas.{moves_to_empty, no_moves_from, last_some}
 use Rattle.endgame_search.proofs.Moves.{passed_empties, passed_worth}
 use Rattle.endgame_search.proofs.MovesInOrderLemmas.{none_tried, next_tried, all_tried, passing, passing_most, passing_none, passing_some}
@@ -18,7 +19,8 @@ search_after-search_in_order-requires g t c κs within =
     let d : 4 * empties_of p + 3 ≡ t = c.decreases in
     let few = passing_most (moves_of p) in
     let w : 4 * empties_of p + passing (moves_of p) < t = omega (arith, d, few) in
-    (w, (within, (λ q m. c.empty_squares.ensures.squares q (moves_to_empty c.args.position q m), (c.requires.empties, shown_bound c.args.bound c.requires.bound))))
+    (w, (within,
+        (λ q m. c.empty_squares.ensures.squares q (moves_to_empty c.args.position q m), (c.requires.empties, shown_bound c.args.bound c.requires.bound))))
 
 pub search_in_order-loop-position-init : goal.search_in_order-loop-position-init
 search_in_order-loop-position-init g t c =
@@ -124,6 +126,9 @@ search_pass_in_order-search_in_order-requires g t c κs within =
 
 pub search_pass_in_order-returns : goal.search_pass_in_order-returns
 search_pass_in_order-returns g t c =
-    let w = passed_worth (g.T.Bounds.scoring c.args.table.now) c.args.position c.pass-passed.result c.moves-replies.result c.requires.none c.pass-passed.ensures.value c.moves-replies.ensures.value c.if-replies-eq0.false in
+    let w =
+        passed_worth (g.T.Bounds.scoring c.args.table.now)
+            c.args.position c.pass-passed.result c.moves-replies.result c.requires.none c.pass-passed.ensures.value
+            c.moves-replies.ensures.value c.if-replies-eq0.false in
     subst (λ z. IsNullWindowScore c.args.bound z (shown (pos 0 -ℤ shown c.search_in_order.result))) (sym w)
     (turned_above c.args.bound _ _ c.requires.bound c.search_in_order.ensures)

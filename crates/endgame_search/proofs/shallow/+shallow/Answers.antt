@@ -6,7 +6,9 @@ use Rattle.othello_bits.specs.Pos.{moves_of, pass_of, empties_of, final_of, valu
 use Rattle.othello_bits.proofs.GameLaws.{value_score, value-over}
 use Rattle.endgame_search.specs.Children.{IsChildOf, UnlistedAreAtMost}
 use Rattle.endgame_search.specs.Windows.{IsNullWindowScore}
-use Rattle.endgame_search.proofs.Bounds.{bound_same, shown_bound, other_bound, same_fail_soft, turned_above, cut_above, score_open, score_covers, best_grows, best_covers, best_open, best_least, none_above, before_first, after_first}
+use Rattle.endgame_search.proofs.Bounds.{bound_same, shown_bound, other_bound, same_fail_soft, turned_above, cut_above}
+use Rattle.endgame_search.proofs.Bounds.{score_open, score_covers, best_grows, best_covers, best_open, best_least}
+use Rattle.endgame_search.proofs.Bounds.{none_above, before_first, after_first}
 use Rattle.endgame_search.proofs.EmptySquares.{few_moves, some_empty}
 use Rattle.endgame_search.proofs.Moves.{child_worth, child_empties, passed_worth, passed_empties, value_at_most, unlisted_after_first, none_unlisted}
 use Rattle.endgame_search.proofs.SearchedChildren.{at_left, none_searched, one_searched, all_searched_of}
@@ -35,7 +37,8 @@ search_shallow-returns-else-moves-ne0 g t c = same_fail_soft c.args.bound c.requ
 
 pub search_shallow_pass-returns-then-replies-eq0 : goal.search_shallow_pass-returns-then-replies-eq0
 search_shallow_pass-returns-then-replies-eq0 g t c =
-    let over : HasNoMove (pass_of c.args.position) = ap moves_of (sym c.pass-passed.ensures.value) ∙ sym c.moves-replies.ensures.value ∙ c.if-replies-eq0.true in
+    let over : HasNoMove (pass_of c.args.position) =
+        ap moves_of (sym c.pass-passed.ensures.value) ∙ sym c.moves-replies.ensures.value ∙ c.if-replies-eq0.true in
     let r = g.T.Bounds.scoring c.args.table.now in
     let s = value_score r c.args.position in
     let e : c.final_score.result ≡ value_of r c.args.position =
@@ -62,7 +65,10 @@ search_shallow_pass-search_shallow_moves-requires g t c κs within =
 
 pub search_shallow_pass-returns : goal.search_shallow_pass-returns
 search_shallow_pass-returns g t c =
-    let w = passed_worth (g.T.Bounds.scoring c.args.table.now) c.args.position c.pass-passed.result c.moves-replies.result c.requires.none c.pass-passed.ensures.value c.moves-replies.ensures.value c.if-replies-eq0.false in
+    let w =
+        passed_worth (g.T.Bounds.scoring c.args.table.now)
+            c.args.position c.pass-passed.result c.moves-replies.result c.requires.none c.pass-passed.ensures.value
+            c.moves-replies.ensures.value c.if-replies-eq0.false in
     subst (λ z. IsNullWindowScore c.args.bound z (shown (pos 0 -ℤ shown c.search_shallow_moves.result))) (sym w)
     (turned_above c.args.bound _ _ c.requires.bound c.search_shallow_moves.ensures)
 
@@ -130,10 +136,13 @@ pub search_shallow_by_list-returns-then-score-bound : goal.search_shallow_by_lis
 search_shallow_by_list-returns-then-score-bound g t c =
     cut_above c.args.bound _ _ (shown (pos 0 -ℤ shown c.search_shallow_pass-score.result)) c.requires.bound
     (turned_above c.args.bound _ _ c.requires.bound c.search_shallow_pass-score.ensures)
-    (child_worth (g.T.Bounds.scoring c.args.table.now) c.args.position c.in-Some-add_until_no_replies.split.child c.in-Some-add_until_no_replies.ensures.split.child) c.if-score-bound.true
+    (child_worth (g.T.Bounds.scoring c.args.table.now)
+        c.args.position c.in-Some-add_until_no_replies.split.child c.in-Some-add_until_no_replies.ensures.split.child) c.if-score-bound.true
 
 pub search_shallow_by_list-add_children-requires : goal.search_shallow_by_list-add_children-requires
-search_shallow_by_list-add_children-requires g t c = (search rules, (c.in-Some-add_until_no_replies.ensures.split.rest, (c.in-Some-add_until_no_replies.ensures.room, c.in-Some-add_until_no_replies.ensures.split.each)))
+search_shallow_by_list-add_children-requires g t c =
+    (search rules,
+        (c.in-Some-add_until_no_replies.ensures.split.rest, (c.in-Some-add_until_no_replies.ensures.room, c.in-Some-add_until_no_replies.ensures.split.each)))
 
 pub search_shallow_by_list-search_shallow_children-requires-2 : goal.search_shallow_by_list-search_shallow_children-requires-2
 search_shallow_by_list-search_shallow_children-requires-2 g t c κs within =
@@ -145,7 +154,9 @@ search_shallow_by_list-search_shallow_children-requires-2 g t c κs within =
     let s = shown (pos 0 -ℤ shown c.search_shallow_pass-score.result) in
     let p = turned_above c.args.bound _ _ c.requires.bound c.search_shallow_pass-score.ensures in
     let covered = score_covers c.args.bound _ _ s c.requires.bound p above c.if-score-bound.false in
-    let unlisted = unlisted_after_first r c.args.position c.in-Some-add_until_no_replies.split _ _ _ split covered c.add_children.ensures.each c.add_children.ensures.every in (
+    let unlisted =
+        unlisted_after_first r c.args.position c.in-Some-add_until_no_replies.split _ _ _ split covered
+            c.add_children.ensures.each c.add_children.ensures.every in (
       w,
       (
         within,
@@ -191,7 +202,9 @@ search_shallow_children-search_shallow-score-requires g t c κs within =
     let d : 6 * empties_of c.args.position + 1 ≡ t = c.decreases in
     let x = c.index-children-from.result in
     let at = c.from.ensures ∙ c.number.ensures.value in
-    let child = at_left (IsChildOf c.args.position) c.args.children.now c.loop-unsearched.unsearched c.next_of-index.result c.from.result x c.loop-unsearched.invariant.listed c.next_of-index.ensures at c.index-children-from.is c.requires.unlisted.each in
+    let child =
+        at_left (IsChildOf c.args.position) c.args.children.now c.loop-unsearched.unsearched c.next_of-index.result
+            c.from.result x c.loop-unsearched.invariant.listed c.next_of-index.ensures at c.index-children-from.is c.requires.unlisted.each in
     let e = child_empties c.args.position x child in
     let v = c.empties-empties.ensures.value in
     let w : 6 * empties_of x.position + 5 < t = omega (arith, d, e) in
@@ -201,7 +214,9 @@ pub search_shallow_children-returns-then-score-bound : goal.search_shallow_child
 search_shallow_children-returns-then-score-bound g t c =
     let x = c.index-children-from.result in
     let at = c.from.ensures ∙ c.number.ensures.value in
-    let child = at_left (IsChildOf c.args.position) c.args.children.now c.loop-unsearched.unsearched c.next_of-index.result c.from.result x c.loop-unsearched.invariant.listed c.next_of-index.ensures at c.index-children-from.is c.requires.unlisted.each in
+    let child =
+        at_left (IsChildOf c.args.position) c.args.children.now c.loop-unsearched.unsearched c.next_of-index.result
+            c.from.result x c.loop-unsearched.invariant.listed c.next_of-index.ensures at c.index-children-from.is c.requires.unlisted.each in
     cut_above c.args.bound _ _ (shown (pos 0 -ℤ shown c.search_shallow-score.result)) c.requires.bound
     (turned_above c.args.bound _ _ c.requires.bound c.search_shallow-score.ensures)
     (child_worth (g.T.Bounds.scoring c.args.table.now) c.args.position x child) c.if-score-bound.true
@@ -209,7 +224,8 @@ search_shallow_children-returns-then-score-bound g t c =
 pub search_shallow_children-loop-unsearched-smaller : goal.search_shallow_children-loop-unsearched-smaller
 search_shallow_children-loop-unsearched-smaller g t c =
     let small = c.loop-unsearched.invariant.small in
-    let k = one_less _ _ _ c.next_of-index.ensures c.without-unsearched.ensures small c.without-unsearched.type_inv (on_board _ _ small c.next_of-index.ensures) in
+    let k =
+        one_less _ _ _ c.next_of-index.ensures c.without-unsearched.ensures small c.without-unsearched.type_inv (on_board _ _ small c.next_of-index.ensures) in
     omega (arith, k)
 
 pub search_shallow_children-loop-unsearched-preserved : goal.search_shallow_children-loop-unsearched-preserved
@@ -220,7 +236,9 @@ search_shallow_children-loop-unsearched-preserved g t c =
     let x = c.index-children-from.result in
     let here = c.next_of-index.ensures in
     let at = c.from.ensures ∙ c.number.ensures.value in
-    let child = at_left (IsChildOf c.args.position) items c.loop-unsearched.unsearched c.next_of-index.result c.from.result x kept.listed here at c.index-children-from.is c.requires.unlisted.each in
+    let child =
+        at_left (IsChildOf c.args.position) items c.loop-unsearched.unsearched c.next_of-index.result c.from.result x
+            kept.listed here at c.index-children-from.is c.requires.unlisted.each in
     let above = child_worth r c.args.position x child in
     let s = shown (pos 0 -ℤ shown c.search_shallow-score.result) in
     let p = turned_above c.args.bound _ _ c.requires.bound c.search_shallow-score.ensures in

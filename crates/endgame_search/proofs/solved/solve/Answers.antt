@@ -20,7 +20,10 @@ best_moves-best-requires-clause-high g c =
           let b = r.ordered in
           let m = r.most in
           record { low = omega (arith, ints, w.high-is, v, a, b, m); high = omega (arith, ints, w.high-is, v, a, b, m) }
-      | else-low-guess w ↦ let l = low.least in let m = low.most in record { low = omega (arith, ints, w.high-is, l, m); high = omega (arith, ints, w.high-is, l, m) }
+      | else-low-guess w ↦
+          let l = low.least in
+          let m = low.most in
+          record { low = omega (arith, ints, w.high-is, l, m); high = omega (arith, ints, w.high-is, l, m) }
     ]
 
 pub best_moves-best-requires-clause-ordered : goal.best_moves-best-requires-clause-ordered
