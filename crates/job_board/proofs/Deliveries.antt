@@ -1,5 +1,7 @@
 -- The answers that are delivered to a sender are in order.
-use Rattle.std.proofs.Common.{◌≡◌, ℕ, suc, zero, ◌+◌, ◌<◌, ◌==◌, ◌&&◌, Bool, true, false, List, [], ◌∷◌, ◌++◌, length, Option, Some, None, Ok, slice_get, cond, ltb, refl, sym, ap, ◌∙◌, subst, arith, inl, inr, length-append, append-nil, append_assoc}
+use Rattle.std.proofs.Common.{◌≡◌, ℕ, suc, zero, ◌+◌, ◌<◌, ◌==◌, ◌&&◌, Bool, true, false, List, [], ◌∷◌, ◌++◌, length}
+use Rattle.std.proofs.Common.{Option, Some, None, Ok, slice_get, cond, ltb, refl, sym, ap, ◌∙◌, subst, arith, inl, inr}
+use Rattle.std.proofs.Common.{length-append, append-nil, append_assoc}
 use Rattle.std.proofs.lemmas.Bool.{cases_eq, ne_eqb, eqb-true, false≢true}
 use Rattle.endgame_search.specs.Task.{TaskView}
 use Rattle.job_board.specs.declared.jobs.Delivery.{Delivery}
@@ -24,33 +26,41 @@ slice_get-append [] ys k x e = cc
 slice_get-append (y ∷ xs) ys zero x e = e
 slice_get-append (y ∷ xs) ys (suc k) x e = slice_get-append xs ys k x e
 
-one_if : (b : Bool) (tasks : List TaskView) (first : ℕ) (d : Delivery) → (b ≡ true → (d.number ≡ first) × (slice_get tasks first ≡ Some d.solved)) → InOrder tasks first (cond b (d ∷ []) [])
+one_if : (b : Bool) (tasks : List TaskView) (first : ℕ) (d : Delivery)
+    → (b ≡ true → (d.number ≡ first) × (slice_get tasks first ≡ Some d.solved)) → InOrder tasks first (cond b (d ∷ []) [])
 one_if true tasks first d h = let p = h refl in (p.0, p.1, tt)
 one_if false tasks first d h = tt
 
 -- the answer that one step delivers is the sender's next
-one_in_order : (c : BoardView) (s : ℕ) (state : SenderView) (st : Step) (r : Reply) (more : List TaskView) → slice_get c s ≡ Some state → IsSender state → IsLawful c st r → InOrder (state.tasks ++ more) state.handed (deliveries_by s st r)
+one_in_order : (c : BoardView) (s : ℕ) (state : SenderView) (st : Step) (r : Reply) (more : List TaskView)
+    → slice_get c s ≡ Some state → IsSender state → IsLawful c st r → InOrder (state.tasks ++ more) state.handed (deliveries_by s st r)
 one_in_order c s state (step.Deliver s') (reply.Handed (handed.Next d)) more at h law =
     one_if (s' == s) (state.tasks ++ more) state.handed d (λ is.
-    let e : handed.Next d ≡ deliver_reply_at state (slice_get state.stages state.handed) = law ∙ ap deliver_reply_in (ap (slice_get c) (eqb-true s' s is) ∙ at) in
+    let e : handed.Next d ≡ deliver_reply_at state (slice_get state.stages state.handed) =
+        law ∙ ap deliver_reply_in (ap (slice_get c) (eqb-true s' s is) ∙ at) in
     let facts = next_facts state d (slice_get state.stages state.handed) e in
     (facts.0, slice_get-append state.tasks more state.handed d.solved (h.solved state.handed d.solved facts.1)))
 one_in_order c s state _ _ more at h law = tt
 
-InOrder-append : (tasks : List TaskView) (first : ℕ) (ds es : List Delivery) → InOrder tasks first ds → InOrder tasks (first + length ds) es → InOrder tasks first (ds ++ es)
+InOrder-append : (tasks : List TaskView) (first : ℕ) (ds es : List Delivery) → InOrder tasks first ds
+    → InOrder tasks (first + length ds) es → InOrder tasks first (ds ++ es)
 InOrder-append tasks first [] es h more = let P : ℕ → Type 0 = λ n. InOrder tasks n es in subst P (omega arith) more
-InOrder-append tasks first (d ∷ ds) es h more = (h.0, h.1, InOrder-append tasks (first + 1) ds es h.2 (let P : ℕ → Type 0 = λ n. InOrder tasks n es in subst P (omega arith) more))
+InOrder-append tasks first (d ∷ ds) es h more =
+    (h.0, h.1, InOrder-append tasks (first + 1) ds es h.2 (let P : ℕ → Type 0 = λ n. InOrder tasks n es in subst P (omega arith) more))
 
 -- from any view of a board on, the answers that are delivered to a sender are in order
-pub rest_in_order : (c : BoardView) (s : ℕ) (state : SenderView) (ss : List Step) (rs : List Reply) → slice_get c s ≡ Some state → IsSender state → AreLawful c ss rs
+pub rest_in_order : (c : BoardView) (s : ℕ) (state : SenderView) (ss : List Step) (rs : List Reply)
+    → slice_get c s ≡ Some state → IsSender state → AreLawful c ss rs
     → InOrder (state.tasks ++ accepted_tasks s ss rs) state.handed (deliveries_to s ss rs)
 rest_in_order c s state [] [] at h law = tt
 rest_in_order c s state [] (r ∷ rs) at h law = absurd law
 rest_in_order c s state (st ∷ ss) [] at h law = absurd law
 rest_in_order c s state (st ∷ ss) (r ∷ rs) at h law =
     let new : SenderView = state_step s state st r in
-    let rest : InOrder (new.tasks ++ accepted_tasks s ss rs) new.handed (deliveries_to s ss rs) = rest_in_order (after c st r) s new ss rs (state_after c s state st r at) (state_kept c s state st r at h law.0) law.1 in
-    let tasks : new.tasks ++ accepted_tasks s ss rs ≡ state.tasks ++ (tasks_by s st r ++ accepted_tasks s ss rs) = ap (λ l. l ++ accepted_tasks s ss rs) (tasks_step s state st r) ∙ append_assoc state.tasks (tasks_by s st r) (accepted_tasks s ss rs) in
+    let rest : InOrder (new.tasks ++ accepted_tasks s ss rs) new.handed (deliveries_to s ss rs) =
+        rest_in_order (after c st r) s new ss rs (state_after c s state st r at) (state_kept c s state st r at h law.0) law.1 in
+    let tasks : new.tasks ++ accepted_tasks s ss rs ≡ state.tasks ++ (tasks_by s st r ++ accepted_tasks s ss rs) =
+        ap (λ l. l ++ accepted_tasks s ss rs) (tasks_step s state st r) ∙ append_assoc state.tasks (tasks_by s st r) (accepted_tasks s ss rs) in
     let P : List TaskView → Type 0 = λ l. InOrder l new.handed (deliveries_to s ss rs) in
     let Q : ℕ → Type 0 = λ n. InOrder (state.tasks ++ (tasks_by s st r ++ accepted_tasks s ss rs)) n (deliveries_to s ss rs) in
     InOrder-append (state.tasks ++ (tasks_by s st r ++ accepted_tasks s ss rs)) state.handed (deliveries_by s st r) (deliveries_to s ss rs)
@@ -58,14 +68,16 @@ rest_in_order c s state (st ∷ ss) (r ∷ rs) at h law =
     (subst Q (handed_step s state st r) (subst P tasks rest))
 
 -- in a history, the answers that are delivered to a sender are in order
-pub all_in_order : (n s : ℕ) (ss : List Step) (rs : List Reply) → s < n → AreLawful (empty_content n) ss rs → InOrder (accepted_tasks s ss rs) 0 (deliveries_to s ss rs)
+pub all_in_order : (n s : ℕ) (ss : List Step) (rs : List Reply) → s < n → AreLawful (empty_content n) ss rs
+    → InOrder (accepted_tasks s ss rs) 0 (deliveries_to s ss rs)
 all_in_order n s ss rs lt law = rest_in_order (empty_content n) s empty_state ss rs (slice_get-replicate n s empty_state lt) empty_is_state law
 
 abbrev pub state_all : ℕ → SenderView → List Step → List Reply → SenderView
 state_all s state (st ∷ ss) (r ∷ rs) = state_all s (state_step s state st r) ss rs
 state_all s state _ _ = state
 
-pub state_after_all : (c : BoardView) (s : ℕ) (state : SenderView) (ss : List Step) (rs : List Reply) → slice_get c s ≡ Some state → slice_get (after_all c ss rs) s ≡ Some (state_all s state ss rs)
+pub state_after_all : (c : BoardView) (s : ℕ) (state : SenderView) (ss : List Step) (rs : List Reply)
+    → slice_get c s ≡ Some state → slice_get (after_all c ss rs) s ≡ Some (state_all s state ss rs)
 state_after_all c s state [] [] at = at
 state_after_all c s state [] (r ∷ rs) at = at
 state_after_all c s state (st ∷ ss) [] at = at
@@ -75,34 +87,42 @@ pub tasks_all : (s : ℕ) (state : SenderView) (ss : List Step) (rs : List Reply
 tasks_all s state [] [] = sym (append-nil state.tasks)
 tasks_all s state [] (r ∷ rs) = sym (append-nil state.tasks)
 tasks_all s state (st ∷ ss) [] = sym (append-nil state.tasks)
-tasks_all s state (st ∷ ss) (r ∷ rs) = tasks_all s (state_step s state st r) ss rs ∙ (ap (λ l. l ++ accepted_tasks s ss rs) (tasks_step s state st r) ∙ append_assoc state.tasks (tasks_by s st r) (accepted_tasks s ss rs))
+tasks_all s state (st ∷ ss) (r ∷ rs) =
+    tasks_all s (state_step s state st r) ss rs
+        ∙ (ap (λ l. l ++ accepted_tasks s ss rs) (tasks_step s state st r) ∙ append_assoc state.tasks (tasks_by s st r) (accepted_tasks s ss rs))
 
-pub handed_all : (s : ℕ) (state : SenderView) (ss : List Step) (rs : List Reply) → (state_all s state ss rs).handed ≡ state.handed + length (deliveries_to s ss rs)
+pub handed_all : (s : ℕ) (state : SenderView) (ss : List Step) (rs : List Reply)
+    → (state_all s state ss rs).handed ≡ state.handed + length (deliveries_to s ss rs)
 handed_all s state [] [] = omega arith
 handed_all s state [] (r ∷ rs) = omega arith
 handed_all s state (st ∷ ss) [] = omega arith
-handed_all s state (st ∷ ss) (r ∷ rs) = omega (arith, handed_all s (state_step s state st r) ss rs, handed_step s state st r, length-append (deliveries_by s st r) (deliveries_to s ss rs))
+handed_all s state (st ∷ ss) (r ∷ rs) =
+    omega (arith, handed_all s (state_step s state st r) ss rs, handed_step s state st r, length-append (deliveries_by s st r) (deliveries_to s ss rs))
 
 drained_if : (state : SenderView) (b e : Bool) → handed.Drained ≡ cond (b && e) handed.Drained handed.Waiting → (b ≡ true) × (e ≡ true)
 drained_if state true true h = (refl, refl)
 drained_if state true false h = cc
 drained_if state false e h = cc
 
-pub drained_stage : (state : SenderView) (o : Option Stage) → handed.Drained ≡ deliver_reply_at state o → (state.closed ≡ true) × ((state.handed == length state.tasks) ≡ true)
+pub drained_stage : (state : SenderView) (o : Option Stage) → handed.Drained ≡ deliver_reply_at state o
+    → (state.closed ≡ true) × ((state.handed == length state.tasks) ≡ true)
 drained_stage state None e = drained_if state state.closed (state.handed == length state.tasks) e
 drained_stage state (Some Waiting) e = drained_if state state.closed (state.handed == length state.tasks) e
 drained_stage state (Some Taken) e = drained_if state state.closed (state.handed == length state.tasks) e
 drained_stage state (Some (Finished a)) e = cc
 
 -- where a sender is drained, as many answers were delivered as tasks were accepted
-pub drained_all : (n s : ℕ) (ss : List Step) (rs : List Reply) → s < n → handed.Drained ≡ deliver_reply (after_all (empty_content n) ss rs) s → length (deliveries_to s ss rs) ≡ length (accepted_tasks s ss rs)
+pub drained_all : (n s : ℕ) (ss : List Step) (rs : List Reply) → s < n
+    → handed.Drained ≡ deliver_reply (after_all (empty_content n) ss rs) s → length (deliveries_to s ss rs) ≡ length (accepted_tasks s ss rs)
 drained_all n s ss rs lt e =
     let state : SenderView = state_all s empty_state ss rs in
-    let at : slice_get (after_all (empty_content n) ss rs) s ≡ Some state = state_after_all (empty_content n) s empty_state ss rs (slice_get-replicate n s empty_state lt) in
+    let at : slice_get (after_all (empty_content n) ss rs) s ≡ Some state =
+        state_after_all (empty_content n) s empty_state ss rs (slice_get-replicate n s empty_state lt) in
     let facts = drained_stage state (slice_get state.stages state.handed) (e ∙ ap deliver_reply_in at) in
     omega (arith, eqb-true state.handed (length state.tasks) facts.1, handed_all s empty_state ss rs, ap length (tasks_all s empty_state ss rs))
 
-closed_refuses : (state : SenderView) (n : ℕ) (b full : Bool) → b ≡ true → SubmitAs (cond b (Some fault.Closed) (cond full (Some fault.Full) None)) (length state.tasks) (Ok n) → ⊥
+closed_refuses : (state : SenderView) (n : ℕ) (b full : Bool) → b ≡ true
+    → SubmitAs (cond b (Some fault.Closed) (cond full (Some fault.Full) None)) (length state.tasks) (Ok n) → ⊥
 closed_refuses state n true full e h = cc
 closed_refuses state n false full e h = false≢true e
 
@@ -132,7 +152,8 @@ closed_step c s state (step.Close s') (reply.Closed r) at e law = (refl, still s
 closed_step c s state _ _ at e law = (refl, e)
 
 -- no task of a closed sender is accepted
-pub accepted_closed : (c : BoardView) (s : ℕ) (state : SenderView) (ss : List Step) (rs : List Reply) → slice_get c s ≡ Some state → state.closed ≡ true → AreLawful c ss rs → accepted_tasks s ss rs ≡ []
+pub accepted_closed : (c : BoardView) (s : ℕ) (state : SenderView) (ss : List Step) (rs : List Reply)
+    → slice_get c s ≡ Some state → state.closed ≡ true → AreLawful c ss rs → accepted_tasks s ss rs ≡ []
 accepted_closed c s state [] [] at e law = refl
 accepted_closed c s state [] (r ∷ rs) at e law = refl
 accepted_closed c s state (st ∷ ss) [] at e law = refl

@@ -1,5 +1,6 @@
 -- A piece is a field exactly where the reader finds one.
-use Rattle.std.proofs.Common.{◌≡◌, ℕ, ℤ, ◌-◌, ◌<◌, ◌==◌, Bool, true, false, cond, List, [], ◌∷◌, ◌++◌, length, take, refl, sym, ◌∙◌, ap, arith, get_or, Option, Some, None}
+use Rattle.std.proofs.Common.{◌≡◌, ℕ, ℤ, ◌-◌, ◌<◌, ◌==◌, Bool, true, false, cond, List, [], ◌∷◌, ◌++◌, length, take}
+use Rattle.std.proofs.Common.{refl, sym, ◌∙◌, ap, arith, get_or, Option, Some, None}
 use Rattle.std.specs.List.{position_or_len}
 use Rattle.std.proofs.lemmas.Bool.{eqb-true}
 use Rattle.std.proofs.lemmas.Option.{none-some, same_Some}
@@ -31,10 +32,12 @@ pub record Parts (text : List ℕ) (f : Field) : Type 0 where
   pub is_move_text : IsMoveText move f.0
   pub is_score_text : IsScoreText score f.1
 
-parts_at : (a b colon : ℕ) (score : List ℕ) (f : Field) (t : Bool) → (colon == 58) ≡ t → cond t (field_by (move_of a b) (score_of_text score)) None ≡ Some f → Parts (a ∷ b ∷ colon ∷ score) f
+parts_at : (a b colon : ℕ) (score : List ℕ) (f : Field) (t : Bool) → (colon == 58) ≡ t
+    → cond t (field_by (move_of a b) (score_of_text score)) None ≡ Some f → Parts (a ∷ b ∷ colon ∷ score) f
 parts_at a b colon score f true e h =
     let parts = both_from (move_of a b) (score_of_text score) f h in
-    record { move = a ∷ b ∷ []; score = score; whole = ap (λ c. a ∷ b ∷ c ∷ score) (eqb-true colon 58 e); is_move_text = move_from a b f.0 parts.0; is_score_text = score_from score f.1 parts.1 }
+    record { move = a ∷ b ∷ []; score = score; whole = ap (λ c. a ∷ b ∷ c ∷ score) (eqb-true colon 58 e);
+        is_move_text = move_from a b f.0 parts.0; is_score_text = score_from score f.1 parts.1 }
 parts_at a b colon score f false e h = absurd (none-some f h)
 
 parts_from : (text : List ℕ) (f : Field) → field_of_text text ≡ Some f → Parts text f
@@ -61,7 +64,8 @@ field_from piece f h =
 last_is : (front digits : List ℕ) → 0 < length digits → get_or (front ++ digits) (length (front ++ digits) - 1) 0 ≡ get_or digits (length digits - 1) 0
 last_is front digits some = grind (arith, common_steps)
 
-starts_in_content : (move score after : List ℕ) (m : ListedMove) → IsRead move m → Stops is_content ((move ++ 58 ∷ score) ++ after) × (0 < length (move ++ 58 ∷ score))
+starts_in_content : (move score after : List ℕ) (m : ListedMove) → IsRead move m
+    → Stops is_content ((move ++ 58 ∷ score) ++ after) × (0 < length (move ++ 58 ∷ score))
 starts_in_content move score after m r = rw r.whole (rw r.content refl, omega arith)
 
 pub field_is : (piece : List ℕ) (f : Field) → IsField piece f → field_of piece ≡ Some f
@@ -71,7 +75,8 @@ field_is piece f s =
     let whole : s.move ++ 58 ∷ s.score ≡ (s.move ++ 58 ∷ s.is_score_text.sign) ++ s.is_score_text.digits =
     ap (λ t. s.move ++ 58 ∷ t) s.is_score_text.whole ∙ sym (append_assoc s.move (58 ∷ s.is_score_text.sign) s.is_score_text.digits) in
     let last : is_blank (get_or (s.move ++ 58 ∷ s.score) (length (s.move ++ 58 ∷ s.score) - 1) 0) ≡ false =
-    ap (λ t. is_blank (get_or t (length t - 1) 0)) whole ∙ ap is_blank (last_is (s.move ++ 58 ∷ s.is_score_text.sign) s.is_score_text.digits number.0) ∙ number.1 in
+    ap (λ t. is_blank (get_or t (length t - 1) 0)) whole
+        ∙ ap is_blank (last_is (s.move ++ 58 ∷ s.is_score_text.sign) s.is_score_text.digits number.0) ∙ number.1 in
     ap field_of s.whole
     ∙ ap field_of_text (trimmed_is s.before (s.move ++ 58 ∷ s.score) s.after s.before_blank s.after_blank start.0 start.1 last)
     ∙ text_is s.move s.score f s.is_move_text s.is_score_text

@@ -23,14 +23,16 @@ cons_fails stop x xs e h (suc k) d lt = h k d (omega arith)
 
 cut_cons : (stop : ℕ → Bool) (x : ℕ) (xs : List ℕ) (b : Bool) → stop x ≡ b → Cut stop xs → Cut stop (x ∷ xs)
 cut_cons stop x xs true e c = record { front = []; rest = x ∷ xs; whole = refl; fails = λ k d lt. absurd (omega arith); stops = e }
-cut_cons stop x xs false e c = record { front = x ∷ c.front; rest = c.rest; whole = ap (λ t. x ∷ t) c.whole; fails = cons_fails stop x c.front e c.fails; stops = c.stops }
+cut_cons stop x xs false e c =
+    record { front = x ∷ c.front; rest = c.rest; whole = ap (λ t. x ∷ t) c.whole; fails = cons_fails stop x c.front e c.fails; stops = c.stops }
 
 pub cut_of : (stop : ℕ → Bool) (xs : List ℕ) → Cut stop xs
 cut_of stop [] = record { front = []; rest = []; whole = refl; fails = λ k d lt. absurd (omega arith); stops = tt }
 cut_of stop (x ∷ xs) = cut_cons stop x xs (stop x) refl (cut_of stop xs)
 
 -- at the end of a front stands the first of the rest
-stops_at : (stop : ℕ → Bool) (front rest : List ℕ) → Stops stop rest → length front < length (front ++ rest) → stop (get_or (front ++ rest) (length front) 0) ≡ true
+stops_at : (stop : ℕ → Bool) (front rest : List ℕ) → Stops stop rest → length front < length (front ++ rest)
+    → stop (get_or (front ++ rest) (length front) 0) ≡ true
 stops_at stop front [] s lt = absurd (let e : length (front ++ []) ≡ length front = grind (arith, common_steps) in omega arith)
 stops_at stop front (b ∷ more) s lt = let e : get_or (front ++ b ∷ more) (length front) 0 ≡ b = grind (arith, common_steps) in rw e s
 

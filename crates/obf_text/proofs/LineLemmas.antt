@@ -19,7 +19,8 @@ has_first_part {X} p (x ∷ xs) =
     elim (p x) as (λ t. (y : List X) × (more : List (List X)) × (cond t ([] ∷ slice_split p xs) (onto_first x (slice_split p xs)) ≡ y ∷ more))
     [ true ↦ ([], slice_split p xs, refl) | false ↦ onto_first_has x (slice_split p xs) ]
 
-pub keeps_first : (x : List ℕ) (ps : List (List ℕ)) (y : List ℕ) (more : List (List ℕ)) → ps ≡ y ∷ more → without_empty_last (x ∷ ps) ≡ x ∷ without_empty_last ps
+pub keeps_first : (x : List ℕ) (ps : List (List ℕ)) (y : List ℕ) (more : List (List ℕ)) → ps ≡ y ∷ more
+    → without_empty_last (x ∷ ps) ≡ x ∷ without_empty_last ps
 keeps_first [] ps y more e = rw e refl
 keeps_first (b ∷ bs) ps y more e = rw e refl
 

@@ -19,7 +19,8 @@ pub lists_skip : (piece : List ℕ) (pieces : List (List ℕ)) (fields : List Fi
 lists_skip piece pieces [] h l = (h, l)
 lists_skip piece pieces (f ∷ fields) h l = inr (h, l)
 
-lists_at : (piece : List ℕ) (pieces : List (List ℕ)) (o : Option Field) (fields : List Field) → field_of piece ≡ o → Lists pieces fields → Lists (piece ∷ pieces) (cons_option o fields)
+lists_at : (piece : List ℕ) (pieces : List (List ℕ)) (o : Option Field) (fields : List Field) → field_of piece ≡ o
+    → Lists pieces fields → Lists (piece ∷ pieces) (cons_option o fields)
 lists_at piece pieces None fields e l = lists_skip piece pieces fields (none_from piece e) l
 lists_at piece pieces (Some f) fields e l = inl (field_from piece f e, l)
 

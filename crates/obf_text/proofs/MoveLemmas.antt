@@ -1,5 +1,6 @@
 -- A text is a move exactly where the reader finds one.
-use Rattle.std.proofs.Common.{◌≡◌, ℕ, ◌+◌, ◌*◌, ◌/◌, ◌%◌, ◌<◌, ◌==◌, Bool, true, false, cond, List, [], ◌∷◌, refl, sym, inl, inr, ap, ap₂, subst, arith, get_or, Option, Some, None}
+use Rattle.std.proofs.Common.{◌≡◌, ℕ, ◌+◌, ◌*◌, ◌/◌, ◌%◌, ◌<◌, ◌==◌, Bool, true, false, cond, List, [], ◌∷◌, refl, sym}
+use Rattle.std.proofs.Common.{inl, inr, ap, ap₂, subst, arith, get_or, Option, Some, None}
 use Rattle.std.specs.Prelude.{◌⊎◌, ◌&&◌}
 use Rattle.std.proofs.lemmas.Bool.{and_parts, eqb-true}
 use Rattle.std.proofs.lemmas.Bool.Decides.{nat_tests}
@@ -24,7 +25,8 @@ row_from : (b k : ℕ) → row_of_digit b ≡ Some k → (k < 8) × (b ≡ 49 + 
 row_from b k e = (grind (arith, nat_tests), grind (arith, nat_tests))
 
 -- the two bytes of a square's name
-named_from : (a b column row : ℕ) → (a ≡ 65 + column) ⊎ (a ≡ 97 + column) → b ≡ 49 + row → column < 8 → row < 8 → (column + 8 * row < 64) × IsNameOf (a ∷ b ∷ []) (column + 8 * row)
+named_from : (a b column row : ℕ) → (a ≡ 65 + column) ⊎ (a ≡ 97 + column) → b ≡ 49 + row → column < 8 → row < 8
+    → (column + 8 * row < 64) × IsNameOf (a ∷ b ∷ []) (column + 8 * row)
 unfolding name_of
 named_from a b column row (inl e) f lc lr =
     let low : (column + 8 * row) % 8 ≡ column = omega arith in

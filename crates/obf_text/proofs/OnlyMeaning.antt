@@ -1,5 +1,6 @@
 -- A line has no other meaning than the one that the reader finds.
-use Rattle.std.proofs.Common.{◌≡◌, ◌≢◌, ℕ, ◌+◌, ◌<◌, ◌≤◌, ◌==◌, true, false, List, [], ◌∷◌, ◌++◌, length, map, take, drop, refl, sym, inl, inr, ◌∙◌, ap, arith, get_or, Some}
+use Rattle.std.proofs.Common.{◌≡◌, ◌≢◌, ℕ, ◌+◌, ◌<◌, ◌≤◌, ◌==◌, true, false, List, [], ◌∷◌, ◌++◌, length, map, take}
+use Rattle.std.proofs.Common.{drop, refl, sym, inl, inr, ◌∙◌, ap, arith, get_or, Some}
 use Rattle.std.specs.List.{position_or_len, AllPass}
 use Rattle.std.proofs.lemmas.List.{append-nil}
 use Rattle.std.proofs.lemmas.Grind.{common_steps}
@@ -12,7 +13,8 @@ use Rattle.othello_rules.specs.declared.discs.Cell.{Cell}
 use Rattle.othello_rules.specs.declared.discs.Side.{Side}
 use Rattle.obf_text.specs.Bytes.{is_blank, is_cell, is_content, is_no_cell, cell_of, side_of}
 use Rattle.obf_text.specs.Fields.{fields_of, pieces_of}
-use Rattle.obf_text.specs.Obf.{Meaning, Skipped, Holds, Faulty, Says, Skips, EndsShort, HasBadCell, HasBadSide, Spells, Entry, IsEndOrComment, IsNoSide, item_of, content_item, board_item, gap_item, side_item}
+use Rattle.obf_text.specs.Obf.{Meaning, Skipped, Holds, Faulty, Says, Skips, EndsShort, HasBadCell, HasBadSide, Spells}
+use Rattle.obf_text.specs.Obf.{Entry, IsEndOrComment, IsNoSide, item_of, content_item, board_item, gap_item, side_item}
 use Rattle.obf_text.proofs.Fronts.{Stops, blanks_len, cells_len}
 use Rattle.obf_text.proofs.ListedLemmas.{lists_only}
 use Rattle.obf_text.specs.declared.line_fault.LineFault.TheVariants.{Short, BadCell, BadSide, Memory}
@@ -67,7 +69,8 @@ cells_begin : (cells rest : List ℕ) → AllPass is_cell cells → 0 < length c
 cells_begin [] rest h some = absurd (omega arith)
 cells_begin (b ∷ cells) rest h some = (cell_starts b (h 0 0 some)).1
 
-short_item : (n : ℕ) (cells : List ℕ) → AllPass is_cell cells → 0 < length cells → length cells < 64 → content_item n (cells ++ []) ≡ Faulty (Short (length cells))
+short_item : (n : ℕ) (cells : List ℕ) → AllPass is_cell cells → 0 < length cells → length cells < 64
+    → content_item n (cells ++ []) ≡ Faulty (Short (length cells))
 short_item n cells h some few =
     let long : length (cells ++ []) ≡ length cells = grind (arith, common_steps) in
     rw (content_board n (cells ++ []) (omega arith) (cells_begin cells [] h some), cells_len cells [] h tt)
@@ -79,11 +82,13 @@ only_short line found s =
     rw (whole, item_start s.blanks (s.cells ++ []) s.blank (cells_stop s.cells [] s.spelled s.some), s.count)
     (sym (short_item (length s.blanks) s.cells s.spelled s.some s.few))
 
-bad_stop : (cells : List ℕ) (byte : ℕ) (more : List ℕ) → AllPass is_cell cells → (length cells ≡ 0 → (is_blank byte ≡ false) × (byte ≢ 37)) → Stops is_content (cells ++ byte ∷ more)
+bad_stop : (cells : List ℕ) (byte : ℕ) (more : List ℕ) → AllPass is_cell cells
+    → (length cells ≡ 0 → (is_blank byte ≡ false) × (byte ≢ 37)) → Stops is_content (cells ++ byte ∷ more)
 bad_stop [] byte more h starts = rw ((starts refl).0) refl
 bad_stop (b ∷ cells) byte more h starts = cells_stop (b ∷ cells) (byte ∷ more) h (omega arith)
 
-bad_begin : (cells : List ℕ) (byte : ℕ) (more : List ℕ) → AllPass is_cell cells → (length cells ≡ 0 → (is_blank byte ≡ false) × (byte ≢ 37)) → (get_or (cells ++ byte ∷ more) 0 0 == 37) ≡ false
+bad_begin : (cells : List ℕ) (byte : ℕ) (more : List ℕ) → AllPass is_cell cells
+    → (length cells ≡ 0 → (is_blank byte ≡ false) × (byte ≢ 37)) → (get_or (cells ++ byte ∷ more) 0 0 == 37) ≡ false
 bad_begin [] byte more h starts = let no : byte ≢ 37 = (starts refl).1 in grind (arith, nat_tests)
 bad_begin (b ∷ cells) byte more h starts = cells_begin (b ∷ cells) (byte ∷ more) h (omega arith)
 
@@ -118,7 +123,8 @@ board_cells : (cells rest : List ℕ) → length cells ≡ 64 → (take 64 (cell
 board_cells cells rest all =
     (ap (λ n. take n (cells ++ rest)) (sym all) ∙ take-append_seam cells rest, ap (λ n. drop n (cells ++ rest)) (sym all) ∙ drop-append_seam cells rest)
 
-full_item : (n : ℕ) (cells rest : List ℕ) → AllPass is_cell cells → length cells ≡ 64 → content_item n (cells ++ rest) ≡ gap_item (n + 64) (map cell_of cells) rest
+full_item : (n : ℕ) (cells rest : List ℕ) → AllPass is_cell cells → length cells ≡ 64
+    → content_item n (cells ++ rest) ≡ gap_item (n + 64) (map cell_of cells) rest
 full_item n cells rest h all =
     let parts = board_cells cells rest all in
     let long : length (cells ++ rest) ≡ length cells + length rest = grind (arith, common_steps) in
@@ -150,7 +156,8 @@ only_spells : (line : List ℕ) (entry : Entry) → Spells line entry → Holds 
 only_spells line entry s =
     let some : 0 < length s.cells = omega arith in
     let fields : entry.listed ≡ fields_of s.rest = lists_only (pieces_of s.rest) entry.listed s.fields in
-    let same : Holds entry ≡ Holds (record { position = record { cells = map cell_of s.cells; mover = entry.position.mover }; listed = fields_of s.rest }) = rw (← s.board, ← fields) refl in
+    let same : Holds entry ≡ Holds (record { position = record { cells = map cell_of s.cells; mover = entry.position.mover }; listed = fields_of s.rest }) =
+        rw (← s.board, ← fields) refl in
     rw (
       s.whole,
       item_start s.blanks (s.cells ++ (s.gap ++ s.byte ∷ s.rest)) s.blank (cells_stop s.cells (s.gap ++ s.byte ∷ s.rest) s.spelled some),

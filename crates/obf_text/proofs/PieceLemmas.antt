@@ -21,15 +21,18 @@ skipped_not entry e = cc
 same_entry : (a b : Entry) → Holds a ≡ Holds b → a ≡ b
 same_entry a b e = cc
 
-side_listed_at : (place : ℕ) (cells : List Cell) (mover : Option Side) (more : List ℕ) (entry : Entry) → side_item_at place cells mover more ≡ Holds entry → entry.listed ≡ fields_of more
+side_listed_at : (place : ℕ) (cells : List Cell) (mover : Option Side) (more : List ℕ) (entry : Entry)
+    → side_item_at place cells mover more ≡ Holds entry → entry.listed ≡ fields_of more
 side_listed_at place cells None more entry e = absurd (faulty_not _ entry e)
 side_listed_at place cells (Some mover) more entry e = sym (ap (λ (x : Entry). x.listed) (same_entry _ entry e))
 
-side_listed : (place : ℕ) (cells : List Cell) (tail : List ℕ) (entry : Entry) → side_item place cells tail ≡ Holds entry → entry.listed ≡ fields_of (drop 1 tail)
+side_listed : (place : ℕ) (cells : List Cell) (tail : List ℕ) (entry : Entry) → side_item place cells tail ≡ Holds entry
+    → entry.listed ≡ fields_of (drop 1 tail)
 side_listed place cells [] entry e = absurd (faulty_not _ entry e)
 side_listed place cells (b ∷ more) entry e = side_listed_at place cells (side_of b) more entry e
 
-gap_listed : (place : ℕ) (cells : List Cell) (tail : List ℕ) (entry : Entry) → gap_item place cells tail ≡ Holds entry → entry.listed ≡ fields_of (behind_side tail)
+gap_listed : (place : ℕ) (cells : List Cell) (tail : List ℕ) (entry : Entry) → gap_item place cells tail ≡ Holds entry
+    → entry.listed ≡ fields_of (behind_side tail)
 gap_listed place cells tail entry e =
     side_listed (place + position_or_len is_content tail) cells (drop (position_or_len is_content tail) tail) entry e
     ∙ ap fields_of (drop-drop 1 (position_or_len is_content tail) tail)

@@ -1,5 +1,6 @@
 -- A line that is written with any fields and with a comment after them is read back.
-use Rattle.std.proofs.Common.{◌≡◌, ℕ, ◌==◌, zero, suc, ◌+◌, true, false, Some, List, [], ◌∷◌, ◌++◌, length, map, take, refl, sym, inl, inr, ◌∙◌, ap, ap₂, subst, arith}
+use Rattle.std.proofs.Common.{◌≡◌, ℕ, ◌==◌, zero, suc, ◌+◌, true, false, Some, List, [], ◌∷◌, ◌++◌, length, map, take}
+use Rattle.std.proofs.Common.{refl, sym, inl, inr, ◌∙◌, ap, ap₂, subst, arith}
 use Rattle.std.specs.List.{AllPass, All, before_first, position_or_len, slice_split}
 use Rattle.std.proofs.lemmas.List.{append_assoc, append-nil}
 use Rattle.std.proofs.lemmas.List.Splits.{slice_split_at}
@@ -44,7 +45,8 @@ same_length (c ∷ cells) = ap suc (same_length cells)
 blank_back : (fields : List Field) → AreWritable fields → Lists (slice_split (λ b. b == 59) (fields_text fields ++ 32 ∷ [])) fields
 blank_back [] h = rw fields_none (none_from (32 ∷ []) refl, tt)
 blank_back (f ∷ fields) h =
-    let plain : All (λ b. (b == 59) ≡ false) (piece_text f) = (subst (λ t. Lacks 59 t) (append-nil (piece_text f)) (piece_onto 59 f [] h.0 (inr (inr refl)) (lacks_nil 59))).each in
+    let plain : All (λ b. (b == 59) ≡ false) (piece_text f) =
+        (subst (λ t. Lacks 59 t) (append-nil (piece_text f)) (piece_onto 59 f [] h.0 (inr (inr refl)) (lacks_nil 59))).each in
     let cut : slice_split (λ b. b == 59) (fields_text (f ∷ fields) ++ 32 ∷ []) ≡ piece_text f ∷ slice_split (λ b. b == 59) (fields_text fields ++ 32 ∷ []) =
     ap (λ t. slice_split (λ b. b == 59) (t ++ 32 ∷ [])) (fields_cons f fields)
     ∙ ap (slice_split (λ b. b == 59)) (append_assoc (piece_text f) (59 ∷ fields_text fields) (32 ∷ []))
@@ -55,7 +57,8 @@ blank_lacks : (fields : List Field) → AreWritable fields → Lacks 37 (fields_
 blank_lacks [] h = rw fields_none (lacks_cons 37 32 [] (omega arith) (lacks_nil 37))
 blank_lacks (f ∷ fields) h =
     subst (Lacks 37) (sym (ap (λ t. t ++ 32 ∷ []) (fields_cons f fields) ∙ append_assoc (piece_text f) (59 ∷ fields_text fields) (32 ∷ [])))
-    (piece_onto 37 f (59 ∷ (fields_text fields ++ 32 ∷ [])) h.0 (inr (inl refl)) (lacks_cons 37 59 (fields_text fields ++ 32 ∷ []) (omega arith) (blank_lacks fields h.1)))
+    (piece_onto 37 f (59 ∷ (fields_text fields ++ 32 ∷ [])) h.0 (inr (inl refl))
+        (lacks_cons 37 59 (fields_text fields ++ 32 ∷ []) (omega arith) (blank_lacks fields h.1)))
 
 -- the bytes before the first `%`
 before_percent : (xs more : List ℕ) → Lacks 37 xs → before_first (λ b. b == 37) (xs ++ 37 ∷ more) ≡ xs
@@ -70,13 +73,15 @@ before_percent (x ∷ xs) more h =
 fields_back : (fields : List Field) (more : List ℕ) → AreWritable fields → Lists (pieces_of (59 ∷ (fields_text fields ++ 32 ∷ 37 ∷ more))) fields
 fields_back fields more h =
     let all = lacks_cons 37 59 (fields_text fields ++ 32 ∷ []) (omega arith) (blank_lacks fields h) in
-    let shape : 59 ∷ (fields_text fields ++ 32 ∷ 37 ∷ more) ≡ (59 ∷ (fields_text fields ++ 32 ∷ [])) ++ 37 ∷ more = ap (λ t. 59 ∷ t) (sym (append_assoc (fields_text fields) (32 ∷ []) (37 ∷ more))) in
+    let shape : 59 ∷ (fields_text fields ++ 32 ∷ 37 ∷ more) ≡ (59 ∷ (fields_text fields ++ 32 ∷ [])) ++ 37 ∷ more =
+        ap (λ t. 59 ∷ t) (sym (append_assoc (fields_text fields) (32 ∷ []) (37 ∷ more))) in
     let front : before_first (λ b. b == 37) (59 ∷ (fields_text fields ++ 32 ∷ 37 ∷ more)) ≡ 59 ∷ (fields_text fields ++ 32 ∷ []) =
     ap (before_first (λ b. b == 37)) shape ∙ before_percent (59 ∷ (fields_text fields ++ 32 ∷ [])) more all in
     subst (λ t. Lists (slice_split (λ b. b == 59) t) fields) (sym front)
     (lists_skip [] (slice_split (λ b. b == 59) (fields_text fields ++ 32 ∷ [])) fields empty_is_none (blank_back fields h))
 
-entry_parts : (P : GridView) (fields : List Field) (tail : List ℕ) → entry_text P fields ++ tail ≡ map cell_byte P.cells ++ (32 ∷ side_byte P.mover ∷ 59 ∷ (fields_text fields ++ tail))
+entry_parts : (P : GridView) (fields : List Field) (tail : List ℕ)
+    → entry_text P fields ++ tail ≡ map cell_byte P.cells ++ (32 ∷ side_byte P.mover ∷ 59 ∷ (fields_text fields ++ tail))
 unfolding entry_text board_text
 entry_parts P fields tail =
     append_assoc (map cell_byte P.cells ++ (32 ∷ side_byte P.mover ∷ 59 ∷ [])) (fields_text fields) tail
@@ -110,7 +115,8 @@ pub bare_parts : (P : GridView) (fields : List Field) → entry_text P fields �
 unfolding entry_text board_text
 bare_parts P fields = append_assoc (map cell_byte P.cells) (32 ∷ side_byte P.mover ∷ 59 ∷ []) (fields_text fields)
 
-pub bare_says : (P : GridView) (fields : List Field) → length P.cells ≡ 64 → AreWritable fields → Says (entry_text P fields) (Holds (record { position = P; listed = fields }))
+pub bare_says : (P : GridView) (fields : List Field) → length P.cells ≡ 64 → AreWritable fields
+    → Says (entry_text P fields) (Holds (record { position = P; listed = fields }))
 bare_says P fields all h = record {
   blanks = [];
   cells = map cell_byte P.cells;
@@ -128,5 +134,6 @@ bare_says P fields all h = record {
 }
 
 -- a line without a comment says the position and the fields
-pub bare_item : (P : GridView) (fields : List Field) → length P.cells ≡ 64 → AreWritable fields → item_of (entry_text P fields) ≡ Holds (record { position = P; listed = fields })
+pub bare_item : (P : GridView) (fields : List Field) → length P.cells ≡ 64 → AreWritable fields
+    → item_of (entry_text P fields) ≡ Holds (record { position = P; listed = fields })
 bare_item P fields all h = sym (says_only (entry_text P fields) (Holds (record { position = P; listed = fields })) (bare_says P fields all h))

@@ -1,5 +1,6 @@
 -- Each line has a meaning.
-use Rattle.std.proofs.Common.{◌≡◌, ◌≢◌, ℕ, ◌+◌, ◌<◌, ◌≤◌, ◌==◌, suc, Bool, true, false, List, [], ◌∷◌, ◌++◌, length, map, take, drop, refl, sym, inl, inr, ◌∙◌, ap, arith, get_or, Option, Some, None, subst}
+use Rattle.std.proofs.Common.{◌≡◌, ◌≢◌, ℕ, ◌+◌, ◌<◌, ◌≤◌, ◌==◌, suc, Bool, true, false, List, [], ◌∷◌, ◌++◌, length}
+use Rattle.std.proofs.Common.{map, take, drop, refl, sym, inl, inr, ◌∙◌, ap, arith, get_or, Option, Some, None, subst}
 use Rattle.std.specs.List.{All, AllPass}
 use Rattle.std.proofs.lemmas.List.{append-nil, get_or-take, length-take-le, take-append-drop}
 use Rattle.std.proofs.Math.ListN.{get_or-append}
@@ -29,28 +30,41 @@ part_says : (line blanks front rest : List ℕ) → line ≡ blanks ++ (front ++
     → 0 < length (front ++ rest) → is_blank (get_or (front ++ rest) 0 0) ≡ false → get_or (front ++ rest) 0 0 ≢ 37 → length front < 64 → Something line
 part_says line blanks [] [] w h c s some nb nc few = absurd (omega arith)
 part_says line blanks (x ∷ front) [] w h c s some nb nc few =
-    (Faulty (Short (length (x ∷ front))), record { blanks = blanks; cells = x ∷ front; whole = w ∙ ap (λ t. blanks ++ t) (append-nil (x ∷ front)); blank = h; spelled = c; some = omega arith; few = few; count = refl })
+    (Faulty (Short (length (x ∷ front))),
+        record { blanks = blanks; cells = x ∷ front; whole = w ∙ ap (λ t. blanks ++ t) (append-nil (x ∷ front));
+        blank = h; spelled = c; some = omega arith; few = few; count = refl })
 part_says line blanks [] (b ∷ more) w h c s some nb nc few =
-    (Faulty (BadCell (length blanks + (0 + 1))), record { blanks = blanks; cells = []; byte = b; more = more; whole = w; blank = h; spelled = c; few = few; bad = not-true _ s; starts = λ z. (nb, nc); place = refl })
+    (Faulty (BadCell (length blanks + (0 + 1))),
+        record { blanks = blanks; cells = []; byte = b; more = more; whole = w; blank = h; spelled = c; few = few;
+        bad = not-true _ s; starts = λ z. (nb, nc); place = refl })
 part_says line blanks (x ∷ front) (b ∷ more) w h c s some nb nc few =
-    (Faulty (BadCell (length blanks + (length (x ∷ front) + 1))), record { blanks = blanks; cells = x ∷ front; byte = b; more = more; whole = w; blank = h; spelled = c; few = few; bad = not-true _ s; starts = λ z. absurd (let e : suc (length front) ≡ 0 = z in omega arith); place = refl })
+    (Faulty (BadCell (length blanks + (length (x ∷ front) + 1))),
+        record { blanks = blanks; cells = x ∷ front; byte = b; more = more; whole = w; blank = h; spelled = c;
+        few = few; bad = not-true _ s; starts = λ z. absurd (let e : suc (length front) ≡ 0 = z in omega arith); place = refl })
 
 -- the bytes from the side's place on
-side_says : (line blanks cells gap : List ℕ) (byte : ℕ) (rest : List ℕ) (mover : Option Side) → side_of byte ≡ mover → line ≡ blanks ++ (cells ++ (gap ++ byte ∷ rest)) → AllPass is_blank blanks
+side_says : (line blanks cells gap : List ℕ) (byte : ℕ) (rest : List ℕ) (mover : Option Side) → side_of byte ≡ mover
+    → line ≡ blanks ++ (cells ++ (gap ++ byte ∷ rest)) → AllPass is_blank blanks
     → AllPass is_cell cells → length cells ≡ 64 → AllPass is_blank gap → is_content byte ≡ true → Something line
 side_says line blanks cells gap byte rest None e w h c all g s =
-    (Faulty (BadSide (length blanks + (64 + (length gap + 1)))), record { blanks = blanks; cells = cells; gap = gap; rest = byte ∷ rest; whole = w; blank = h; spelled = c; all = all; gap_blank = g; bad = (not-true _ s, e); place = refl })
+    (Faulty (BadSide (length blanks + (64 + (length gap + 1)))),
+        record { blanks = blanks; cells = cells; gap = gap; rest = byte ∷ rest; whole = w; blank = h; spelled = c;
+        all = all; gap_blank = g; bad = (not-true _ s, e); place = refl })
 side_says line blanks cells gap byte rest (Some mover) e w h c all g s =
-    (Holds (record { position = record { cells = map cell_of cells; mover = mover }; listed = fields_of rest }), record { blanks = blanks; cells = cells; gap = gap; byte = byte; rest = rest; whole = w; blank = h; spelled = c; all = all; gap_blank = g; board = refl; mover = e; fields = lists_computed (pieces_of rest) })
+    (Holds (record { position = record { cells = map cell_of cells; mover = mover }; listed = fields_of rest }),
+        record { blanks = blanks; cells = cells; gap = gap; byte = byte; rest = rest; whole = w; blank = h; spelled = c;
+        all = all; gap_blank = g; board = refl; mover = e; fields = lists_computed (pieces_of rest) })
 
 gap_says : (line blanks cells gap rest : List ℕ) → line ≡ blanks ++ (cells ++ (gap ++ rest)) → AllPass is_blank blanks
     → AllPass is_cell cells → length cells ≡ 64 → AllPass is_blank gap → Stops is_content rest → Something line
 gap_says line blanks cells gap [] w h c all g s =
-    (Faulty (BadSide (length blanks + (64 + (length gap + 1)))), record { blanks = blanks; cells = cells; gap = gap; rest = []; whole = w; blank = h; spelled = c; all = all; gap_blank = g; bad = tt; place = refl })
+    (Faulty (BadSide (length blanks + (64 + (length gap + 1)))),
+        record { blanks = blanks; cells = cells; gap = gap; rest = []; whole = w; blank = h; spelled = c; all = all; gap_blank = g; bad = tt; place = refl })
 gap_says line blanks cells gap (b ∷ more) w h c all g s = side_says line blanks cells gap b more (side_of b) refl w h c all g s
 
 -- a line with 64 cells
-full_says : (line blanks rest front more : List ℕ) → line ≡ blanks ++ rest → rest ≡ front ++ more → AllPass is_blank blanks → AllPass is_cell front → 64 ≤ length front → Something line
+full_says : (line blanks rest front more : List ℕ) → line ≡ blanks ++ rest → rest ≡ front ++ more
+    → AllPass is_blank blanks → AllPass is_cell front → 64 ≤ length front → Something line
 full_says line blanks rest front more w e h c many =
     let long : length rest ≡ length front + length more = ap length e ∙ grind (arith, common_steps) in
     let parts : rest ≡ take 64 rest ++ drop 64 rest = sym (take-append-drop 64 rest) in
@@ -63,7 +77,8 @@ full_says line blanks rest front more w e h c many =
     gap_says line blanks (take 64 rest) cut.front cut.rest
     (w ∙ ap (λ t. blanks ++ t) (parts ∙ ap (λ t. take 64 rest ++ t) cut.whole)) h cells all (blanks_from cut.front cut.fails) cut.stops
 
-board_says : (line blanks rest : List ℕ) → line ≡ blanks ++ rest → AllPass is_blank blanks → 0 < length rest → is_blank (get_or rest 0 0) ≡ false → get_or rest 0 0 ≢ 37 → Something line
+board_says : (line blanks rest : List ℕ) → line ≡ blanks ++ rest → AllPass is_blank blanks → 0 < length rest
+    → is_blank (get_or rest 0 0) ≡ false → get_or rest 0 0 ≢ 37 → Something line
 board_says line blanks rest w h some nb nc =
     let cut = cut_of is_no_cell rest in
     elim (cases_lt (length cut.front) 64) [
@@ -72,7 +87,8 @@ board_says line blanks rest w h some nb nc =
       | inr many ↦ full_says line blanks rest cut.front cut.rest w cut.whole h (cells_from cut.front cut.fails) many
     ]
 
-content_at : (line blanks : List ℕ) (b : ℕ) (more : List ℕ) (t : Bool) → (b == 37) ≡ t → line ≡ blanks ++ b ∷ more → AllPass is_blank blanks → is_content b ≡ true → Something line
+content_at : (line blanks : List ℕ) (b : ℕ) (more : List ℕ) (t : Bool) → (b == 37) ≡ t → line ≡ blanks ++ b ∷ more
+    → AllPass is_blank blanks → is_content b ≡ true → Something line
 content_at line blanks b more true e w h s = (Skipped, record { blanks = blanks; rest = b ∷ more; whole = w; blank = h; ends = eqb-true b 37 e })
 content_at line blanks b more false e w h s =
     board_says line blanks (b ∷ more) w h (omega arith) (not-true _ s) (λ is. let no : b ≡ 37 = is in grind (arith, nat_tests))

@@ -1,5 +1,6 @@
 -- The steps of the loops that write.
-use Rattle.std.proofs.Common.{◌≡◌, ℕ, ℤ, pos, negsuc, w8, to_z, of_z, arith, ◌+◌, ◌<◌, List, [], ◌∷◌, ◌++◌, length, ◌≤◌, map, take, drop, get_or, refl, sym, ◌∙◌, ap, ap₂, Option, Some}
+use Rattle.std.proofs.Common.{◌≡◌, ℕ, ℤ, pos, negsuc, w8, to_z, of_z, arith, ◌+◌, ◌<◌, List, [], ◌∷◌, ◌++◌, length, ◌≤◌}
+use Rattle.std.proofs.Common.{map, take, drop, get_or, refl, sym, ◌∙◌, ap, ap₂, Option, Some}
 use Rattle.std.specs.Prelude.{nat_abs, slice_get, slice_set}
 use Rattle.std.specs.Io.KnownBytes.{Appends}
 use Rattle.std.proofs.lemmas.Int.{to_z-of_z}
@@ -14,7 +15,8 @@ use Rattle.obf_text.specs.Written.{best_fields_text, cell_byte, field_text, fiel
 use Rattle.obf_text.proofs.WriterLemmas.{Completes, completes_end, completes_more, completes_start}
 
 -- one more cell
-pub cells_more : (bytes : List ℕ) (cells : List Cell) (n byte : ℕ) (c : Cell) → n < length bytes → n < length cells → take n bytes ≡ map cell_byte (take n cells)
+pub cells_more : (bytes : List ℕ) (cells : List Cell) (n byte : ℕ) (c : Cell) → n < length bytes → n < length cells
+    → take n bytes ≡ map cell_byte (take n cells)
     → slice_get cells n ≡ Some c → byte ≡ cell_byte c → take (n + 1) (slice_set bytes n byte) ≡ map cell_byte (take (n + 1) cells)
 cells_more bytes cells n byte c b l front at is =
     let here : get_or cells n c ≡ c = get_or_from_slice_get cells n c c at in

@@ -1,5 +1,6 @@
 -- The fields that are written are read back.
-use Rattle.std.proofs.Common.{◌≡◌, ℕ, ℤ, pos, negsuc, ◌+◌, ◌/◌, ◌%◌, ◌<◌, ◌≤◌, ◌==◌, zero, suc, Bool, true, false, List, [], ◌∷◌, ◌++◌, cond, length, map, refl, sym, inl, inr, ◌∙◌, ap, subst, arith}
+use Rattle.std.proofs.Common.{◌≡◌, ℕ, ℤ, pos, negsuc, ◌+◌, ◌/◌, ◌%◌, ◌<◌, ◌≤◌, ◌==◌, zero, suc, Bool, true, false, List}
+use Rattle.std.proofs.Common.{[], ◌∷◌, ◌++◌, cond, length, map, refl, sym, inl, inr, ◌∙◌, ap, subst, arith}
 use Rattle.std.specs.Prelude.{nat_abs, neg_ℤ, ◌⊎◌}
 use Rattle.std.specs.List.{All, AllPass, before_first, filter, position_or_len, range_with_len, slice_split}
 use Rattle.std.proofs.Math.Seq.{take-length}
@@ -83,9 +84,11 @@ move_onto c (At q) tail h mark rest =
     lacks_cons c _ _ (plain_apart c (65 + q % 8) mark (omega arith, omega arith, omega arith))
     (lacks_cons c _ _ (plain_apart c (49 + q / 8) mark (omega arith, omega arith, omega arith)) rest)
 move_onto c Pass tail h mark rest =
-    lacks_cons c _ _ (plain_apart c 80 mark (omega arith, omega arith, omega arith)) (lacks_cons c _ _ (plain_apart c 83 mark (omega arith, omega arith, omega arith)) rest)
+    lacks_cons c _ _ (plain_apart c 80 mark (omega arith, omega arith, omega arith))
+        (lacks_cons c _ _ (plain_apart c 83 mark (omega arith, omega arith, omega arith)) rest)
 move_onto c Over tail h mark rest =
-    lacks_cons c _ _ (plain_apart c 45 mark (omega arith, omega arith, omega arith)) (lacks_cons c _ _ (plain_apart c 45 mark (omega arith, omega arith, omega arith)) rest)
+    lacks_cons c _ _ (plain_apart c 45 mark (omega arith, omega arith, omega arith))
+        (lacks_cons c _ _ (plain_apart c 45 mark (omega arith, omega arith, omega arith)) rest)
 
 digits_onto : (c n : ℕ) (tail : List ℕ) → n ≤ 64 → IsMark c → Lacks c tail → Lacks c ((48 + n / 10) ∷ (48 + n % 10) ∷ tail)
 digits_onto c n tail h mark rest =
@@ -122,7 +125,8 @@ fields_cons f fields = ap (λ t. t ++ fields_text fields) (field_parts f) ∙ ap
 lists_back : (fields : List Field) → AreWritable fields → Lists (slice_split (λ b. b == 59) (fields_text fields)) fields
 lists_back [] h = rw fields_none (empty_is_none, tt)
 lists_back (f ∷ fields) h =
-    let plain : All (λ b. (b == 59) ≡ false) (piece_text f) = (subst (λ t. Lacks 59 t) (append-nil (piece_text f)) (piece_onto 59 f [] h.0 (inr (inr refl)) (lacks_nil 59))).each in
+    let plain : All (λ b. (b == 59) ≡ false) (piece_text f) =
+        (subst (λ t. Lacks 59 t) (append-nil (piece_text f)) (piece_onto 59 f [] h.0 (inr (inr refl)) (lacks_nil 59))).each in
     let cut : slice_split (λ b. b == 59) (fields_text (f ∷ fields)) ≡ piece_text f ∷ slice_split (λ b. b == 59) (fields_text fields) =
     ap (slice_split (λ b. b == 59)) (fields_cons f fields) ∙ slice_split_at (λ b. b == 59) (piece_text f) 59 (fields_text fields) plain refl in
     rw cut (inl (piece_back f h.0, lists_back fields h.1))
@@ -131,9 +135,12 @@ lists_back (f ∷ fields) h =
 pub fields_lack : (c : ℕ) (fields : List Field) → AreWritable fields → (c ≡ 10) ⊎ (c ≡ 37) → Lacks c (fields_text fields)
 fields_lack c [] h mark = rw fields_none (lacks_nil c)
 fields_lack c (f ∷ fields) h (inl e) =
-    rw (fields_cons f fields) (piece_onto c f (59 ∷ fields_text fields) h.0 (inl e) (lacks_cons c 59 (fields_text fields) (rw e (omega arith)) (fields_lack c fields h.1 (inl e))))
+    rw (fields_cons f fields)
+        (piece_onto c f (59 ∷ fields_text fields) h.0 (inl e) (lacks_cons c 59 (fields_text fields) (rw e (omega arith)) (fields_lack c fields h.1 (inl e))))
 fields_lack c (f ∷ fields) h (inr e) =
-    rw (fields_cons f fields) (piece_onto c f (59 ∷ fields_text fields) h.0 (inr (inl e)) (lacks_cons c 59 (fields_text fields) (rw e (omega arith)) (fields_lack c fields h.1 (inr e))))
+    rw (fields_cons f fields)
+        (piece_onto c f (59 ∷ fields_text fields) h.0 (inr (inl e))
+        (lacks_cons c 59 (fields_text fields) (rw e (omega arith)) (fields_lack c fields h.1 (inr e))))
 
 whole_before : (xs : List ℕ) → All (λ b. (b == 37) ≡ false) xs → before_first (λ b. b == 37) xs ≡ xs
 whole_before xs h =
@@ -145,7 +152,8 @@ whole_before xs h =
 pub all_back : (fields : List Field) → AreWritable fields → Lists (pieces_of (59 ∷ fields_text fields)) fields
 all_back fields h =
     let plain = (lacks_cons 37 59 (fields_text fields) (omega arith) (fields_lack 37 fields h (inr refl))).each in
-    rw (whole_before (59 ∷ fields_text fields) plain) (lists_skip [] (slice_split (λ b. b == 59) (fields_text fields)) fields empty_is_none (lists_back fields h))
+    rw (whole_before (59 ∷ fields_text fields) plain)
+        (lists_skip [] (slice_split (λ b. b == 59) (fields_text fields)) fields empty_is_none (lists_back fields h))
 
 pub score_size : (z : ℤ) → IsScore z → nat_abs z ≤ 64
 score_size (pos n) h = let high = h.high in omega (arith, ints)
@@ -159,7 +167,10 @@ kept_below : (p : ℕ → Bool) (a n : ℕ) → a + n ≤ 64 → AreBelow (filte
 kept_below p a zero h = tt
 kept_below p a (suc n) h =
     let rest = kept_below p (a + 1) n (omega arith) in
-    elim (p a) as (λ t. AreBelow (cond t (a ∷ filter p (range_with_len (a + 1) n)) (filter p (range_with_len (a + 1) n)))) [ true ↦ (omega arith, rest) | false ↦ rest ]
+    elim (p a) as (λ t. AreBelow (cond t (a ∷ filter p (range_with_len (a + 1) n)) (filter p (range_with_len (a + 1) n)))) [
+      | true ↦ (omega arith, rest)
+      | false ↦ rest
+    ]
 
 squares_below : (mask : ℕ) → AreBelow (squares_of mask)
 unfolding squares_of squares

@@ -27,7 +27,8 @@ same_line P A = refl
 line_parts : (P : GridView) (A : AnswerView) → line_text P A ≡ map cell_byte P.cells ++ (32 ∷ side_byte P.mover ∷ 59 ∷ fields_text (answer_fields A))
 line_parts P A = same_line P A ∙ bare_parts P (answer_fields A)
 
-pub written_says : (P : GridView) (A : AnswerView) → length P.cells ≡ 64 → IsScore A.score → Says (line_text P A) (Holds (record { position = P; listed = answer_fields A }))
+pub written_says : (P : GridView) (A : AnswerView) → length P.cells ≡ 64 → IsScore A.score
+    → Says (line_text P A) (Holds (record { position = P; listed = answer_fields A }))
 written_says P A all h = rw (same_line P A) (bare_says P (answer_fields A) all (best_writable A.score A.best (score_size A.score h)))
 
 cells_onto : (cells : List Cell) (tail : List ℕ) → Lacks 10 tail → Lacks 10 (map cell_byte cells ++ tail)
@@ -42,7 +43,9 @@ side_onto side.White tail rest = lacks_cons 10 79 tail (omega arith) rest
 
 line_lacks : (P : GridView) (A : AnswerView) → IsScore A.score → Lacks 10 (line_text P A)
 line_lacks P A h =
-    let fields = lacks_cons 10 59 (fields_text (answer_fields A)) (omega arith) (fields_lack 10 (answer_fields A) (best_writable A.score A.best (score_size A.score h)) (inl refl)) in
+    let fields =
+        lacks_cons 10 59 (fields_text (answer_fields A)) (omega arith)
+            (fields_lack 10 (answer_fields A) (best_writable A.score A.best (score_size A.score h)) (inl refl)) in
     rw (line_parts P A) (cells_onto P.cells _ (lacks_cons 10 32 _ (omega arith) (side_onto P.mover _ fields)))
 
 -- a text whose last byte is a semicolon

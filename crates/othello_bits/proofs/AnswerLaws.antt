@@ -24,7 +24,8 @@ filter-filter p r (x ∷ xs) =
       | inr b ↦ rw (b, filter-filter p r xs) refl
     ]
 
-is_best-is : (g : Scoring) (p : PosView) (q : ℕ) → q < 64 → (rules.is_move (position_of Black p) q && worth.is_best g (position_of Black p) q) ≡ is_best_move g p q
+is_best-is : (g : Scoring) (p : PosView) (q : ℕ) → q < 64
+    → (rules.is_move (position_of Black p) q && worth.is_best g (position_of Black p) q) ≡ is_best_move g p q
 unfolding moves_of rules.moves value_of
 is_best-is g p q h = λ k. sym (in_mask-where (rules.is_move (position_of Black p)) q h) k && int_eq (neg_ℤ (sym (value_play g p q) k)) (value_of g p)
 
@@ -42,16 +43,19 @@ best-is g p =
     elim (cases_eq (moves_of p) 0) [
       | inr some ↦
           best_is_moves g P (can_go p some) ∙ ap Moves (best_mask g p)
-          ∙ sym (cond-false (eqb (moves_of p) 0) (cond (eqb (moves_of (pass_of p)) 0) Over Pass) (Moves (mask_where (is_best_move g p))) (ne_eqb (moves_of p) 0 some))
+          ∙ sym (cond-false (eqb (moves_of p) 0) (cond (eqb (moves_of (pass_of p)) 0) Over Pass)
+              (Moves (mask_where (is_best_move g p))) (ne_eqb (moves_of p) 0 some))
       | inl none ↦
           elim (cases_eq (moves_of (pass_of p)) 0) [
             | inr reply ↦
                 best_is_pass g P (cannot_move p none) (can_reply p reply)
-                ∙ sym (cond-true (eqb (moves_of p) 0) (cond (eqb (moves_of (pass_of p)) 0) Over Pass) (Moves (mask_where (is_best_move g p))) (eq-eqb (moves_of p) 0 none)
+                ∙ sym (cond-true (eqb (moves_of p) 0) (cond (eqb (moves_of (pass_of p)) 0) Over Pass)
+                    (Moves (mask_where (is_best_move g p))) (eq-eqb (moves_of p) 0 none)
                 ∙ cond-false (eqb (moves_of (pass_of p)) 0) Over Pass (ne_eqb (moves_of (pass_of p)) 0 reply))
             | inl over ↦
                 best_is_over g P (cannot_move p none) (cannot_reply p over)
-                ∙ sym (cond-true (eqb (moves_of p) 0) (cond (eqb (moves_of (pass_of p)) 0) Over Pass) (Moves (mask_where (is_best_move g p))) (eq-eqb (moves_of p) 0 none)
+                ∙ sym (cond-true (eqb (moves_of p) 0) (cond (eqb (moves_of (pass_of p)) 0) Over Pass)
+                    (Moves (mask_where (is_best_move g p))) (eq-eqb (moves_of p) 0 none)
                 ∙ cond-true (eqb (moves_of (pass_of p)) 0) Over Pass (eq-eqb (moves_of (pass_of p)) 0 over))
           ]
     ]

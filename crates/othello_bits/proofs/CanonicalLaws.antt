@@ -59,17 +59,20 @@ first_best P =
 pub canonical-least : (P : GridView) (t : Sym) → pair_of (discs_of (canonical P)) ≤ image_pair P t
 canonical-least P t =
     let best = first_best P in
-    let no : ltb (image_pair P (get_or symmetries (place t) t)) (image_pair P (get_or symmetries (place (first_symmetry P)) t)) ≡ false = best.1 (place t) t (place_below t) in
+    let no : ltb (image_pair P (get_or symmetries (place t) t)) (image_pair P (get_or symmetries (place (first_symmetry P)) t)) ≡ false =
+        best.1 (place t) t (place_below t) in
     ltb-false (image_pair P t) (image_pair P (first_symmetry P)) (rw (at_place t t, at_place (first_symmetry P) t) at no)
 
 pub canonical-first : (P : GridView) (t : Sym) → place t < place (first_symmetry P) → pair_of (discs_of (canonical P)) < image_pair P t
 canonical-first P t h =
     let best = first_best P in
-    let less : ltb (image_pair P (get_or symmetries (place (first_symmetry P)) t)) (image_pair P (get_or symmetries (place t) t)) ≡ true = best.2 (place t) t h in
+    let less : ltb (image_pair P (get_or symmetries (place (first_symmetry P)) t)) (image_pair P (get_or symmetries (place t) t)) ≡ true =
+        best.2 (place t) t h in
     ltb-true (image_pair P (first_symmetry P)) (image_pair P t) (rw (at_place t t, at_place (first_symmetry P) t) at less)
 
 -- and a symmetry of which this holds is the first
-pub is_first_symmetry : (P : GridView) (s : Sym) → ((t : Sym) → image_pair P s ≤ image_pair P t) → ((t : Sym) → place t < place s → image_pair P s < image_pair P t) → first_symmetry P ≡ s
+pub is_first_symmetry : (P : GridView) (s : Sym) → ((t : Sym) → image_pair P s ≤ image_pair P t)
+    → ((t : Sym) → place t < place s → image_pair P s < image_pair P t) → first_symmetry P ≡ s
 is_first_symmetry P s least before =
     let mine : IsFirstBest (λ s t. nat_lt (image_pair P s) (image_pair P t)) symmetries 8 (place s) = (
       place_below s,
@@ -82,7 +85,8 @@ is_first_symmetry P s least before =
           subst (λ j. nat_lt (image_pair P (get_or symmetries (place s) d)) (image_pair P (get_or symmetries j d)) ≡ true) one.1
           (rw (at_place one.0 d, at_place s d) (lt-ltb (image_pair P s) (image_pair P one.0) (before one.0 (rw one.1 h)))),
     ) in
-    let same : place (first_symmetry P) ≡ place s = IsFirstBest-unique (IsStrictWeakOrder-by_number (image_pair P)) symmetries 8 (place (first_symmetry P)) (place s) Identity (first_best P) mine in
+    let same : place (first_symmetry P) ≡ place s =
+        IsFirstBest-unique (IsStrictWeakOrder-by_number (image_pair P)) symmetries 8 (place (first_symmetry P)) (place s) Identity (first_best P) mine in
     sym (at_place (first_symmetry P) Identity) ∙ ap (λ k. get_or symmetries k Identity) same ∙ at_place s Identity
 
 -- all images of a position have one canonical position
@@ -101,4 +105,5 @@ pub canonical-image : (t : Sym) (P : GridView) → length P.cells ≡ 64 → can
 canonical-image t P full =
     let back : pair_of (discs_of (canonical (image t P))) ≤ pair_of (discs_of (canonical P)) =
     subst (λ Q. pair_of (discs_of (canonical (image t P))) ≤ pair_of (discs_of (canonical Q))) (image-back t P full) (no_more (inverse t) (image t P)) in
-    same_from_pair (canonical (image t P)) (canonical P) (length-image (first_symmetry (image t P)) (image t P)) (length-image (first_symmetry P) P) refl (le_antisymm back (no_more t P))
+    same_from_pair (canonical (image t P)) (canonical P) (length-image (first_symmetry (image t P)) (image t P))
+        (length-image (first_symmetry P) P) refl (le_antisymm back (no_more t P))

@@ -28,10 +28,12 @@ swapped-position : (p : PosView) → colour_swap (position_of side.Black p) ≡ 
 unfolding cells_of
 swapped-position p =
     let each : (λ i. swap_cell (cell_at side.Black p i)) ≡ cell_at side.White p = λ k i. swap-cell (in_mask p.own i) (in_mask p.opp i) k in
-    let cells : map swap_cell (map (cell_at side.Black p) squares) ≡ map (cell_at side.White p) squares = map_twice swap_cell (cell_at side.Black p) squares ∙ ap (λ (f : ℕ → Cell). map f squares) each in
+    let cells : map swap_cell (map (cell_at side.Black p) squares) ≡ map (cell_at side.White p) squares =
+        map_twice swap_cell (cell_at side.Black p) squares ∙ ap (λ (f : ℕ → Cell). map f squares) each in
     λ k. record { cells = cells k; mover = side.White }
 
-pub as_black : {X : Type 0} (f : GridView → X) → ((P : GridView) → f (colour_swap P) ≡ f P) → (s : Side) (p : PosView) → f (position_of s p) ≡ f (position_of side.Black p)
+pub as_black : {X : Type 0} (f : GridView → X) → ((P : GridView) → f (colour_swap P) ≡ f P) → (s : Side) (p : PosView)
+    → f (position_of s p) ≡ f (position_of side.Black p)
 as_black f same side.Black p = refl
 as_black f same side.White p = sym (ap f (swapped-position p)) ∙ same (position_of side.Black p)
 

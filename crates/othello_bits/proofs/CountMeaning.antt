@@ -24,7 +24,8 @@ count-map p g (x ∷ xs) =
     ∙ ap (λ n. cond (p (g x)) 1 0 + n) (count-map p g xs)
     ∙ sym (sum_by-cons (λ i. cond (p (g i)) 1 0) x xs)
 
-count-cells : (c : Cell) (s : Side) (p : PosView) (f : ℕ → Bool) → ((i : ℕ) → same_cell c (cell_at s p i) ≡ f i) → rules.count_of (position_of s p) c ≡ count_by f squares
+count-cells : (c : Cell) (s : Side) (p : PosView) (f : ℕ → Bool) → ((i : ℕ) → same_cell c (cell_at s p i) ≡ f i)
+    → rules.count_of (position_of s p) c ≡ count_by f squares
 unfolding cells_of
 count-cells c s p f h =
     let same : (λ i. same_cell c (cell_at s p i)) ≡ f = λ k i. h i k in
@@ -39,11 +40,13 @@ count-opposing s p fine = count-cells (disc (other s)) s p (in_mask p.opp) (λ i
 pub count-empty : (s : Side) (p : PosView) → rules.count_of (position_of s p) Empty ≡ count_by (λ i. not (in_mask p.own i || in_mask p.opp i)) squares
 count-empty s p = count-cells Empty s p (λ i. not (in_mask p.own i || in_mask p.opp i)) (same-empty_cell s p)
 
-pub free-meaning : (s : Side) (own opp : ℕ) → own < 2 ^ 64 → opp < 2 ^ 64 → ones (bit_not w64 (bit_or own opp)) ≡ rules.count_of (position_of s (discs own opp)) Empty
+pub free-meaning : (s : Side) (own opp : ℕ) → own < 2 ^ 64 → opp < 2 ^ 64
+    → ones (bit_not w64 (bit_or own opp)) ≡ rules.count_of (position_of s (discs own opp)) Empty
 free-meaning s own opp hown hopp = free_count own opp hown hopp ∙ sym (count-empty s (discs own opp))
 
 pub final-meaning : (g : Scoring) (s : Side) (p : PosView) → AreApart p
-    → scores.final g (position_of s p) ≡ scores.score_of g (count_by (in_mask p.own) squares) (count_by (in_mask p.opp) squares) (count_by (λ i. not (in_mask p.own i || in_mask p.opp i)) squares)
+    → scores.final g (position_of s p)
+    ≡ scores.score_of g (count_by (in_mask p.own) squares) (count_by (in_mask p.opp) squares) (count_by (λ i. not (in_mask p.own i || in_mask p.opp i)) squares)
 unfolding scores.final
 final-meaning g s p fine =
     let m = count-own s p in

@@ -1,5 +1,6 @@
 -- The masks that end a run: at its ray's lowest square that isn't opposing, or at its highest.
-use Rattle.std.proofs.Common.{◌≡◌, ℕ, zero, suc, ◌-◌, ◌*◌, ◌/◌, ◌%◌, ◌^◌, ◌+◌, ◌<◌, ◌≤◌, Bool, true, false, not, ◌&&◌, ◌||◌, eqb, ltb, ◌⊎◌, ◌≢◌, inl, inr, List, bit_and, bit_or, refl, ap, sym, ◌∙◌, arith}
+use Rattle.std.proofs.Common.{◌≡◌, ℕ, zero, suc, ◌-◌, ◌*◌, ◌/◌, ◌%◌, ◌^◌, ◌+◌, ◌<◌, ◌≤◌, Bool, true, false, not, ◌&&◌}
+use Rattle.std.proofs.Common.{◌||◌, eqb, ltb, ◌⊎◌, ◌≢◌, inl, inr, List, bit_and, bit_or, refl, ap, sym, ◌∙◌, arith}
 use mir.Val.{bool_byte}
 use Rattle.std.specs.Int.{bit_at, bit_not, w64}
 use Rattle.std.proofs.Math.Bool.{and-false, and-true, or-false}
@@ -20,7 +21,11 @@ even_from x e =
     grind (arith, nat_tests)
 
 suc_test : (a b : ℕ) → ltb (suc a) (suc b) ≡ ltb a b
-suc_test a b = elim (cases_lt a b) [ inl l ↦ lt-ltb (suc a) (suc b) (omega arith) ∙ sym (lt-ltb a b l) | inr g ↦ le-ltb (suc a) (suc b) (omega arith) ∙ sym (le-ltb a b g) ]
+suc_test a b =
+    elim (cases_lt a b) [
+      | inl l ↦ lt-ltb (suc a) (suc b) (omega arith) ∙ sym (lt-ltb a b l)
+      | inr g ↦ le-ltb (suc a) (suc b) (omega arith) ∙ sym (le-ltb a b g)
+    ]
 
 -- taking 1 from a number turns the lowest of its bits and all below it
 less_one : (t x i : ℕ) → in_mask x t ≡ true → ((j : ℕ) → j < t → in_mask x j ≡ false) → in_mask (x - 1) i ≡ (ltb i t || (in_mask x i && ltb t i))
@@ -32,10 +37,15 @@ less_one zero x zero b z =
 less_one zero x (suc i) b z =
     let odd : x % 2 ≡ 1 = sym (bit_at_lowest x) ∙ eqb-true (bit_at x 0) 1 b in
     let e : (x - 1) / 2 ≡ x / 2 = omega arith in
-    ap (λ n. eqb n 1) (bit_at-suc (x - 1) i ∙ ap (λ y. bit_at y i) e ∙ sym (bit_at-suc x i)) ∙ rw (le-ltb (suc i) 0 (omega arith), lt-ltb 0 (suc i) (omega arith)) (sym (and-true (eqb (bit_at x (suc i)) 1)))
+    ap (λ n. eqb n 1) (bit_at-suc (x - 1) i ∙ ap (λ y. bit_at y i) e ∙ sym (bit_at-suc x i))
+        ∙ rw (le-ltb (suc i) 0 (omega arith), lt-ltb 0 (suc i) (omega arith)) (sym (and-true (eqb (bit_at x (suc i)) 1)))
 less_one (suc t) x zero b z =
     let even : x % 2 ≡ 0 = even_from x (z 0 (omega arith)) in
-    let some : 0 < x = elim (cases_lt 0 x) [ inl l ↦ l | inr l ↦ let none : x ≡ 0 = omega arith in absurd (false≢true (sym (in_mask-zero (suc t)) ∙ ap (λ n. eqb (bit_at n (suc t)) 1) (sym none) ∙ b)) ] in
+    let some : 0 < x =
+        elim (cases_lt 0 x) [
+          | inl l ↦ l
+          | inr l ↦ let none : x ≡ 0 = omega arith in absurd (false≢true (sym (in_mask-zero (suc t)) ∙ ap (λ n. eqb (bit_at n (suc t)) 1) (sym none) ∙ b))
+        ] in
     let e : (x - 1) % 2 ≡ 1 = omega arith in
     ap (λ n. eqb n 1) (bit_at_lowest (x - 1) ∙ e) ∙ rw (lt-ltb 0 (suc t) (omega arith))
 less_one (suc t) x (suc i) b z =
@@ -120,7 +130,8 @@ module _ (own opp ray : ℕ) (hopp : opp < 2 ^ 64) (hray : ray < 2 ^ 64) (met : 
         let n : (j : ℕ) → j < t → in_mask (rest opp ray) j ≡ false = λ j l. ap (λ n. eqb n 1) (z.2 j l) in
         (t, b, n, λ i. is_end t b n i (cases_lt i 64))
       where
-        lower_is : (t : ℕ) → in_mask (rest opp ray) t ≡ true → ((j : ℕ) → j < t → in_mask (rest opp ray) j ≡ false) → (i : ℕ) → in_mask lower i ≡ (ltb i t || (in_mask (rest opp ray) i && ltb t i))
+        lower_is : (t : ℕ) → in_mask (rest opp ray) t ≡ true → ((j : ℕ) → j < t → in_mask (rest opp ray) j ≡ false)
+            → (i : ℕ) → in_mask lower i ≡ (ltb i t || (in_mask (rest opp ray) i && ltb t i))
         lower_is t b n i =
             let e : lower ≡ rest opp ray - 1 = omega (arith, rest_fits opp ray, some_rest (rest opp ray) t b) in
             ap (λ m. in_mask m i) e ∙ less_one t (rest opp ray) i b n
@@ -135,10 +146,12 @@ module _ (own opp ray : ℕ) (hopp : opp < 2 ^ 64) (hray : ray < 2 ^ 64) (met : 
               rw (le-ltb i t g, lt-ltb t i l, ne_eqb t i d) (past (in_mask own i) (in_mask (rest opp ray) i) (in_mask own t))
         ]
 
-        is_end : (t : ℕ) → in_mask (rest opp ray) t ≡ true → ((j : ℕ) → j < t → in_mask (rest opp ray) j ≡ false) → (i : ℕ) → (i < 64) ⊎ (64 ≤ i) → in_mask lowest_end i ≡ (in_mask own t && eqb t i)
+        is_end : (t : ℕ) → in_mask (rest opp ray) t ≡ true → ((j : ℕ) → j < t → in_mask (rest opp ray) j ≡ false)
+            → (i : ℕ) → (i < 64) ⊎ (64 ≤ i) → in_mask lowest_end i ≡ (in_mask own t && eqb t i)
         is_end t b n i (inl l) =
             let fits : lower < 2 ^ 64 = omega arith in
-            rw (in_mask-and (bit_and own (rest opp ray)) (bit_not w64 lower) i, in_mask-and own (rest opp ray) i, in_mask-not lower i fits l, lower_is t b n i) (placed t b n i (cases_eq t i))
+            rw (in_mask-and (bit_and own (rest opp ray)) (bit_not w64 lower) i, in_mask-and own (rest opp ray) i, in_mask-not lower i fits l, lower_is t b n i)
+                (placed t b n i (cases_eq t i))
         is_end t b n i (inr g) =
             let l = below_top (rest opp ray) t (rest_fits opp ray) b in
             in_mask-above lowest_end i (end_fits (bit_not w64 lower)) g ∙ sym (rw (ne_eqb t i (λ e. absurd (omega arith))) (and-false (in_mask own t)))
@@ -149,7 +162,8 @@ module _ (own opp ray : ℕ) (hopp : opp < 2 ^ 64) (hray : ray < 2 ^ 64) (met : 
         let t = f.0 in
         let o = own_end own t lowest_end (end_fits (bit_not w64 lower)) f.3 h in
         in_mask-and ray (lowest_end - 1) i ∙ ap (λ b. in_mask ray i && b) (less_end own t lowest_end f.3 o i)
-        ∙ sym (turned_before ltb one_way_up own opp ray hopp hray met ray_is t f.1 (λ j l. f.2 j (ltb-true j t l)) i ∙ ap (λ c. c && (in_mask ray i && ltb i t)) o)
+        ∙ sym (turned_before ltb one_way_up own opp ray hopp hray met ray_is t f.1 (λ j l. f.2 j (ltb-true j t l)) i
+            ∙ ap (λ c. c && (in_mask ray i && ltb i t)) o)
 
     ahead_open : lowest_end ≡ 0 → (i : ℕ) → in_mask 0 i ≡ turns own opp met i
     ahead_open h i = in_mask-zero i ∙ sym (elim (cases_lt 0 (rest opp ray)) [
@@ -159,7 +173,8 @@ module _ (own opp ray : ℕ) (hopp : opp < 2 ^ 64) (hray : ray < 2 ^ 64) (met : 
       | inl some ↦
           let f = lowest some in
           let t = f.0 in
-          turned_before ltb one_way_up own opp ray hopp hray met ray_is t f.1 (λ j l. f.2 j (ltb-true j t l)) i ∙ ap (λ c. c && (in_mask ray i && ltb i t)) (not_own own t lowest_end f.3 h)
+          turned_before ltb one_way_up own opp ray hopp hray met ray_is t f.1 (λ j l. f.2 j (ltb-true j t l)) i
+              ∙ ap (λ c. c && (in_mask ray i && ltb i t)) (not_own own t lowest_end f.3 h)
     ])
 
     -- an end less one, or nothing where there is no end
@@ -235,7 +250,8 @@ module _ (own opp ray : ℕ) (hopp : opp < 2 ^ 64) (hray : ray < 2 ^ 64) (met : 
   highest some =
       let f = top_of (rest opp ray) (rest_fits opp ray) in
       let t = f.0 in
-      let n : (j : ℕ) → t < j → in_mask (rest opp ray) j ≡ false = λ j l. (or_parts (in_mask (rest opp ray) j) (eqb 0 j) (sym (is_with_first (rest opp ray) j) ∙ f.3 j l)).0 in
+      let n : (j : ℕ) → t < j → in_mask (rest opp ray) j ≡ false =
+          λ j l. (or_parts (in_mask (rest opp ray) j) (eqb 0 j) (sym (is_with_first (rest opp ray) j) ∙ f.3 j l)).0 in
       let s = some_square (rest opp ray) (rest_fits opp ray) (λ z. absurd (omega arith)) in
       let b : in_mask (rest opp ray) t ≡ true = elim (or_cases (in_mask (rest opp ray) t) (eqb 0 t) (sym (is_with_first (rest opp ray) t) ∙ f.2)) [
         | inl e ↦ e
@@ -256,7 +272,8 @@ module _ (own opp ray : ℕ) (hopp : opp < 2 ^ 64) (hray : ray < 2 ^ 64) (met : 
             | inr d ↦ ne_eqb 63 (i + count_leading_zeros 64 marked) (λ s. absurd (d (omega arith))) ∙ sym (ne_eqb t i d)
           ]
 
-      placed : (t : ℕ) → in_mask (rest opp ray) t ≡ true → (i : ℕ) → (t ≡ i) ⊎ (t ≢ i) → ((in_mask own i && in_mask (rest opp ray) i) && eqb t i) ≡ (in_mask own t && eqb t i)
+      placed : (t : ℕ) → in_mask (rest opp ray) t ≡ true → (i : ℕ) → (t ≡ i) ⊎ (t ≢ i)
+          → ((in_mask own i && in_mask (rest opp ray) i) && eqb t i) ≡ (in_mask own t && eqb t i)
       placed t b i (inl e) = rw (← e, b, eq-eqb t t refl) (single (in_mask own t))
       placed t b i (inr d) = rw (ne_eqb t i d) (rw (and-false (in_mask own i && in_mask (rest opp ray) i), and-false (in_mask own t)) refl)
 
@@ -288,7 +305,8 @@ module _ (own opp ray : ℕ) (hopp : opp < 2 ^ 64) (hray : ray < 2 ^ 64) (met : 
           let e : less end ≡ end - 1 = omega (arith, fits, some_rest end t (alone own t end is o t ∙ eq-eqb t t refl)) in
           let low_fits : less end < 2 ^ 64 = omega arith in
           ap (λ b. in_mask ray i && b) (in_mask-not (bit_or end (less end)) i (or_lt 64 end (less end) fits low_fits) l ∙ ap not (in_mask-or end (less end) i)
-          ∙ ap (λ b. not (b || in_mask (less end) i)) (alone own t end is o i) ∙ ap (λ b. not (eqb t i || b)) (ap (λ m. in_mask m i) e ∙ less_end own t end is o i)
+          ∙ ap (λ b. not (b || in_mask (less end) i)) (alone own t end is o i)
+          ∙ ap (λ b. not (eqb t i || b)) (ap (λ m. in_mask m i) e ∙ less_end own t end is o i)
           ∙ above i t)
 
   past_none : (end : ℕ) → end ≡ 0 → (i : ℕ) → in_mask (beyond end) i ≡ false

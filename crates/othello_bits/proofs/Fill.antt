@@ -4,7 +4,14 @@ use Rattle.othello_rules.specs.Masks.{in_mask}
 use Rattle.othello_bits.specs.Shifts.{chain}
 use Rattle.othello_bits.proofs.Bits.{in_mask-and, in_mask-or}
 
-doubling : (p0 l0 s1 p1 l1 s2 p2 l2 s3 p3 l3 s4 p4 l4 s5 p5 l5 s6 : Bool) → ((((p0 && (l0 && s1)) || (p0 && (l0 && (p1 && (l1 && s2))))) || ((p0 && (l0 && p1)) && (l0 && (l1 && ((p2 && (l2 && s3)) || (p2 && (l2 && (p3 && (l3 && s4))))))))) || ((p0 && (l0 && p1)) && (l0 && (l1 && (((p2 && (l2 && s3)) || (p2 && (l2 && (p3 && (l3 && s4))))) || ((p2 && (l2 && p3)) && (l2 && (l3 && ((p4 && (l4 && s5)) || (p4 && (l4 && (p5 && (l5 && s6))))))))))))) ≡ (p0 && (l0 && (s1 || (p1 && (l1 && (s2 || (p2 && (l2 && (s3 || (p3 && (l3 && (s4 || (p4 && (l4 && (s5 || (p5 && (l5 && (s6 || false))))))))))))))))))
+doubling : (p0 l0 s1 p1 l1 s2 p2 l2 s3 p3 l3 s4 p4 l4 s5 p5 l5 s6 : Bool)
+    → ((((p0 && (l0 && s1)) || (p0 && (l0 && (p1 && (l1 && s2)))))
+    || ((p0 && (l0 && p1)) && (l0 && (l1 && ((p2 && (l2 && s3)) || (p2 && (l2 && (p3 && (l3 && s4)))))))))
+    || ((p0 && (l0 && p1))
+    && (l0 && (l1
+    && (((p2 && (l2 && s3)) || (p2 && (l2 && (p3 && (l3 && s4)))))
+    || ((p2 && (l2 && p3)) && (l2 && (l3 && ((p4 && (l4 && s5)) || (p4 && (l4 && (p5 && (l5 && s6)))))))))))))
+    ≡ (p0 && (l0 && (s1 || (p1 && (l1 && (s2 || (p2 && (l2 && (s3 || (p3 && (l3 && (s4 || (p4 && (l4 && (s5 || (p5 && (l5 && (s6 || false))))))))))))))))))
 doubling false l0 s1 p1 l1 s2 p2 l2 s3 p3 l3 s4 p4 l4 s5 p5 l5 s6 = refl
 doubling true false s1 p1 l1 s2 p2 l2 s3 p3 l3 s4 p4 l4 s5 p5 l5 s6 = refl
 doubling true true true p1 l1 s2 p2 l2 s3 p3 l3 s4 p4 l4 s5 p5 l5 s6 = refl
@@ -43,7 +50,12 @@ module _ (can : ℕ → Bool) (back : ℕ → ℕ) (S P : ℕ → Bool) where
 
   six_is_chain : (i : ℕ) → six i ≡ chain 6 can back S P i
   unfolding chain
-  six_is_chain i = doubling (P i) (can i) (S (back i)) (P (back i)) (can (back i)) (S (back (back i))) (P (back (back i))) (can (back (back i))) (S (back (back (back i)))) (P (back (back (back i)))) (can (back (back (back i)))) (S (back (back (back (back i))))) (P (back (back (back (back i))))) (can (back (back (back (back i))))) (S (back (back (back (back (back i)))))) (P (back (back (back (back (back i)))))) (can (back (back (back (back (back i)))))) (S (back (back (back (back (back (back i)))))))
+  six_is_chain i =
+      doubling (P i) (can i) (S (back i)) (P (back i)) (can (back i)) (S (back (back i))) (P (back (back i)))
+          (can (back (back i))) (S (back (back (back i)))) (P (back (back (back i)))) (can (back (back (back i))))
+          (S (back (back (back (back i))))) (P (back (back (back (back i))))) (can (back (back (back (back i)))))
+          (S (back (back (back (back (back i)))))) (P (back (back (back (back (back i))))))
+          (can (back (back (back (back (back i)))))) (S (back (back (back (back (back (back i)))))))
 
 -- the fill from its parts
 module _ (can : ℕ → Bool) (back : ℕ → ℕ) (from within s1 s2 s3 s4 s5 s6 s7 : ℕ)
@@ -71,7 +83,11 @@ module _ (can : ℕ → Bool) (back : ℕ → ℕ) (from within s1 s2 s3 s4 s5 s
     is_pairs i = cc (in_mask-and within s3 i, e3 i)
 
     is_four : (i : ℕ) → in_mask b4 i ≡ four can back (in_mask from) (in_mask within) i
-    is_four i = cc (in_mask-or b2 (bit_and (bit_and within s3) s5) i, is_two i, in_mask-and (bit_and within s3) s5 i, is_pairs i, e5 i, e4 (back i), is_two (back (back i)))
+    is_four i =
+        cc (in_mask-or b2 (bit_and (bit_and within s3) s5) i, is_two i, in_mask-and (bit_and within s3) s5 i,
+            is_pairs i, e5 i, e4 (back i), is_two (back (back i)))
 
     pub filled : (i : ℕ) → in_mask (bit_or b4 (bit_and (bit_and within s3) s7)) i ≡ chain 6 can back (in_mask from) (in_mask within) i
-    filled i = cc (in_mask-or b4 (bit_and (bit_and within s3) s7) i, is_four i, in_mask-and (bit_and within s3) s7 i, is_pairs i, e7 i, e6 (back i), is_four (back (back i)), six_is_chain can back (in_mask from) (in_mask within) i)
+    filled i =
+        cc (in_mask-or b4 (bit_and (bit_and within s3) s7) i, is_four i, in_mask-and (bit_and within s3) s7 i,
+            is_pairs i, e7 i, e6 (back i), is_four (back (back i)), six_is_chain can back (in_mask from) (in_mask within) i)

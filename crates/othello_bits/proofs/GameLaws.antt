@@ -13,7 +13,8 @@ use Rattle.othello_rules.proofs.BoundLaws as bounds
 use Rattle.othello_rules.proofs.RangeLaws.{value-IsScore}
 use Rattle.othello_rules.proofs.CountLaws as counts
 use Rattle.othello_rules.proofs.ValueLaws as laws
-use Rattle.othello_bits.specs.Pos.{mask_where, PosView, cells_of, position_of, discs_of, moves_of, play_of, pass_of, IsMove, HasNoMove, NeitherHasMove, empties_of, final_of, value_of, answer_of}
+use Rattle.othello_bits.specs.Pos.{mask_where, PosView, cells_of, position_of, discs_of, moves_of, play_of, pass_of}
+use Rattle.othello_bits.specs.Pos.{IsMove, HasNoMove, NeitherHasMove, empties_of, final_of, value_of, answer_of}
 use Rattle.othello_bits.proofs.CellLaws.{length-cells_of}
 use Rattle.othello_bits.proofs.PlayMeaning.{position_of-discs_of}
 use Rattle.othello_bits.proofs.CountMeaning.{count-empty}
@@ -36,7 +37,8 @@ empties-discs_of P whole = count-empty Black (discs_of P) ∙ sym (count-empty P
 moves-discs_of : (P : GridView) → length P.cells ≡ 64 → moves_of (discs_of P) ≡ mask_where (rules.is_move P)
 unfolding moves_of rules.moves
 moves-discs_of P whole =
-    let each : rules.is_move (position_of Black (discs_of P)) ≡ rules.is_move P = λ k q. (is_move-either Black P.mover (discs_of P) q ∙ ap (λ Q. rules.is_move Q q) (position_of-discs_of P whole)) k in
+    let each : rules.is_move (position_of Black (discs_of P)) ≡ rules.is_move P =
+        λ k q. (is_move-either Black P.mover (discs_of P) q ∙ ap (λ Q. rules.is_move Q q) (position_of-discs_of P whole)) k in
     ap mask_where each
 
 whole_pass : (p : PosView) → length (rules.pass (position_of Black p)).cells ≡ 64
@@ -98,9 +100,12 @@ value_above g p q m =
 pub value_reached : (g : Scoring) (p : PosView) → (moves_of p ≡ 0 → ⊥) → (q : ℕ) × IsMove p q × (neg_ℤ (value_of g (play_of p q)) ≡ value_of g p)
 unfolding value_of
 value_reached g p n =
-    let r : (q : ℕ) × Contains (rules.moves (position_of Black p)) q × (neg_ℤ (worth.value g (rules.play (position_of Black p) q)) ≡ worth.value g (position_of Black p)) = bounds.value_reached g (position_of Black p) (can_go p n) in (
+    let r : (q : ℕ) × Contains (rules.moves (position_of Black p)) q
+        × (neg_ℤ (worth.value g (rules.play (position_of Black p) q)) ≡ worth.value g (position_of Black p)) =
+        bounds.value_reached g (position_of Black p) (can_go p n) in (
       r.0,
-      IsMove-from p r.0 (moves.square_below r.0 (moves.move_on_board (position_of Black p) r.0 r.1)) (moves.is_move-from_Contains (position_of Black p) r.0 r.1),
+      IsMove-from p r.0 (moves.square_below r.0 (moves.move_on_board (position_of Black p) r.0 r.1))
+          (moves.is_move-from_Contains (position_of Black p) r.0 r.1),
       ap neg_ℤ (value_play g p r.0) ∙ r.2,
     )
 
@@ -113,7 +118,8 @@ value_score g p =
 pub empties-move : (p : PosView) (q : ℕ) → IsMove p q → empties_of (play_of p q) + 1 ≡ empties_of p
 unfolding empties_of play_of
 empties-move p q m =
-    let e : empties_of (play_of p q) ≡ worth.empties (rules.play (position_of Black p) q) = empties-discs_of (rules.play (position_of Black p) q) (whole_play p q) in
+    let e : empties_of (play_of p q) ≡ worth.empties (rules.play (position_of Black p) q) =
+        empties-discs_of (rules.play (position_of Black p) q) (whole_play p q) in
     ap (λ n. n + 1) e ∙ counts.empties-play (position_of Black p) q (contained p q m)
 
 pub empties_positive : (p : PosView) (q : ℕ) → IsMove p q → 0 < empties_of p

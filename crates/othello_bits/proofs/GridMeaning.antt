@@ -29,7 +29,8 @@ discs-apart P =
     zero_from_none (bit_and a b) low
     (λ i h. in_mask-and a b i ∙ (λ k. in_mask-where (rules.has P (rules.own P)) i h k && in_mask-where (rules.has P (rules.opposing P)) i h k) ∙ never_both P i)
 
-pub cells-filled : (s : Side) (p : PosView) (xs : List Cell) → length xs ≡ 64 → ((k : ℕ) (d : Cell) → k < 64 → get_or xs k d ≡ cell_at s p k) → xs ≡ cells_of s p
+pub cells-filled : (s : Side) (p : PosView) (xs : List Cell) → length xs ≡ 64
+    → ((k : ℕ) (d : Cell) → k < 64 → get_or xs k d ≡ cell_at s p k) → xs ≡ cells_of s p
 cells-filled s p xs whole each =
     same_lists xs (cells_of s p) (whole ∙ sym (length-cells_of s p))
     (λ k d h. let low : k < 64 = rw whole at h in each k d low ∙ sym (get_or-cells_of s p k d low))

@@ -15,7 +15,8 @@ use Rattle.othello_rules.proofs.ImageValue.{value-image_by, answer-image_by_move
 use Rattle.othello_rules.specs.declared.discs.Cell.TheVariants.{Empty}
 use Rattle.othello_rules.proofs.Renaming.{get_or-moved_cells}
 use Rattle.othello_bits.specs.Pos.{PosView, position_of, discs_of, value_of, answer_of}
-use Rattle.othello_bits.specs.Symmetries.{target, inverse, image, mask_image, best_image, place, pair_of, image_pair, first_symmetry, canonical, image_of, canonical_of}
+use Rattle.othello_bits.specs.Symmetries.{target, inverse, image, mask_image, best_image, place, pair_of, image_pair}
+use Rattle.othello_bits.specs.Symmetries.{first_symmetry, canonical, image_of, canonical_of}
 use Rattle.othello_bits.specs.declared.sym.Sym.{Sym}
 use Rattle.othello_bits.proofs.TestMasks.{filter_again}
 use Rattle.othello_bits.proofs.AnswerLaws.{filter-filter}
@@ -34,13 +35,16 @@ squares_of-best g P =
     ∙ filter_again (λ q. rules.is_move P q && worth.is_best g P q)
     ∙ sym (filter-filter (worth.is_best g P) (rules.is_move P) squares)
 
-pub answer-image : (g : Scoring) (s : Sym) (P : GridView) → length P.cells ≡ 64 → worth.answer g (image s P) ≡ record { score = worth.value g P; best = best_image s (worth.answer g P).best }
+pub answer-image : (g : Scoring) (s : Sym) (P : GridView) → length P.cells ≡ 64
+    → worth.answer g (image s P) ≡ record { score = worth.value g P; best = best_image s (worth.answer g P).best }
 unfolding worth.answer
 answer-image g s P full =
     elim (cases_Bool (worth.can_move P)) [
       | inl h ↦
-          let e : mask_image s (mask_of (worth.best_moves g P)) ≡ mask_of (map (target s) (worth.best_moves g P)) = image_of_squares s (worth.best_moves g P) (squares_of-best g P) in
-          let b : best_image s (worth.best g P) ≡ Moves (mask_of (map (target s) (worth.best_moves g P))) = ap (best_image s) (best_is_moves g P h) ∙ ap Moves e in
+          let e : mask_image s (mask_of (worth.best_moves g P)) ≡ mask_of (map (target s) (worth.best_moves g P)) =
+              image_of_squares s (worth.best_moves g P) (squares_of-best g P) in
+          let b : best_image s (worth.best g P) ≡ Moves (mask_of (map (target s) (worth.best_moves g P))) =
+              ap (best_image s) (best_is_moves g P h) ∙ ap Moves e in
           answer-image_by_moves g (renaming s) P full h ∙ (λ k. record { score = worth.value g P; best = sym b k })
       | inr h ↦
           let b : best_image s (worth.best g P) ≡ worth.best g P =
@@ -54,9 +58,11 @@ answer-image g s P full =
 pub value_of-image_of : (g : Scoring) (s : Sym) (p : PosView) → value_of g (image_of s p) ≡ value_of g p
 unfolding image_of value_of
 value_of-image_of g s p =
-    value-discs_of g (image s (position_of Black p)) (length-image s (position_of Black p)) ∙ value-image_by g (renaming s) (position_of Black p) (length-cells_of Black p)
+    value-discs_of g (image s (position_of Black p)) (length-image s (position_of Black p))
+        ∙ value-image_by g (renaming s) (position_of Black p) (length-cells_of Black p)
 
-pub answer_of-image_of : (g : Scoring) (s : Sym) (p : PosView) → answer_of g (image_of s p) ≡ record { score = value_of g p; best = best_image s (answer_of g p).best }
+pub answer_of-image_of : (g : Scoring) (s : Sym) (p : PosView)
+    → answer_of g (image_of s p) ≡ record { score = value_of g p; best = best_image s (answer_of g p).best }
 unfolding image_of value_of answer_of
 answer_of-image_of g s p =
     answer-discs_of g (image s (position_of Black p)) (length-image s (position_of Black p)) ∙ answer-image g s (position_of Black p) (length-cells_of Black p)
@@ -78,14 +84,17 @@ not_before P s h e =
     let same : image_pair P s ≡ pair_of (discs_of (canonical P)) = ap (λ Q. pair_of (discs_of Q)) e in
     absurd (omega (arith, less, same))
 
-pub answer_of-back : (g : Scoring) (p : PosView) → answer_of g p ≡ record { score = value_of g (canonical_of p); best = best_image (inverse (first_symmetry (position_of Black p))) (answer_of g (canonical_of p)).best }
+pub answer_of-back : (g : Scoring) (p : PosView)
+    → answer_of g p
+    ≡ record { score = value_of g (canonical_of p); best = best_image (inverse (first_symmetry (position_of Black p))) (answer_of g (canonical_of p)).best }
 unfolding value_of answer_of canonical_of
 answer_of-back g p =
     let P : GridView = position_of Black p in
     let s : Sym = first_symmetry P in
     let here : worth.answer g P ≡ record { score = worth.value g (image s P); best = best_image (inverse s) (worth.answer g (image s P)).best } =
     ap (worth.answer g) (sym (image-back s P (length-cells_of Black p))) ∙ answer-image g (inverse s) (image s P) (length-image s P) in
-    here ∙ (λ k. record { score = sym (value-discs_of g (image s P) (length-image s P)) k; best = best_image (inverse s) (sym (answer-discs_of g (image s P) (length-image s P)) k).best })
+    here ∙ (λ k. record { score = sym (value-discs_of g (image s P) (length-image s P)) k;
+        best = best_image (inverse s) (sym (answer-discs_of g (image s P) (length-image s P)) k).best })
 
 pub cell-placed : (s : Sym) (P : GridView) (q : ℕ) → q < 64 → get_or (image s P).cells (target s q) Empty ≡ get_or P.cells q Empty
 cell-placed s P q h =

@@ -1,5 +1,6 @@
 -- How many discs are turned on all lines from a square, where no other square is empty.
-use Rattle.std.proofs.Common.{◌≡◌, ◌≢◌, ℕ, ◌+◌, ◌<◌, Bool, true, false, cond, not, ◌&&◌, ◌||◌, eqb, ltb, inl, inr, List, [], ◌∷◌, length, bit_and, refl, ap, sym, ◌∙◌, arith}
+use Rattle.std.proofs.Common.{◌≡◌, ◌≢◌, ℕ, ◌+◌, ◌<◌, Bool, true, false, cond, not, ◌&&◌, ◌||◌, eqb, ltb, inl, inr, List}
+use Rattle.std.proofs.Common.{[], ◌∷◌, length, bit_and, refl, ap, sym, ◌∙◌, arith}
 use Rattle.std.specs.List.{list_all, list_any, count_by}
 use Rattle.std.proofs.Math.Bool.{and-false}
 use Rattle.std.proofs.lemmas.Bool.{agree_below_at, ltb-true, eqb-true, false≢true, and_parts, not-true, cases_Bool, cases_eq, eq-eqb, ne_eqb}
@@ -56,7 +57,8 @@ module _ (own opp : ℕ → Bool) where
       by true = run_none i xs n
       by false = refl
 
-  count_put : (o : Bool) (x : ℕ) (xs rs : List ℕ) → x < 64 → ((i : ℕ) → (eqb x i && mem i rs) ≡ false) → count_below 64 (λ i. mem i rs) ≡ length rs → count_below 64 (λ i. mem i (cond o (x ∷ rs) [])) ≡ length (cond o (x ∷ rs) [])
+  count_put : (o : Bool) (x : ℕ) (xs rs : List ℕ) → x < 64 → ((i : ℕ) → (eqb x i && mem i rs) ≡ false)
+      → count_below 64 (λ i. mem i rs) ≡ length rs → count_below 64 (λ i. mem i (cond o (x ∷ rs) [])) ≡ length (cond o (x ∷ rs) [])
   count_put true x xs rs l apart ih = let b = both_below 64 (λ i. eqb x i) (λ i. mem i rs) apart in omega (arith, b, one_at x l, ih)
   count_put false x xs rs l apart ih = none_at
 
@@ -84,7 +86,8 @@ module _ (own opp : ℕ → Bool) where
       let e = or_none (mem i met) (list_any (mem i) ls) n in
       rw (turned_none i met e.0, any_none i ls e.1) refl
 
-  count_lines : (ls : List (List ℕ)) → apart_lines ls ≡ true → count_below 64 (λ i. list_any (λ met. mem i (turned_on own opp met)) ls) ≡ total (λ met. length (turned_on own opp met)) ls
+  count_lines : (ls : List (List ℕ)) → apart_lines ls ≡ true
+      → count_below 64 (λ i. list_any (λ met. mem i (turned_on own opp met)) ls) ≡ total (λ met. length (turned_on own opp met)) ls
   unfolding apart_lines total
   count_lines [] a = none_at
   count_lines (met ∷ ls) a =
@@ -96,7 +99,8 @@ module _ (own opp : ℕ → Bool) where
             rw n (and-false (mem i (turned_on own opp met)))
         | inr m ↦ rw (turned_none i met m) refl
       ] in
-      both_below 64 (λ i. mem i (turned_on own opp met)) (λ i. list_any (λ m. mem i (turned_on own opp m)) ls) apart ∙ (λ k. count_turned met p.0 k + count_lines ls r.1 k)
+      both_below 64 (λ i. mem i (turned_on own opp met)) (λ i. list_any (λ m. mem i (turned_on own opp m)) ls) apart
+          ∙ (λ k. count_turned met p.0 k + count_lines ls r.1 k)
 
 negated_by : (a b : Bool) → (a || b) ≡ true → (a && b) ≡ false → b ≡ not a
 negated_by true true f e = absurd (false≢true (sym e))
@@ -110,7 +114,8 @@ module _ (own opp q : ℕ) (apart : bit_and own opp ≡ 0) (filled : (i : ℕ) �
   is_opposite : (x : ℕ) → off q x ≡ true → in_mask opp x ≡ not (in_mask own x)
   is_opposite x t =
       let p = and_parts (ltb x 64) (not (eqb x q)) t in
-      negated_by (in_mask own x) (in_mask opp x) (filled x (ltb-true x 64 p.0) (λ e. false≢true (sym (not-true (eqb x q) p.1) ∙ eq-eqb x q e))) (empty_meet own opp apart x)
+      negated_by (in_mask own x) (in_mask opp x)
+          (filled x (ltb-true x 64 p.0) (λ e. false≢true (sym (not-true (eqb x q) p.1) ∙ eq-eqb x q e))) (empty_meet own opp apart x)
 
   closes-same : (xs : List ℕ) → list_all (off q) xs ≡ true → closes (in_mask own) (in_mask opp) xs ≡ closes (in_mask own) (λ i. not (in_mask own i)) xs
   unfolding closes
@@ -122,7 +127,8 @@ module _ (own opp q : ℕ) (apart : bit_and own opp ≡ 0) (filled : (i : ℕ) �
   run-same [] a = refl
   run-same (x ∷ xs) a = let p = and_parts (off q x) (list_all (off q) xs) a in rw (is_opposite x p.0, run-same xs p.1)
 
-  along-same : (ls : List (List ℕ)) → list_all (list_all (off q)) ls ≡ true → total (λ met. length (turned_on (in_mask own) (in_mask opp) met)) ls ≡ total (turned_along own) ls
+  along-same : (ls : List (List ℕ)) → list_all (list_all (off q)) ls ≡ true
+      → total (λ met. length (turned_on (in_mask own) (in_mask opp) met)) ls ≡ total (turned_along own) ls
   unfolding total
   along-same [] a = refl
   along-same (met ∷ ls) a =
@@ -130,7 +136,9 @@ module _ (own opp q : ℕ) (apart : bit_and own opp ≡ 0) (filled : (i : ℕ) �
       let e : length (turned_on (in_mask own) (in_mask opp) met) ≡ turned_along own met = rw (closes-same met p.0, run-same met p.0) in
       λ k. e k + along-same ls p.1 k
 
-  by_lines : q < 64 → total (turned_along own) (lines q) ≡ turned_by own West East q + turned_by own North South q + turned_by own NorthWest SouthEast q + turned_by own SouthWest NorthEast q
+  by_lines : q < 64
+      → total (turned_along own) (lines q) ≡ turned_by own West East q + turned_by own North South q
+      + turned_by own NorthWest SouthEast q + turned_by own SouthWest NorthEast q
   unfolding directions total
   by_lines l = omega arith
 

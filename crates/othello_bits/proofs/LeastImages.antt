@@ -34,7 +34,8 @@ one own opp s = record {
   first = λ t h k. absurd (omega arith);
 }
 
-pub merge : (own opp from middle to : ℕ) (x y z : Image) → IsLeast own opp from middle x → IsLeast own opp middle to y → z ≡ cond (is_less y x) y x → IsLeast own opp from to z
+pub merge : (own opp from middle to : ℕ) (x y z : Image) → IsLeast own opp from middle x → IsLeast own opp middle to y
+    → z ≡ cond (is_less y x) y x → IsLeast own opp from to z
 merge own opp from middle to x y z hx hy e = subst (IsLeast own opp from to) (sym e) (by (is_less y x) refl)
   where
     by : (b : Bool) → is_less y x ≡ b → IsLeast own opp from to (cond b y x)

@@ -1,5 +1,7 @@
 -- How many discs are turned in a line, by tests of all sets of the mover's discs on it.
-use Rattle.std.proofs.Common.{◌≡◌, ℕ, zero, suc, ◌+◌, ◌*◌, ◌/◌, ◌%◌, ◌^◌, ◌<◌, Bool, true, false, cond, not, ◌&&◌, ◌||◌, eqb, ltb, inl, inr, List, [], ◌∷◌, ◌++◌, slice_index_or, bit_and, refl, ap, sym, ◌∙◌, arith}
+use Rattle.std.proofs.Common.{◌≡◌, ℕ, zero, suc, ◌+◌, ◌*◌, ◌/◌, ◌%◌, ◌^◌, ◌<◌, Bool, true, false, cond, not, ◌&&◌, ◌||◌}
+use Rattle.std.proofs.Common.{eqb, ltb, inl, inr, List, [], ◌∷◌, ◌++◌, slice_index_or, bit_and, refl, ap, sym, ◌∙◌}
+use Rattle.std.proofs.Common.{arith}
 use Rattle.std.specs.List.{list_all}
 use Rattle.std.proofs.Math.Bool.{and-true, and-false}
 use Rattle.std.proofs.lemmas.Bool.{agree_below, agree_below_at, ltb-true, false≢true, and_parts, not-true, cases_eq, eq-eqb, ne_eqb, eqb-true}
@@ -114,28 +116,32 @@ both_true false b e = refl
 module _ (m : ℕ) (h g : Direction) (q own : ℕ) (fits : own < 2 ^ 64) (free : in_mask own q ≡ false) (s : is_line m h g q ≡ true) where
   both : (i : ℕ) → i < 64 → (in_mask own i && in_mask m i) ≡ (in_mask own i && mem i (squares_by h g q))
   both i l =
-      let e : (in_mask m i && not (eqb i q)) ≡ mem i (squares_by h g q) = agree_below_at (λ i. in_mask m i && not (eqb i q)) (λ i. mem i (squares_by h g q)) 64 i s l in
+      let e : (in_mask m i && not (eqb i q)) ≡ mem i (squares_by h g q) =
+          agree_below_at (λ i. in_mask m i && not (eqb i q)) (λ i. mem i (squares_by h g q)) 64 i s l in
       elim (cases_eq i q) [
         | inl z ↦ let f : in_mask own i ≡ false = ap (in_mask own) z ∙ free in rw f refl
         | inr n ↦ let f : mem i (squares_by h g q) ≡ in_mask m i = sym e ∙ rw (ne_eqb i q n) (and-true (in_mask m i)) in rw f refl
       ]
 
   masked : bit_and own m ≡ number_below 64 (λ i. in_mask own i && mem i (squares_by h g q))
-  masked = is_number (bit_and own m) (λ i. in_mask own i && mem i (squares_by h g q)) (omega (arith, and_le_l own m, fits)) (λ i l. in_mask-and own m i ∙ both i l)
+  masked =
+      is_number (bit_and own m) (λ i. in_mask own i && mem i (squares_by h g q)) (omega (arith, and_le_l own m, fits)) (λ i l. in_mask-and own m i ∙ both i l)
 
   kept : (x : ℕ) → on_line (squares_by h g q) x ≡ true → in_mask (bit_and own m) x ≡ in_mask own x
   kept x t =
       let p = and_parts (ltb x 64) (mem x (squares_by h g q)) t in
       in_mask-and own m x ∙ both x (ltb-true x 64 p.0) ∙ both_true (in_mask own x) (mem x (squares_by h g q)) p.1
 
-  closes-within : (xs : List ℕ) → list_all (on_line (squares_by h g q)) xs ≡ true → closes (in_mask (bit_and own m)) (λ i. not (in_mask (bit_and own m) i)) xs ≡ closes (in_mask own) (λ i. not (in_mask own i)) xs
+  closes-within : (xs : List ℕ) → list_all (on_line (squares_by h g q)) xs ≡ true
+      → closes (in_mask (bit_and own m)) (λ i. not (in_mask (bit_and own m) i)) xs ≡ closes (in_mask own) (λ i. not (in_mask own i)) xs
   unfolding closes
   closes-within [] a = refl
   closes-within (x ∷ xs) a =
       let p = and_parts (on_line (squares_by h g q) x) (list_all (on_line (squares_by h g q)) xs) a in
       rw (kept x p.0, closes-within xs p.1)
 
-  run-within : (xs : List ℕ) → list_all (on_line (squares_by h g q)) xs ≡ true → run (λ i. not (in_mask (bit_and own m) i)) xs ≡ run (λ i. not (in_mask own i)) xs
+  run-within : (xs : List ℕ) → list_all (on_line (squares_by h g q)) xs ≡ true
+      → run (λ i. not (in_mask (bit_and own m) i)) xs ≡ run (λ i. not (in_mask own i)) xs
   unfolding run
   run-within [] a = refl
   run-within (x ∷ xs) a =
@@ -204,7 +210,8 @@ falling_counts : (q : ℕ) → q < 64 → counts NorthWest SouthEast (diagonal_c
 unfolding subsets in_mask directions ray run closes
 falling_counts q l = agree_below_at (λ q. counts NorthWest SouthEast (diagonal_count q) q) (λ q. true) 64 q refl l
 
-pub in_falling : (q own : ℕ) → q < 64 → own < 2 ^ 64 → in_mask own q ≡ false → diagonal_count q (bit_and own (diagonal_mask 0 q)) ≡ turned_by own NorthWest SouthEast q
+pub in_falling : (q own : ℕ) → q < 64 → own < 2 ^ 64 → in_mask own q ≡ false
+    → diagonal_count q (bit_and own (diagonal_mask 0 q)) ≡ turned_by own NorthWest SouthEast q
 unfolding in_mask directions ray distinct
 in_falling q own l h free =
     counted (diagonal_mask 0 q) NorthWest SouthEast q own h free
@@ -216,7 +223,8 @@ rising_counts : (q : ℕ) → q < 64 → counts SouthWest NorthEast (diagonal_co
 unfolding subsets in_mask directions ray run closes
 rising_counts q l = agree_below_at (λ q. counts SouthWest NorthEast (diagonal_count q) q) (λ q. true) 64 q refl l
 
-pub in_rising : (q own : ℕ) → q < 64 → own < 2 ^ 64 → in_mask own q ≡ false → diagonal_count q (bit_and own (diagonal_mask 1 q)) ≡ turned_by own SouthWest NorthEast q
+pub in_rising : (q own : ℕ) → q < 64 → own < 2 ^ 64 → in_mask own q ≡ false
+    → diagonal_count q (bit_and own (diagonal_mask 1 q)) ≡ turned_by own SouthWest NorthEast q
 unfolding in_mask directions ray distinct
 in_rising q own l h free =
     counted (diagonal_mask 1 q) SouthWest NorthEast q own h free

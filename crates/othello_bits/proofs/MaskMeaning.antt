@@ -58,7 +58,8 @@ pub is_move-from_IsMove : (p : PosView) (q : ℕ) → IsMove p q → rules.is_mo
 unfolding moves_of rules.moves
 is_move-from_IsMove p q m = sym (in_mask-where (rules.is_move (position_of Black p)) q (IsMove-on_board p q m)) ∙ m
 
-pub moves_of-is : (p : PosView) (m : ℕ) → m < 2 ^ 64 → AreApart p → ((q : ℕ) → q < 64 → in_mask m q ≡ turns_any (in_mask p.own) (in_mask p.opp) q) → m ≡ moves_of p
+pub moves_of-is : (p : PosView) (m : ℕ) → m < 2 ^ 64 → AreApart p
+    → ((q : ℕ) → q < 64 → in_mask m q ≡ turns_any (in_mask p.own) (in_mask p.opp) q) → m ≡ moves_of p
 unfolding moves_of rules.moves
 moves_of-is p m h fine e = is_where m (rules.is_move (position_of Black p)) h (λ q l. e q l ∙ is_move-meaning Black p fine q l)
 
@@ -90,12 +91,14 @@ module _ (p : PosView) (q f : ℕ) (fits : f < 2 ^ 64) (turns : (s : Side) (i : 
   a_move n = IsMove-from p q (on_board Black p q (moving Black n)) (moving Black n)
 
 -- the end of the game
-pub none-is : (s : Side) (p : PosView) → (m : ℕ) → m ≡ moves_of p → ((q : ℕ) → q < 64 → in_mask m q ≡ rules.is_move (position_of s p) q) → (m ≡ 0) ↔ (rules.moves (position_of s p) ≡ [])
+pub none-is : (s : Side) (p : PosView) → (m : ℕ) → m ≡ moves_of p
+    → ((q : ℕ) → q < 64 → in_mask m q ≡ rules.is_move (position_of s p) q) → (m ≡ 0) ↔ (rules.moves (position_of s p) ≡ [])
 none-is s p m is each = (
   λ e. moves_none (position_of s p) (can_move_none (position_of s p) (λ q h. sym (each q h) ∙ none_from_zero m e q)),
   λ e.
       zero_from_none m (rw is (moves_of_lt p))
-      (λ q h. each q h ∙ false_from_ne_true (rules.is_move (position_of s p) q) (λ b. Contains-nil q (subst (λ qs. Contains qs q) e (Contains-moves (position_of s p) q h b)))),
+      (λ q h. each q h ∙ false_from_ne_true (rules.is_move (position_of s p) q)
+          (λ b. Contains-nil q (subst (λ qs. Contains qs q) e (Contains-moves (position_of s p) q h b)))),
 )
 
 module _ (p passed : PosView) (a b : ℕ) (here : a ≡ moves_of p) (there : b ≡ moves_of passed)
@@ -117,7 +120,8 @@ module _ (p passed : PosView) (a b : ℕ) (here : a ≡ moves_of p) (there : b �
         (λ t z. (sym here ∙ z, e ∙ eqb-true b 0 t), λ o. (here ∙ o.0, eq-eqb b 0 (sym e ∙ o.1)))
 
 -- the masks after a move
-module _ (own opp flips q : ℕ) (masks : AreMasks own opp) (hflips : flips < 2 ^ 64) (legal : IsMove (discs own opp) q) (turned : flips ≡ flips_of (discs own opp) q) where
+module _ (own opp flips q : ℕ) (masks : AreMasks own opp) (hflips : flips < 2 ^ 64) (legal : IsMove (discs own opp) q)
+    (turned : flips ≡ flips_of (discs own opp) q) where
   abbrev own_then : ℕ
   own_then = bit_and opp (bit_not w64 flips)
 
@@ -135,7 +139,9 @@ module _ (own opp flips q : ℕ) (masks : AreMasks own opp) (hflips : flips < 2 
 
   turns : (i : ℕ) → i < 64 → in_mask flips i ≡ is_turned (in_mask own) (in_mask opp) q i
   unfolding flips_of
-  turns i l = ap (λ m. in_mask m i) turned ∙ in_mask-where (λ i. mem i (rules.flips (position_of Black (discs own opp)) q)) i l ∙ sym (is_turned-meaning Black (discs own opp) fine q i on_board_then)
+  turns i l =
+      ap (λ m. in_mask m i) turned ∙ in_mask-where (λ i. mem i (rules.flips (position_of Black (discs own opp)) q)) i l
+          ∙ sym (is_turned-meaning Black (discs own opp) fine q i on_board_then)
 
   own_is : (i : ℕ) → i < 64 → in_mask own_then i ≡ own_after (in_mask own) (in_mask opp) q i
   own_is i h = after_own own opp flips q masks.1 masks.2 hflips on_board_then i h ∙ ap (λ b. in_mask opp i && not b) (turns i h)

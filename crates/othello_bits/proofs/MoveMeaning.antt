@@ -22,10 +22,13 @@ module _ (s : Side) (p : PosView) (fine : AreApart p) where
   opposing_is : rules.has (position_of s p) (disc (other s)) ≡ in_mask p.opp
   opposing_is = λ k i. has_opposing s p i fine k
 
-  turned_is : (q i : ℕ) → q < 64 → mem i (flat_map (rules.turned (position_of s p) q) directions) ≡ list_any (λ met. mem i (turned_on (in_mask p.own) (in_mask p.opp) met)) (lines q)
+  turned_is : (q i : ℕ) → q < 64
+      → mem i (flat_map (rules.turned (position_of s p) q) directions) ≡ list_any (λ met. mem i (turned_on (in_mask p.own) (in_mask p.opp) met)) (lines q)
   turned_is q i h = mem-flips (position_of s p) q i ∙ (λ k. list_any (λ met. mem i (turned_on (own_is k) (opposing_is k) met)) (lines q))
 
-  any_is : (q : ℕ) → q < 64 → is_nonempty (flat_map (rules.turned (position_of s p) q) directions) ≡ list_any (λ met. is_nonempty (turned_on (in_mask p.own) (in_mask p.opp) met)) (lines q)
+  any_is : (q : ℕ) → q < 64
+      → is_nonempty (flat_map (rules.turned (position_of s p) q) directions)
+      ≡ list_any (λ met. is_nonempty (turned_on (in_mask p.own) (in_mask p.opp) met)) (lines q)
   any_is q h = nonempty-flips (position_of s p) q ∙ (λ k. list_any (λ met. is_nonempty (turned_on (own_is k) (opposing_is k) met)) (lines q))
 
   pub is_move-meaning : (q : ℕ) → q < 64 → turns_any (in_mask p.own) (in_mask p.opp) q ≡ rules.is_move (position_of s p) q

@@ -1,5 +1,6 @@
 -- Passes and moves on two masks are those of the rules; masks of positions and positions of masks.
-use Rattle.std.proofs.Common.{◌≡◌, ℕ, ◌<◌, ◌^◌, Bool, true, false, cond, not, ◌&&◌, ◌||◌, eqb, List, ◌∷◌, length, get_or, map, Some, refl, ap, sym, ◌∙◌, bit_and}
+use Rattle.std.proofs.Common.{◌≡◌, ℕ, ◌<◌, ◌^◌, Bool, true, false, cond, not, ◌&&◌, ◌||◌, eqb, List, ◌∷◌, length}
+use Rattle.std.proofs.Common.{get_or, map, Some, refl, ap, sym, ◌∙◌, bit_and}
 use Rattle.std.specs.Prelude.{slice_get}
 use Rattle.std.specs.List.{list_any}
 use Rattle.std.proofs.lemmas.Bool.{false≢true, eqb-true}
@@ -41,7 +42,8 @@ other-other side.Black = refl
 other-other side.White = refl
 
 -- the two sides exchanged
-pass_cell : (s : Side) (a b : Bool) → (a && b) ≡ false → cond b (disc (other s)) (cond a (disc (other (other s))) cell.Empty) ≡ cond a (disc s) (cond b (disc (other s)) cell.Empty)
+pass_cell : (s : Side) (a b : Bool) → (a && b) ≡ false
+    → cond b (disc (other s)) (cond a (disc (other (other s))) cell.Empty) ≡ cond a (disc s) (cond b (disc (other s)) cell.Empty)
 pass_cell s true true h = absurd (false≢true (sym h))
 pass_cell s true false h = ap disc (other-other s)
 pass_cell s false true h = refl
@@ -57,7 +59,9 @@ pass-meaning s p fine =
 any-is_mem : (i : ℕ) (xs : List ℕ) → list_any (eqb i) xs ≡ mem i xs
 any-is_mem i xs = let same : eqb i ≡ (λ x. eqb x i) = λ k x. eqb_sym i x k in ap (λ (t : ℕ → Bool). list_any t xs) same
 
-cell_after : (s : Side) (a b t e : Bool) → (a && b) ≡ false → (e ≡ true → b ≡ false) → cond (b && not t) (disc (other s)) (cond (a || (e || t)) (disc (other (other s))) cell.Empty) ≡ cond (e || t) (disc s) (cond a (disc s) (cond b (disc (other s)) cell.Empty))
+cell_after : (s : Side) (a b t e : Bool) → (a && b) ≡ false → (e ≡ true → b ≡ false)
+    → cond (b && not t) (disc (other s)) (cond (a || (e || t)) (disc (other (other s))) cell.Empty)
+    ≡ cond (e || t) (disc s) (cond a (disc s) (cond b (disc (other s)) cell.Empty))
 cell_after s true true t e h f = absurd (false≢true (sym h))
 cell_after s a true false true h f = absurd (false≢true (sym (f refl)))
 cell_after s false true false false h f = refl
@@ -118,8 +122,10 @@ module _ (s : Side) (p r : PosView) (q : ℕ) (fine : AreApart p) (on_board : q 
 pub discs_of-position_of : (s : Side) (p : PosView) → AreApart p → discs_of (position_of s p) ≡ p
 unfolding discs_of
 discs_of-position_of s p fine =
-    let a : p.own ≡ mask_where (rules.has (position_of s p) (disc s)) = is_where p.own (rules.has (position_of s p) (disc s)) fine.own_fits (λ i h. sym (has_own s p i fine)) in
-    let b : p.opp ≡ mask_where (rules.has (position_of s p) (disc (other s))) = is_where p.opp (rules.has (position_of s p) (disc (other s))) fine.opp_fits (λ i h. sym (has_opposing s p i fine)) in
+    let a : p.own ≡ mask_where (rules.has (position_of s p) (disc s)) =
+        is_where p.own (rules.has (position_of s p) (disc s)) fine.own_fits (λ i h. sym (has_own s p i fine)) in
+    let b : p.opp ≡ mask_where (rules.has (position_of s p) (disc (other s))) =
+        is_where p.opp (rules.has (position_of s p) (disc (other s))) fine.opp_fits (λ i h. sym (has_opposing s p i fine)) in
     λ k. discs (sym a k) (sym b k)
 
 -- the position that the masks of a position mean
@@ -136,8 +142,10 @@ unfolding discs_of
 cells_again P i d whole h =
     let within : i < length P.cells = rw whole h in
     let there : slice_get P.cells i ≡ Some (get_or P.cells i d) = slice_get-get_or P.cells i d within in
-    let a : in_mask (mask_where (rules.has P (disc P.mover))) i ≡ same_cell (disc P.mover) (get_or P.cells i d) = in_mask-where (rules.has P (disc P.mover)) i h ∙ ap (is_some_cell (disc P.mover)) there in
-    let b : in_mask (mask_where (rules.has P (disc (other P.mover)))) i ≡ same_cell (disc (other P.mover)) (get_or P.cells i d) = in_mask-where (rules.has P (disc (other P.mover))) i h ∙ ap (is_some_cell (disc (other P.mover))) there in
+    let a : in_mask (mask_where (rules.has P (disc P.mover))) i ≡ same_cell (disc P.mover) (get_or P.cells i d) =
+        in_mask-where (rules.has P (disc P.mover)) i h ∙ ap (is_some_cell (disc P.mover)) there in
+    let b : in_mask (mask_where (rules.has P (disc (other P.mover)))) i ≡ same_cell (disc (other P.mover)) (get_or P.cells i d) =
+        in_mask-where (rules.has P (disc (other P.mover))) i h ∙ ap (is_some_cell (disc (other P.mover))) there in
     (λ k. cond (a k) (disc P.mover) (cond (b k) (disc (other P.mover)) cell.Empty)) ∙ cell_again P.mover (get_or P.cells i d)
 
 pub position_of-discs_of : (P : GridView) → length P.cells ≡ 64 → position_of P.mover (discs_of P) ≡ P

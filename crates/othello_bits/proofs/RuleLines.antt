@@ -27,13 +27,17 @@ any-map : {X Y : Type 0} (p : Y → Bool) (f : X → Y) (xs : List X) → list_a
 any-map p f [] = refl
 any-map p f (x ∷ xs) = ap (λ b. p (f x) || b) (any-map p f xs)
 
-pub mem-flips : (P : GridView) (q i : ℕ) → mem i (flat_map (rules.turned P q) directions) ≡ list_any (λ met. mem i (turned_on (rules.has P (rules.own P)) (rules.has P (rules.opposing P)) met)) (lines q)
+pub mem-flips : (P : GridView) (q i : ℕ)
+    → mem i (flat_map (rules.turned P q) directions)
+    ≡ list_any (λ met. mem i (turned_on (rules.has P (rules.own P)) (rules.has P (rules.opposing P)) met)) (lines q)
 unfolding rules.turned
 mem-flips P q i =
     mem-flat_map (rules.turned P q) directions i
     ∙ sym (any-map (λ met. mem i (turned_on (rules.has P (rules.own P)) (rules.has P (rules.opposing P)) met)) (λ d. ray d q) directions)
 
-pub nonempty-flips : (P : GridView) (q : ℕ) → is_nonempty (flat_map (rules.turned P q) directions) ≡ list_any (λ met. is_nonempty (turned_on (rules.has P (rules.own P)) (rules.has P (rules.opposing P)) met)) (lines q)
+pub nonempty-flips : (P : GridView) (q : ℕ)
+    → is_nonempty (flat_map (rules.turned P q) directions)
+    ≡ list_any (λ met. is_nonempty (turned_on (rules.has P (rules.own P)) (rules.has P (rules.opposing P)) met)) (lines q)
 unfolding rules.turned
 nonempty-flips P q =
     nonempty-flat_map (rules.turned P q) directions

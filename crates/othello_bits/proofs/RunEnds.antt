@@ -1,5 +1,6 @@
 -- On a line of squares in an order, the first square that isn't opposing ends the run.
-use Rattle.std.proofs.Common.{◌≡◌, ℕ, ◌^◌, ◌<◌, ◌≤◌, Bool, true, false, cond, not, ◌&&◌, ◌||◌, eqb, ltb, inl, inr, List, [], ◌∷◌, bit_and, refl, ap, sym, ◌∙◌, arith}
+use Rattle.std.proofs.Common.{◌≡◌, ℕ, ◌^◌, ◌<◌, ◌≤◌, Bool, true, false, cond, not, ◌&&◌, ◌||◌, eqb, ltb, inl, inr, List}
+use Rattle.std.proofs.Common.{[], ◌∷◌, bit_and, refl, ap, sym, ◌∙◌, arith}
 use Rattle.std.specs.Int.{bit_not, w64}
 use Rattle.std.specs.List.{list_all}
 use Rattle.std.proofs.lemmas.Bool.{false≢true, and_parts, or_left, or_right, cases_Bool, cases_eq, cases_lt, not-true, eqb-true, eq-eqb, ne_eqb, ltb-true}
@@ -11,7 +12,8 @@ use Rattle.othello_bits.specs.Shifts.{IsRay, in_order, turns}
 use Rattle.othello_bits.specs.Pos.{mem}
 use Rattle.othello_bits.proofs.Bits.{in_mask-and, in_mask-not, in_mask-above}
 
-order_parts : (before : ℕ → ℕ → Bool) (s : ℕ) (ss : List ℕ) → in_order before (s ∷ ss) ≡ true → (s < 64) × (list_all (before s) ss ≡ true) × (in_order before ss ≡ true)
+order_parts : (before : ℕ → ℕ → Bool) (s : ℕ) (ss : List ℕ) → in_order before (s ∷ ss) ≡ true
+    → (s < 64) × (list_all (before s) ss ≡ true) × (in_order before ss ≡ true)
 unfolding in_order
 order_parts before s ss r =
     let p = and_parts (ltb s 64) (list_all (before s) ss && in_order before ss) r in
@@ -63,7 +65,9 @@ module _ (before : ℕ → ℕ → Bool) (one_way : IsOneWay before) (own opp : 
   here s ss e a =
       let o : opp s ≡ false = ap opp e ∙ stop in (
         rw o (ap own e),
-        λ i. rw o (nowhere (eqb s i) (mem i ss) (before i t) (λ f. ap (λ x. before x t) (sym (eqb-true s i f) ∙ e) ∙ not_itself) (λ m. ap (before i) (sym e) ∙ one_way s i (each (before s) ss a i m))),
+        λ i. rw o
+            (nowhere (eqb s i) (mem i ss) (before i t) (λ f. ap (λ x. before x t) (sym (eqb-true s i f) ∙ e) ∙ not_itself)
+            (λ m. ap (before i) (sym e) ∙ one_way s i (each (before s) ss a i m))),
       )
 
   beyond : (s : ℕ) (ss : List ℕ) → before s t ≡ true → opp s ≡ true → Ends ss → Ends (s ∷ ss)
@@ -123,12 +127,16 @@ module _ (before : ℕ → ℕ → Bool) (one_way : IsOneWay before) (own opp ra
     none_turned n i = rw (unclosed (in_mask own) (in_mask opp) met (λ j m. met_opposing j (n j) m))
 
     -- with t as the first of them, those before t are turned if t is own
-    pub turned_before : (t : ℕ) → in_mask (rest opp ray) t ≡ true → ((i : ℕ) → before i t ≡ true → in_mask (rest opp ray) i ≡ false) → (i : ℕ) → turns own opp met i ≡ (in_mask own t && (in_mask ray i && before i t))
+    pub turned_before : (t : ℕ) → in_mask (rest opp ray) t ≡ true
+        → ((i : ℕ) → before i t ≡ true → in_mask (rest opp ray) i ≡ false) → (i : ℕ) → turns own opp met i ≡ (in_mask own t && (in_mask ray i && before i t))
     turned_before t b n i =
         let on_ray = and_parts (in_mask ray t) (not (in_mask opp t)) (sym (is_rest t) ∙ b) in
-        let e = ends before one_way (in_mask own) (in_mask opp) t (not-true (in_mask opp t) on_ray.1) met ray_is.0 (sym (is_ray t) ∙ on_ray.0) (λ j l m. met_opposing j (n j l) m) in
+        let e =
+            ends before one_way (in_mask own) (in_mask opp) t (not-true (in_mask opp t) on_ray.1) met ray_is.0
+                (sym (is_ray t) ∙ on_ray.0) (λ j l m. met_opposing j (n j l) m) in
         rw (e.0, is_ray i) (by (in_mask own t) (e.1 i))
       where
-        by : (c : Bool) → mem i (run (in_mask opp) met) ≡ (mem i met && before i t) → mem i (cond c (run (in_mask opp) met) []) ≡ (c && (mem i met && before i t))
+        by : (c : Bool) → mem i (run (in_mask opp) met) ≡ (mem i met && before i t)
+            → mem i (cond c (run (in_mask opp) met) []) ≡ (c && (mem i met && before i t))
         by true e = e
         by false e = refl

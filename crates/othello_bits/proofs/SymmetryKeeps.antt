@@ -72,5 +72,6 @@ image-image s t =
     let c : (u : Sym) × Contains symmetries u × (composes s t u ≡ true) = composed s t in (
       c.0,
       λ P. image_by-image_by (target (inverse s)) (target (inverse t)) (target (inverse c.0)) P (kept_back s).on_board
-          (λ q b. eqb-true (target (inverse t) (target (inverse s) q)) (target (inverse c.0) q) (agree_below_at (λ q. eqb (target (inverse t) (target (inverse s) q)) (target (inverse c.0) q)) (λ q. true) 64 q c.2 b)),
+          (λ q b. eqb-true (target (inverse t) (target (inverse s) q)) (target (inverse c.0) q)
+              (agree_below_at (λ q. eqb (target (inverse t) (target (inverse s) q)) (target (inverse c.0) q)) (λ q. true) 64 q c.2 b)),
     )

@@ -13,7 +13,9 @@ use Rattle.othello_rules.specs.declared.discs.Cell.{Cell}
 use Rattle.othello_rules.specs.declared.discs.Cell.TheVariants as cell
 use Rattle.othello_rules.specs.Board.{squares, ray}
 use Rattle.othello_rules.specs.declared.scoring.Scoring.{Scoring}
-use Rattle.othello_rules.specs.Rules.{GridView, has, own, opposing, other, disc, same_cell, is_some_cell, turned_on, turned, flips, is_move, is_nonempty, moves, pass, painted_cells, painted_cell, play, count_of}
+use Rattle.othello_rules.specs.Rules.{GridView, has, own, opposing, other, disc, same_cell, is_some_cell, turned_on}
+use Rattle.othello_rules.specs.Rules.{turned, flips, is_move, is_nonempty, moves, pass, painted_cells, painted_cell}
+use Rattle.othello_rules.specs.Rules.{play, count_of}
 use Rattle.othello_rules.specs.Scores.{score_of, final}
 use Rattle.othello_rules.specs.Colours.{swap_cell, colour_swap}
 use Rattle.othello_rules.proofs.ValueLaws.{value_at-zero, value_at-over, value_at-move, value_at-pass}
@@ -61,10 +63,13 @@ pub moves-swapped : (P : GridView) → moves (colour_swap P) ≡ moves P
 unfolding moves
 moves-swapped P = let same : is_move (colour_swap P) ≡ is_move P = λ i q. is_nonempty (flips-swapped P q i) in ap (λ p. filter p squares) same
 
-painted_from-swap : (c : Cell) (qs : List ℕ) (n : ℕ) (xs : List Cell) → map (painted_cell (swap_cell c) qs) (enumerate_from n (map swap_cell xs)) ≡ map swap_cell (map (painted_cell c qs) (enumerate_from n xs))
+painted_from-swap : (c : Cell) (qs : List ℕ) (n : ℕ) (xs : List Cell)
+    → map (painted_cell (swap_cell c) qs) (enumerate_from n (map swap_cell xs)) ≡ map swap_cell (map (painted_cell c qs) (enumerate_from n xs))
 painted_from-swap c qs n [] = refl
 painted_from-swap c qs n (x ∷ xs) =
-    let rest : map (painted_cell (swap_cell c) qs) (enumerate_from (n + 1) (map swap_cell xs)) ≡ map swap_cell (map (painted_cell c qs) (enumerate_from (n + 1) xs)) = painted_from-swap c qs (n + 1) xs in
+    let rest : map (painted_cell (swap_cell c) qs) (enumerate_from (n + 1) (map swap_cell xs))
+        ≡ map swap_cell (map (painted_cell c qs) (enumerate_from (n + 1) xs)) =
+        painted_from-swap c qs (n + 1) xs in
     elim (cases_Bool (list_any (nat_eq n) qs)) [ inl b ↦ rw (b, rest) refl | inr b ↦ rw (b, rest) refl ]
 
 pub play-swapped : (P : GridView) (q : ℕ) → play (colour_swap P) q ≡ colour_swap (play P q)
@@ -80,8 +85,10 @@ count-swap c (x ∷ xs) =
 final-swapped : (g : Scoring) (P : GridView) → final g (colour_swap P) ≡ final g P
 unfolding final
 final-swapped g P =
-    let m : count_of (colour_swap P) (own (colour_swap P)) ≡ count_of P (own P) = ap (λ c. count_by (same_cell c) (map swap_cell P.cells)) (disc-other P.mover) ∙ count-swap (own P) P.cells in
-    let o : count_of (colour_swap P) (opposing (colour_swap P)) ≡ count_of P (opposing P) = ap (λ c. count_by (same_cell c) (map swap_cell P.cells)) (disc-other (other P.mover)) ∙ count-swap (opposing P) P.cells in
+    let m : count_of (colour_swap P) (own (colour_swap P)) ≡ count_of P (own P) =
+        ap (λ c. count_by (same_cell c) (map swap_cell P.cells)) (disc-other P.mover) ∙ count-swap (own P) P.cells in
+    let o : count_of (colour_swap P) (opposing (colour_swap P)) ≡ count_of P (opposing P) =
+        ap (λ c. count_by (same_cell c) (map swap_cell P.cells)) (disc-other (other P.mover)) ∙ count-swap (opposing P) P.cells in
     let e : count_of (colour_swap P) cell.Empty ≡ count_of P cell.Empty = count-swap cell.Empty P.cells in
     λ i. score_of g (m i) (o i) (e i)
 
@@ -108,7 +115,8 @@ value_at-swapped g (suc n) P =
                 ∙ ap neg_ℤ (best_of-swapped (value_at g n) (pass P) (value_at-swapped g n))
                 ∙ sym (value_at-pass g n P h k)
             | inr k ↦
-                value_at-over g (suc n) (colour_swap P) (can_move-swapped P ∙ h) (can_move-swapped (pass P) ∙ k) ∙ final-swapped g P ∙ sym (value_at-over g (suc n) P h k)
+                value_at-over g (suc n) (colour_swap P) (can_move-swapped P ∙ h) (can_move-swapped (pass P) ∙ k)
+                    ∙ final-swapped g P ∙ sym (value_at-over g (suc n) P h k)
           ]
     ]
 

@@ -1,5 +1,6 @@
 -- How many squares are empty: a pass keeps them, and a move takes one.
-use Rattle.std.proofs.Common.{◌≡◌, ℕ, suc, ◌+◌, ◌<◌, Bool, true, false, cond, List, [], ◌∷◌, length, get_or, set, Option, Some, None, refl, sym, ◌∙◌, arith, inl, inr}
+use Rattle.std.proofs.Common.{◌≡◌, ℕ, suc, ◌+◌, ◌<◌, Bool, true, false, cond, List, [], ◌∷◌, length, get_or, set}
+use Rattle.std.proofs.Common.{Option, Some, None, refl, sym, ◌∙◌, arith, inl, inr}
 use Rattle.std.specs.Prelude.{slice_get, nat_eq, ◌||◌}
 use Rattle.std.specs.List.{Contains, count_by, list_any}
 use Rattle.std.proofs.lemmas.Bool.{cases_Bool, cases_eq, eqb-true, false≢true, eq-eqb, ne_eqb}
@@ -16,7 +17,8 @@ use Rattle.othello_rules.specs.Value.{empties}
 use Rattle.othello_rules.proofs.MoveLaws.{is_move-from_Contains, move_empty, opposing_in_flips}
 use Rattle.othello_rules.proofs.PaintLaws.{length-painted, get_or-painted}
 
-pub count-agree : (p : Cell → Bool) (xs ys : List Cell) → length xs ≡ length ys → ((k : ℕ) → k < length xs → p (get_or xs k cell.Empty) ≡ p (get_or ys k cell.Empty)) → count_by p xs ≡ count_by p ys
+pub count-agree : (p : Cell → Bool) (xs ys : List Cell) → length xs ≡ length ys
+    → ((k : ℕ) → k < length xs → p (get_or xs k cell.Empty) ≡ p (get_or ys k cell.Empty)) → count_by p xs ≡ count_by p ys
 count-agree p [] [] l h = refl
 count-agree p [] (y ∷ ys) l h = absurd (omega arith)
 count-agree p (x ∷ xs) [] l h = absurd (omega arith)
@@ -58,14 +60,18 @@ pub empties-pass : (P : GridView) → empties (pass P) ≡ empties P
 empties-pass P = refl
 
 -- the cells after a move are empty where those with a disc put on q alone are
-played_like_set : (P : GridView) (q : ℕ) → has P cell.Empty q ≡ true → (k : ℕ) → k < length P.cells → same_cell cell.Empty (get_or (painted_cells (own P) (q ∷ flips P q) P.cells) k cell.Empty) ≡ same_cell cell.Empty (get_or (set P.cells q (own P)) k cell.Empty)
+played_like_set : (P : GridView) (q : ℕ) → has P cell.Empty q ≡ true → (k : ℕ) → k < length P.cells
+    → same_cell cell.Empty (get_or (painted_cells (own P) (q ∷ flips P q) P.cells) k cell.Empty)
+    ≡ same_cell cell.Empty (get_or (set P.cells q (own P)) k cell.Empty)
 played_like_set P q vacant k h =
-    let after : get_or (painted_cells (own P) (q ∷ flips P q) P.cells) k cell.Empty ≡ cond (nat_eq k q || list_any (nat_eq k) (flips P q)) (own P) (get_or P.cells k cell.Empty) =
+    let after : get_or (painted_cells (own P) (q ∷ flips P q) P.cells) k cell.Empty
+        ≡ cond (nat_eq k q || list_any (nat_eq k) (flips P q)) (own P) (get_or P.cells k cell.Empty) =
     get_or-painted (own P) (q ∷ flips P q) P.cells k cell.Empty h in
     elim (cases_eq k q) [
       | inl same ↦
           let on : nat_eq k q ≡ true = eq-eqb k q same in
-          let placed : get_or (set P.cells q (own P)) k cell.Empty ≡ own P = rw same (get_or-set_same P.cells q (own P) cell.Empty (has_within P cell.Empty q vacant)) in
+          let placed : get_or (set P.cells q (own P)) k cell.Empty ≡ own P =
+              rw same (get_or-set_same P.cells q (own P) cell.Empty (has_within P cell.Empty q vacant)) in
           rw (after, on, placed) refl
       | inr apart ↦
           let off : nat_eq k q ≡ false = ne_eqb k q apart in
@@ -88,7 +94,8 @@ empties-play P q h =
     count-agree (same_cell cell.Empty) (painted_cells (own P) (q ∷ flips P q) P.cells) (set P.cells q (own P))
     (simp (length-painted, length-set))
     (λ k b. played_like_set P q vacant k (rw length-painted at b)) in
-    let written : count_by (same_cell cell.Empty) (set P.cells q (own P)) + cond (same_cell cell.Empty (get_or P.cells q cell.Empty)) 1 0 ≡ count_by (same_cell cell.Empty) P.cells + cond (same_cell cell.Empty (own P)) 1 0 =
+    let written : count_by (same_cell cell.Empty) (set P.cells q (own P))
+        + cond (same_cell cell.Empty (get_or P.cells q cell.Empty)) 1 0 ≡ count_by (same_cell cell.Empty) P.cells + cond (same_cell cell.Empty (own P)) 1 0 =
     sum_by-set (λ c. cond (same_cell cell.Empty c) 1 0) P.cells q (own P) cell.Empty (has_within P cell.Empty q vacant) in
     let was : same_cell cell.Empty (get_or P.cells q cell.Empty) ≡ true = has_get_or P cell.Empty q cell.Empty vacant in
     let is_now : same_cell cell.Empty (own P) ≡ false = disc-not_empty P.mover in

@@ -1,5 +1,6 @@
 -- The value and the best moves of an image.
-use Rattle.std.proofs.Common.{◌≡◌, ℕ, zero, suc, ◌+◌, ◌^◌, ◌<◌, Bool, true, false, cond, List, [], ◌∷◌, length, map, refl, sym, ◌∙◌, ap, subst, arith, inl, inr, ℤ, neg_ℤ, ◌≤ℤ◌}
+use Rattle.std.proofs.Common.{◌≡◌, ℕ, zero, suc, ◌+◌, ◌^◌, ◌<◌, Bool, true, false, cond, List, [], ◌∷◌, length, map}
+use Rattle.std.proofs.Common.{refl, sym, ◌∙◌, ap, subst, arith, inl, inr, ℤ, neg_ℤ, ◌≤ℤ◌}
 use Rattle.std.specs.List.{Contains, filter, sum_by}
 use Rattle.std.specs.Ordering.{int_eq}
 use Rattle.std.proofs.lemmas.Int.{ints}
@@ -36,15 +37,18 @@ full-play : (P : GridView) (q : ℕ) → length P.cells ≡ 64 → length (play 
 full-play P q full = length-play P q ∙ full
 
 -- what a move of the image is worth
-worth-sent : (r : Renaming) (v : GridView → ℤ) (P : GridView) (q : ℕ) → length P.cells ≡ 64 → q < 64 → ((Q : GridView) → length Q.cells ≡ 64 → v (image_by r.back Q) ≡ v Q) → worth v (image_by r.back P) (r.to q) ≡ worth v P q
+worth-sent : (r : Renaming) (v : GridView → ℤ) (P : GridView) (q : ℕ) → length P.cells ≡ 64 → q < 64
+    → ((Q : GridView) → length Q.cells ≡ 64 → v (image_by r.back Q) ≡ v Q) → worth v (image_by r.back P) (r.to q) ≡ worth v P q
 worth-sent r v P q full b same = ap (λ Q. neg_ℤ (v Q)) (play-sent r P q full b) ∙ ap neg_ℤ (same (play P q) (full-play P q full))
 
-best_of-le : (r : Renaming) (v : GridView → ℤ) (P : GridView) → length P.cells ≡ 64 → can_move P ≡ true → ((Q : GridView) → length Q.cells ≡ 64 → v (image_by r.back Q) ≡ v Q) → best_worth v P ≤ℤ best_worth v (image_by r.back P)
+best_of-le : (r : Renaming) (v : GridView → ℤ) (P : GridView) → length P.cells ≡ 64 → can_move P ≡ true
+    → ((Q : GridView) → length Q.cells ≡ 64 → v (image_by r.back Q) ≡ v Q) → best_worth v P ≤ℤ best_worth v (image_by r.back P)
 unfolding best_worth
 best_of-le r v P full h same =
     let s : (q : ℕ) × Contains (moves P) q = some_move P h in
     let t : (q : ℕ) × Contains (moves P) q × (worth v P q ≡ greatest (map (worth v P) (moves P))) =
-    Contains-from_map (worth v P) (moves P) (greatest (map (worth v P) (moves P))) (greatest_reached (map (worth v P) (moves P)) (worth v P s.0) (Contains-map (worth v P) (moves P) s.0 s.1)) in
+    Contains-from_map (worth v P) (moves P) (greatest (map (worth v P) (moves P)))
+        (greatest_reached (map (worth v P) (moves P)) (worth v P s.0) (Contains-map (worth v P) (moves P) s.0 s.1)) in
     let b : t.0 < 64 = square_below t.0 (move_on_board P t.0 t.1) in
     let e : worth v (image_by r.back P) (r.to t.0) ≡ greatest (map (worth v P) (moves P)) = worth-sent r v P t.0 full b same ∙ t.2 in
     subst (λ z. z ≤ℤ greatest (map (worth v (image_by r.back P)) (moves (image_by r.back P)))) e
@@ -54,7 +58,8 @@ best_of-le r v P full h same =
 both_le : (x y : ℤ) → x ≤ℤ y → y ≤ℤ x → x ≡ y
 both_le x y a b = omega (arith, ints)
 
-best_of-image_by : (r : Renaming) (v : GridView → ℤ) (P : GridView) → length P.cells ≡ 64 → can_move P ≡ true → ((Q : GridView) → length Q.cells ≡ 64 → v (image_by r.back Q) ≡ v Q) → best_worth v (image_by r.back P) ≡ best_worth v P
+best_of-image_by : (r : Renaming) (v : GridView → ℤ) (P : GridView) → length P.cells ≡ 64 → can_move P ≡ true
+    → ((Q : GridView) → length Q.cells ≡ 64 → v (image_by r.back Q) ≡ v Q) → best_worth v (image_by r.back P) ≡ best_worth v P
 best_of-image_by r v P full h same =
     let back : (Q : GridView) → length Q.cells ≡ 64 → v (image_by r.to Q) ≡ v Q =
     λ Q l. sym (same (image_by r.to Q) (length-moved_cells r.to Q.cells)) ∙ ap v (image_by-back (flipped r) Q l) in
@@ -96,7 +101,8 @@ is_best-sent g r P q full b =
     let v : value g (image_by r.back P) ≡ value g P = value-image_by g r P full in
     λ i. int_eq (w i) (v i)
 
-pub best_moves-sent : (g : Scoring) (r : Renaming) (P : GridView) (q : ℕ) → length P.cells ≡ 64 → Contains (best_moves g P) q → Contains (best_moves g (image_by r.back P)) (r.to q)
+pub best_moves-sent : (g : Scoring) (r : Renaming) (P : GridView) (q : ℕ) → length P.cells ≡ 64
+    → Contains (best_moves g P) q → Contains (best_moves g (image_by r.back P)) (r.to q)
 unfolding best_moves
 best_moves-sent g r P q full h =
     let m : Contains (moves P) q = Contains-from_filter (is_best g P) (moves P) q h in
@@ -104,7 +110,8 @@ best_moves-sent g r P q full h =
     Contains-filter (is_best g (image_by r.back P)) (moves (image_by r.back P)) (r.to q) (moves-sent r P q full m)
     (is_best-sent g r P q full b ∙ passes_in_filter (is_best g P) (moves P) q h)
 
-pub best_moves-sent_back : (g : Scoring) (r : Renaming) (P : GridView) (q : ℕ) → length P.cells ≡ 64 → Contains (best_moves g (image_by r.back P)) q → Contains (best_moves g P) (r.back q)
+pub best_moves-sent_back : (g : Scoring) (r : Renaming) (P : GridView) (q : ℕ) → length P.cells ≡ 64
+    → Contains (best_moves g (image_by r.back P)) q → Contains (best_moves g P) (r.back q)
 best_moves-sent_back g r P q full h =
     subst (λ Q. Contains (best_moves g Q) (r.back q)) (image_by-back r P full)
     (best_moves-sent g (flipped r) (image_by r.back P) q (length-moved_cells r.back P.cells) h)
@@ -114,7 +121,8 @@ pub sum_by-filter : (f : ℕ → ℕ) (p : ℕ → Bool) (xs : List ℕ) → sum
 sum_by-filter f p [] = refl
 sum_by-filter f p (x ∷ xs) = step (p x) (sum_by-filter f p xs) ∙ sym (sum_by-cons (λ q. cond (p q) (f q) 0) x xs)
   where
-    step : (b : Bool) → sum_by f (filter p xs) ≡ sum_by (λ q. cond (p q) (f q) 0) xs → sum_by f (cond b (x ∷ filter p xs) (filter p xs)) ≡ cond b (f x) 0 + sum_by (λ q. cond (p q) (f q) 0) xs
+    step : (b : Bool) → sum_by f (filter p xs) ≡ sum_by (λ q. cond (p q) (f q) 0) xs
+        → sum_by f (cond b (x ∷ filter p xs) (filter p xs)) ≡ cond b (f x) 0 + sum_by (λ q. cond (p q) (f q) 0) xs
     step true e = sum_by-cons f x (filter p xs) ∙ ap (λ n. f x + n) e
     step false e = e ∙ omega arith
 
@@ -125,7 +133,8 @@ sum_by-agree f g (x ∷ xs) h =
     let first : f x ≡ g x = h x (Contains-head x xs) in
     sum_by-cons f x xs ∙ rw (first, rest) (sym (sum_by-cons g x xs))
 
-pub sum_by-best_moves : (g : Scoring) (r : Renaming) (P : GridView) (f : ℕ → ℕ) → length P.cells ≡ 64 → sum_by f (best_moves g (image_by r.back P)) ≡ sum_by (λ q. f (r.to q)) (best_moves g P)
+pub sum_by-best_moves : (g : Scoring) (r : Renaming) (P : GridView) (f : ℕ → ℕ) → length P.cells ≡ 64
+    → sum_by f (best_moves g (image_by r.back P)) ≡ sum_by (λ q. f (r.to q)) (best_moves g P)
 unfolding best_moves moves
 sum_by-best_moves g r P f full =
     let P' : GridView = image_by r.back P in
@@ -141,11 +150,14 @@ sum_by-best_moves g r P f full =
     ∙ sym (sum_by-filter (λ q. f (r.to q)) (is_best g P) (filter (is_move P) squares))
 
 -- the answer of an image
-pub answer-image_by_moves : (g : Scoring) (r : Renaming) (P : GridView) → length P.cells ≡ 64 → can_move P ≡ true → answer g (image_by r.back P) ≡ record { score = value g P; best = Moves (mask_of (map r.to (best_moves g P))) }
+pub answer-image_by_moves : (g : Scoring) (r : Renaming) (P : GridView) → length P.cells ≡ 64 → can_move P ≡ true
+    → answer g (image_by r.back P) ≡ record { score = value g P; best = Moves (mask_of (map r.to (best_moves g P))) }
 unfolding answer mask_of
 answer-image_by_moves g r P full h =
-    let m : mask_of (best_moves g (image_by r.back P)) ≡ mask_of (map r.to (best_moves g P)) = sum_by-best_moves g r P (λ q. 2 ^ q) full ∙ sym (sum_by-map (λ q. 2 ^ q) r.to (best_moves g P)) in
-    let b : best g (image_by r.back P) ≡ Moves (mask_of (map r.to (best_moves g P))) = best_is_moves g (image_by r.back P) (can_move-image_by r P full ∙ h) ∙ ap Moves m in
+    let m : mask_of (best_moves g (image_by r.back P)) ≡ mask_of (map r.to (best_moves g P)) =
+        sum_by-best_moves g r P (λ q. 2 ^ q) full ∙ sym (sum_by-map (λ q. 2 ^ q) r.to (best_moves g P)) in
+    let b : best g (image_by r.back P) ≡ Moves (mask_of (map r.to (best_moves g P))) =
+        best_is_moves g (image_by r.back P) (can_move-image_by r P full ∙ h) ∙ ap Moves m in
     λ i. record { score = value-image_by g r P full i; best = b i }
 
 pub answer-image_by_none : (g : Scoring) (r : Renaming) (P : GridView) → length P.cells ≡ 64 → can_move P ≡ false → answer g (image_by r.back P) ≡ answer g P

@@ -36,10 +36,12 @@ pub first_mask_no : (g : Scoring) (P : GridView) (n : ℕ) → n < 64 → is_mov
 unfolding first_mask
 first_mask_no g P n h m = ap (λ qs. mask_of (filter (is_best g P) qs)) (first_squares_no (is_move P) n h m)
 
-filter_step : (g : Scoring) (P : GridView) (n : ℕ) → n < 64 → is_move P n ≡ true → filter (is_best g P) (first_moves P (n + 1)) ≡ filter (is_best g P) (first_moves P n) ++ cond (is_best g P n) (n ∷ []) []
+filter_step : (g : Scoring) (P : GridView) (n : ℕ) → n < 64 → is_move P n ≡ true
+    → filter (is_best g P) (first_moves P (n + 1)) ≡ filter (is_best g P) (first_moves P n) ++ cond (is_best g P n) (n ∷ []) []
 filter_step g P n h m = ap (filter (is_best g P)) (first_squares_yes (is_move P) n h m) ∙ filter-append (is_best g P) (first_moves P n) (n ∷ [])
 
-pub first_mask_best : (g : Scoring) (P : GridView) (n : ℕ) → n < 64 → is_move P n ≡ true → is_best g P n ≡ true → first_mask g P (n + 1) ≡ first_mask g P n + 2 ^ n
+pub first_mask_best : (g : Scoring) (P : GridView) (n : ℕ) → n < 64 → is_move P n ≡ true → is_best g P n ≡ true
+    → first_mask g P (n + 1) ≡ first_mask g P n + 2 ^ n
 unfolding first_mask mask_of
 first_mask_best g P n h m b =
     let rest : filter (is_best g P) (first_moves P n) ++ cond (is_best g P n) (n ∷ []) [] ≡ filter (is_best g P) (first_moves P n) ++ n ∷ [] = rw b refl in
@@ -49,7 +51,8 @@ first_mask_best g P n h m b =
 pub first_mask_worse : (g : Scoring) (P : GridView) (n : ℕ) → n < 64 → is_move P n ≡ true → is_best g P n ≡ false → first_mask g P (n + 1) ≡ first_mask g P n
 unfolding first_mask
 first_mask_worse g P n h m b =
-    let rest : filter (is_best g P) (first_moves P n) ++ cond (is_best g P n) (n ∷ []) [] ≡ filter (is_best g P) (first_moves P n) = rw b (append-nil (filter (is_best g P) (first_moves P n))) in
+    let rest : filter (is_best g P) (first_moves P n) ++ cond (is_best g P n) (n ∷ []) [] ≡ filter (is_best g P) (first_moves P n) =
+        rw b (append-nil (filter (is_best g P) (first_moves P n))) in
     ap mask_of (filter_step g P n h m ∙ rest)
 
 pub first_mask_all : (g : Scoring) (P : GridView) (n : ℕ) → 64 ≤ n → first_mask g P n ≡ mask_of (best_moves g P)

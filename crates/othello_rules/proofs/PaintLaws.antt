@@ -14,12 +14,14 @@ pub length-painted : (c : Cell) (qs : List ℕ) (xs : List Cell) → length (pai
 unfolding painted_cells
 length-painted c qs xs = length-map (enumerate_from 0 xs) (painted_cell c qs) ∙ length-enumerate_from 0 xs
 
-get_or-map_pairs : (f : ℕ × Cell → Cell) (n : ℕ) (xs : List Cell) (k : ℕ) (d : Cell) → k < length xs → get_or (map f (enumerate_from n xs)) k d ≡ f (n + k, get_or xs k d)
+get_or-map_pairs : (f : ℕ × Cell → Cell) (n : ℕ) (xs : List Cell) (k : ℕ) (d : Cell) → k < length xs
+    → get_or (map f (enumerate_from n xs)) k d ≡ f (n + k, get_or xs k d)
 get_or-map_pairs f n [] k d h = absurd (omega arith)
 get_or-map_pairs f n (x ∷ xs) zero d h = ap (λ m. f (m, x)) (omega arith)
 get_or-map_pairs f n (x ∷ xs) (suc k) d h = get_or-map_pairs f (n + 1) xs k d (omega arith) ∙ ap (λ m. f (m, get_or xs k d)) (omega arith)
 
-pub get_or-painted : (c : Cell) (qs : List ℕ) (xs : List Cell) (k : ℕ) (d : Cell) → k < length xs → get_or (painted_cells c qs xs) k d ≡ cond (list_any (nat_eq k) qs) c (get_or xs k d)
+pub get_or-painted : (c : Cell) (qs : List ℕ) (xs : List Cell) (k : ℕ) (d : Cell) → k < length xs
+    → get_or (painted_cells c qs xs) k d ≡ cond (list_any (nat_eq k) qs) c (get_or xs k d)
 unfolding painted_cells
 get_or-painted c qs xs k d h = get_or-map_pairs (painted_cell c qs) 0 xs k d h ∙ ap (λ m. painted_cell c qs (m, get_or xs k d)) (omega arith)
 
@@ -33,7 +35,8 @@ set-painted c qs s xs =
     (simp (length-set, length-painted))
     (λ k d h.
     let within : k < length xs = simp (length-set, length-painted) at h in
-    let right : get_or (painted_cells c (qs ++ s ∷ []) xs) k d ≡ cond (list_any (nat_eq k) (qs ++ s ∷ [])) c (get_or xs k d) = get_or-painted c (qs ++ s ∷ []) xs k d within in
+    let right : get_or (painted_cells c (qs ++ s ∷ []) xs) k d ≡ cond (list_any (nat_eq k) (qs ++ s ∷ [])) c (get_or xs k d) =
+        get_or-painted c (qs ++ s ∷ []) xs k d within in
     let left : get_or (painted_cells c qs xs) k d ≡ cond (list_any (nat_eq k) qs) c (get_or xs k d) = get_or-painted c qs xs k d within in
     let tests : list_any (nat_eq k) (qs ++ s ∷ []) ≡ (list_any (nat_eq k) qs || (nat_eq k s || false)) = list_any-append (nat_eq k) qs (s ∷ []) in
     let placed : s < length (painted_cells c qs xs) → get_or (set (painted_cells c qs xs) s c) s d ≡ c = get_or-set_same (painted_cells c qs xs) s c d in

@@ -25,11 +25,15 @@ count-cons c x xs = sum_by-cons (λ y. cond (same_cell c y) 1 0) x xs
 
 all_counted : (xs : List Cell) → count_by (same_cell cell.Empty) xs + count_by (same_cell cell.Black) xs + count_by (same_cell cell.White) xs ≡ length xs
 all_counted [] = refl
-all_counted (cell.Empty ∷ xs) = omega (arith, count-cons cell.Empty cell.Empty xs, count-cons cell.Black cell.Empty xs, count-cons cell.White cell.Empty xs, all_counted xs)
-all_counted (cell.Black ∷ xs) = omega (arith, count-cons cell.Empty cell.Black xs, count-cons cell.Black cell.Black xs, count-cons cell.White cell.Black xs, all_counted xs)
-all_counted (cell.White ∷ xs) = omega (arith, count-cons cell.Empty cell.White xs, count-cons cell.Black cell.White xs, count-cons cell.White cell.White xs, all_counted xs)
+all_counted (cell.Empty ∷ xs) =
+    omega (arith, count-cons cell.Empty cell.Empty xs, count-cons cell.Black cell.Empty xs, count-cons cell.White cell.Empty xs, all_counted xs)
+all_counted (cell.Black ∷ xs) =
+    omega (arith, count-cons cell.Empty cell.Black xs, count-cons cell.Black cell.Black xs, count-cons cell.White cell.Black xs, all_counted xs)
+all_counted (cell.White ∷ xs) =
+    omega (arith, count-cons cell.Empty cell.White xs, count-cons cell.Black cell.White xs, count-cons cell.White cell.White xs, all_counted xs)
 
-by_side : (s : Side) (xs : List Cell) → count_by (same_cell (disc s)) xs + count_by (same_cell (disc (other s))) xs + count_by (same_cell cell.Empty) xs ≡ length xs
+by_side : (s : Side) (xs : List Cell)
+    → count_by (same_cell (disc s)) xs + count_by (same_cell (disc (other s))) xs + count_by (same_cell cell.Empty) xs ≡ length xs
 by_side side.Black xs = omega (arith, all_counted xs)
 by_side side.White xs = omega (arith, all_counted xs)
 
@@ -77,7 +81,10 @@ value_at-IsScore g (suc n) P h =
       | inl b ↦ rw (b, value_at) (best_of-IsScore (value_at g n) P b (λ q. value_at-IsScore g n (play P q) (rw length-play h)))
       | inr b ↦
           elim (cases_Bool (can_move (pass P))) [
-            | inl d ↦ rw (b, d, value_at) (neg-IsScore (best_worth (value_at g n) (pass P)) (best_of-IsScore (value_at g n) (pass P) d (λ q. value_at-IsScore g n (play (pass P) q) (rw length-play h))))
+            | inl d ↦
+                rw (b, d, value_at)
+                    (neg-IsScore (best_worth (value_at g n) (pass P))
+                    (best_of-IsScore (value_at g n) (pass P) d (λ q. value_at-IsScore g n (play (pass P) q) (rw length-play h))))
             | inr d ↦ rw (b, d, value_at) (final-IsScore g P h)
           ]
     ]

@@ -32,7 +32,8 @@ reordered [] [] = true
 reordered [] (y ∷ ys) = false
 reordered (x ∷ xs) ys = elim (without x ys) [ None ↦ false | Some zs ↦ reordered xs zs ]
 
-sum_by-option : (f : ℕ → ℕ) (x y : ℕ) (ys zs : List ℕ) (o : Option (List ℕ)) → ((ws : List ℕ) → o ≡ Some ws → sum_by f ys ≡ f x + sum_by f ws) → option_map (λ ws. y ∷ ws) o ≡ Some zs → sum_by f (y ∷ ys) ≡ f x + sum_by f zs
+sum_by-option : (f : ℕ → ℕ) (x y : ℕ) (ys zs : List ℕ) (o : Option (List ℕ))
+    → ((ws : List ℕ) → o ≡ Some ws → sum_by f ys ≡ f x + sum_by f ws) → option_map (λ ws. y ∷ ws) o ≡ Some zs → sum_by f (y ∷ ys) ≡ f x + sum_by f zs
 sum_by-option f x y ys zs None h e = cc
 sum_by-option f x y ys zs (Some ws) h e =
     let same : y ∷ ws ≡ zs = cc in
@@ -53,7 +54,9 @@ sum_by-without f x (y ∷ ys) zs e =
       | inr b ↦ sum_by-option f x y ys zs (without x ys) (sum_by-without f x ys) (rw b at e)
     ]
 
-reordered_step : (f : ℕ → ℕ) (x : ℕ) (xs ys : List ℕ) (o : Option (List ℕ)) → without x ys ≡ o → ((zs : List ℕ) → reordered xs zs ≡ true → sum_by f xs ≡ sum_by f zs) → elim o [ None ↦ false | Some zs ↦ reordered xs zs ] ≡ true → sum_by f (x ∷ xs) ≡ sum_by f ys
+reordered_step : (f : ℕ → ℕ) (x : ℕ) (xs ys : List ℕ) (o : Option (List ℕ)) → without x ys ≡ o
+    → ((zs : List ℕ) → reordered xs zs ≡ true → sum_by f xs ≡ sum_by f zs)
+    → elim o [ None ↦ false | Some zs ↦ reordered xs zs ] ≡ true → sum_by f (x ∷ xs) ≡ sum_by f ys
 reordered_step f x xs ys None e rest h = absurd (false≢true h)
 reordered_step f x xs ys (Some zs) e rest h = sum_by-cons f x xs ∙ rw (rest zs h) (sym (sum_by-without f x ys zs e))
 

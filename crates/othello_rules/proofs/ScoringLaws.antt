@@ -1,5 +1,6 @@
 -- The sign of a value is the value under `Sign`.
-use Rattle.std.proofs.Common.{◌≡◌, ℕ, zero, suc, ◌<◌, ◌≤◌, ◌≤ℤ◌, ◌⊎◌, List, [], ◌∷◌, map, refl, sym, ap, ◌∙◌, arith, inl, inr, ℤ, pos, negsuc, neg_ℤ, ◌+ℤ◌, ◌-ℤ◌}
+use Rattle.std.proofs.Common.{◌≡◌, ℕ, zero, suc, ◌<◌, ◌≤◌, ◌≤ℤ◌, ◌⊎◌, List, [], ◌∷◌, map, refl, sym, ap, ◌∙◌, arith}
+use Rattle.std.proofs.Common.{inl, inr, ℤ, pos, negsuc, neg_ℤ, ◌+ℤ◌, ◌-ℤ◌}
 use Rattle.std.specs.Prelude.{nat_lt}
 use Rattle.std.specs.List.{Contains, fold}
 use Rattle.std.specs.Int.{int_max, int_signum}
@@ -136,5 +137,6 @@ unfolding best_moves
 best_under_sign g P q h =
     let move : Contains (moves P) q = Contains-from_filter (is_best g P) (moves P) q h in
     let equal : worth (value g) P q ≡ value g P = (Decides-int_eq (worth (value g) P q) (value g P)).0 (passes_in_filter (is_best g P) (moves P) q h) in
-    let signs : worth (value Sign) P q ≡ value Sign P = sym (signum-worth (value g) (value Sign) P q (signum-value g (play P q))) ∙ ap int_signum equal ∙ signum-value g P in
+    let signs : worth (value Sign) P q ≡ value Sign P =
+        sym (signum-worth (value g) (value Sign) P q (signum-value g (play P q))) ∙ ap int_signum equal ∙ signum-value g P in
     Contains-filter (is_best Sign P) (moves P) q move (is_best_yes Sign P q signs)

@@ -29,7 +29,8 @@ pub own_not_opposing : (P : GridView) (q : ℕ) → has P (own P) q ≡ true →
 own_not_opposing P q h = is_some-own_not P.mover (slice_get P.cells q) h
 
 -- the run ends at the first square that is not opposing, and closes where that one is own
-run_to : (mine opp : ℕ → Bool) (n : ℕ) (xs : List ℕ) → n < length xs → ((k : ℕ) → k < n → opp (get_or xs k 0) ≡ true) → opp (get_or xs n 0) ≡ false → (run opp xs ≡ take n xs) × (closes mine opp xs ≡ mine (get_or xs n 0))
+run_to : (mine opp : ℕ → Bool) (n : ℕ) (xs : List ℕ) → n < length xs → ((k : ℕ) → k < n → opp (get_or xs k 0) ≡ true)
+    → opp (get_or xs n 0) ≡ false → (run opp xs ≡ take n xs) × (closes mine opp xs ≡ mine (get_or xs n 0))
 unfolding run closes
 run_to mine opp n [] h all stop = absurd (omega arith)
 run_to mine opp zero (x ∷ xs) h all stop = (rw stop, rw stop)
@@ -46,7 +47,10 @@ never_closes mine opp (x ∷ xs) all =
     let first : opp x ≡ true = all 0 (omega arith) in
     rw first (never_closes mine opp xs (λ k l. all (suc k) (omega arith)))
 
-on_ray : (P : GridView) (q : ℕ) (d : Direction) (n : ℕ) → n < steps_to_edge d q → AllOpposing P q d n → has P (opposing P) (square_after d q (n + 1)) ≡ false → (run (has P (opposing P)) (ray d q) ≡ take n (ray d q)) × (closes (has P (own P)) (has P (opposing P)) (ray d q) ≡ has P (own P) (square_after d q (n + 1)))
+on_ray : (P : GridView) (q : ℕ) (d : Direction) (n : ℕ) → n < steps_to_edge d q → AllOpposing P q d n
+    → has P (opposing P) (square_after d q (n + 1)) ≡ false
+    → (run (has P (opposing P)) (ray d q) ≡ take n (ray d q))
+    × (closes (has P (own P)) (has P (opposing P)) (ray d q) ≡ has P (own P) (square_after d q (n + 1)))
 on_ray P q d n within all stop =
     let r = run_to (has P (own P)) (has P (opposing P)) n (ray d q)
     (rw length-ray within)
@@ -55,14 +59,16 @@ on_ray P q d n within all stop =
     (r.0, r.1 ∙ ap (has P (own P)) (get_or-ray d q n 0 within))
 
 -- the run is followed by an own disc
-pub turned_closed : (P : GridView) (q : ℕ) (d : Direction) (n : ℕ) → n < steps_to_edge d q → AllOpposing P q d n → has P (own P) (square_after d q (n + 1)) ≡ true → turned P q d ≡ take n (ray d q)
+pub turned_closed : (P : GridView) (q : ℕ) (d : Direction) (n : ℕ) → n < steps_to_edge d q → AllOpposing P q d n
+    → has P (own P) (square_after d q (n + 1)) ≡ true → turned P q d ≡ take n (ray d q)
 unfolding turned
 turned_closed P q d n within all closing =
     let r = on_ray P q d n within all (own_not_opposing P (square_after d q (n + 1)) closing) in
     rw (r.1, closing) r.0
 
 -- the run is followed by an empty square
-pub turned_open : (P : GridView) (q : ℕ) (d : Direction) (n : ℕ) → n < steps_to_edge d q → AllOpposing P q d n → has P (own P) (square_after d q (n + 1)) ≡ false → has P (opposing P) (square_after d q (n + 1)) ≡ false → turned P q d ≡ []
+pub turned_open : (P : GridView) (q : ℕ) (d : Direction) (n : ℕ) → n < steps_to_edge d q → AllOpposing P q d n
+    → has P (own P) (square_after d q (n + 1)) ≡ false → has P (opposing P) (square_after d q (n + 1)) ≡ false → turned P q d ≡ []
 unfolding turned
 turned_open P q d n within all not_own not_opposing =
     let r = on_ray P q d n within all not_opposing in

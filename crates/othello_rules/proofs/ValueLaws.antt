@@ -50,7 +50,8 @@ pub value_at-move : (g : Scoring) (m : ℕ) (P : GridView) → can_move P ≡ tr
 unfolding value_at
 value_at-move g m P h = rw (h, value_at) refl
 
-pub value_at-pass : (g : Scoring) (m : ℕ) (P : GridView) → can_move P ≡ false → can_move (pass P) ≡ true → value_at g (suc m) P ≡ neg_ℤ (best_worth (value_at g m) (pass P))
+pub value_at-pass : (g : Scoring) (m : ℕ) (P : GridView) → can_move P ≡ false → can_move (pass P) ≡ true
+    → value_at g (suc m) P ≡ neg_ℤ (best_worth (value_at g m) (pass P))
 unfolding value_at
 value_at-pass g m P h k = rw (h, k, value_at) refl
 

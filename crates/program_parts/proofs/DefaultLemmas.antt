@@ -1,5 +1,6 @@
 -- The value that clap finds for an option that has a default.
-use Rattle.std.proofs.Common.{◌≡◌, ◌∙◌, ◌<◌, ◌≤◌, ◌&&◌, ap, ℕ, Bool, true, false, not, zero, suc, List, [], ◌∷◌, length, map, is_some, Option, true≢false, Some, None, refl, sym, subst, inl, inr, arith, codes}
+use Rattle.std.proofs.Common.{◌≡◌, ◌∙◌, ◌<◌, ◌≤◌, ◌&&◌, ap, ℕ, Bool, true, false, not, zero, suc, List, [], ◌∷◌, length}
+use Rattle.std.proofs.Common.{map, is_some, Option, true≢false, Some, None, refl, sym, subst, inl, inr, arith, codes}
 use Rattle.std.specs.List.{All, list_all, slice_index_or}
 use Rattle.std.specs.Prelude.{find, option_map, slice_get, unwrap_or}
 use Rattle.std.specs.Borrow.{Bor}
@@ -8,7 +9,8 @@ use Rattle.std.proofs.lemmas.List.{length-map}
 use Rattle.std.proofs.lemmas.List.Elements.{All-get_or}
 use Rattle.std.proofs.lemmas.Slice.Eq.{bytes_eq-Decides}
 use Rattle.clap.specs.Built.{IsAuto, IsParsedFrom, SameRules}
-use Rattle.clap.specs.Facts.{Entry, EntryPasses, HasIn, IsFilledEntry, IsKnownGroup, PassesArg, WantsDefault, args_of, groups_of, least_values, parser_of, parser_of_value}
+use Rattle.clap.specs.Facts.{Entry, EntryPasses, HasIn, IsFilledEntry, IsKnownGroup, PassesArg, WantsDefault, args_of}
+use Rattle.clap.specs.Facts.{groups_of, least_values, parser_of, parser_of_value}
 use Rattle.clap.specs.Matches.{first_value, found_of, matched_of, one_text}
 use Rattle.clap.specs.Simple.{HasReadyLeaves, IsSimpleArg, is_ready, shape_of}
 use Rattle.clap.specs.Texts.{items_of}

@@ -25,7 +25,8 @@ small_one : (text : List ℕ) (b : Bool) → is_large text ≡ b → first_large
 small_one text false e none = e
 small_one text true e none = absurd (some_not_none 0 (sym (first_if_large text e) ∙ none))
 
-whole_input : (given : Option (List ℕ)) (texts : List (List ℕ)) → IfSome given (λ all. texts ≡ take (MOST_BYTES + 1) all ∷ []) → first_large texts ≡ None → IfSome given (λ text. texts ≡ text ∷ [])
+whole_input : (given : Option (List ℕ)) (texts : List (List ℕ))
+    → IfSome given (λ all. texts ≡ take (MOST_BYTES + 1) all ∷ []) → first_large texts ≡ None → IfSome given (λ text. texts ≡ text ∷ [])
 whole_input None texts read small = read
 whole_input (Some all) texts read small =
     let one = rw read at small in
@@ -40,7 +41,8 @@ all_named limit n m e few = elim (cases_lt limit m) [
 ]
 
 -- what was read is the whole, where it is no larger than a file may be
-pub whole_texts : (names : List (List ℕ)) (given : Option (List ℕ)) (texts : List (List ℕ)) → AreFrontsOf names given texts → first_large texts ≡ None → length texts ≤ MOST_FILES → AreTextsOf names given texts
+pub whole_texts : (names : List (List ℕ)) (given : Option (List ℕ)) (texts : List (List ℕ))
+    → AreFrontsOf names given texts → first_large texts ≡ None → length texts ≤ MOST_FILES → AreTextsOf names given texts
 whole_texts [] given texts read small few = whole_input given texts read small
 whole_texts (name ∷ names) given texts read small few = all_named MOST_FILES (length texts) (length (name ∷ names)) read few
 

@@ -1,5 +1,6 @@
 -- The number that clap's `get_one` gives.
-use Rattle.std.proofs.Common.{◌≡◌, ◌∙◌, ◌^◌, ◌<◌, ◌≤◌, ◌==◌, Bool, true, false, cond, drop, ℕ, List, [], ◌∷◌, Option, Some, None, Ok, Err, ap, refl, sym, subst, arith}
+use Rattle.std.proofs.Common.{◌≡◌, ◌∙◌, ◌^◌, ◌<◌, ◌≤◌, ◌==◌, Bool, true, false, cond, drop, ℕ, List, [], ◌∷◌, Option}
+use Rattle.std.proofs.Common.{Some, None, Ok, Err, ap, refl, sym, subst, arith}
 use Rattle.std.specs.Prelude.{IfSome, Result, pos, unwrap_or}
 use Rattle.std.specs.Str.Parse.{IsNumeral, ParsesUnsigned, digits_value, starts_with_minus, without_leading_plus}
 use Rattle.std.proofs.lemmas.Bool.{ne_eqb}

@@ -4,7 +4,8 @@ use Rattle.std.specs.List.{list_all}
 use Rattle.std.specs.Prelude.{Result, IfErr}
 use Rattle.std.specs.Result.{IsErrAnd}
 use Rattle.std.proofs.lemmas.Result.{err_from_is_err_and}
-use Rattle.clap.specs.Words.{App, HasKind, HasMatchesOf, IsParsedFrom, Text, app_of, fault_of, found_of, is_simple, is_simple_and_free, kind_of, matches_of, rows_of, takes}
+use Rattle.clap.specs.Words.{App, HasKind, HasMatchesOf, IsParsedFrom, Text, app_of, fault_of, found_of, is_simple}
+use Rattle.clap.specs.Words.{is_simple_and_free, kind_of, matches_of, rows_of, takes}
 use Rattle.clap.specs.Simple.{HasReadyLeaves, is_ready_leaf}
 use Rattle.clap.specs.declared.builder.command.Command.{Command}
 use Rattle.clap.specs.declared.error.Error.{Error}
@@ -49,7 +50,8 @@ taken_fault program names words a e r named app passes fault taken =
     ])
 
 -- a fault is `Memory`, or of a kind that clap finds in the words
-pub refused_fault : {T : Type 0} (program : Program) → TakesSettings program → (names : NameList) (words : List Text) (a : App) (e : Error) (r : Result T OptionFault)
+pub refused_fault : {T : Type 0} (program : Program) → TakesSettings program
+    → (names : NameList) (words : List Text) (a : App) (e : Error) (r : Result T OptionFault)
     → NamesScorings names → a ≡ program names → (is_simple_and_free a ≡ true → HasKind (fault_of a words) e) → IsErrAnd r (IsFaultBy e)
     → IfErr r (IsFaultFor program words)
 refused_fault program takes names words a e r named app kinds fault =

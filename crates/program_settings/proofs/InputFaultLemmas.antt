@@ -1,5 +1,6 @@
 -- The first file that is too large, and the refusal of files.
-use Rattle.std.proofs.Common.{◌≡◌, ℕ, ◌+◌, ◌<◌, ◌≤◌, ◌⊎◌, inl, inr, Bool, true, false, not, cond, List, [], ◌∷◌, length, get_or, refl, ◌∙◌, ap, arith, Vec, Global}
+use Rattle.std.proofs.Common.{◌≡◌, ℕ, ◌+◌, ◌<◌, ◌≤◌, ◌⊎◌, inl, inr, Bool, true, false, not, cond, List, [], ◌∷◌, length}
+use Rattle.std.proofs.Common.{get_or, refl, ◌∙◌, ap, arith, Vec, Global}
 use Rattle.std.specs.Prelude.{Some, None, nat_lt, option_map}
 use Rattle.std.specs.List.{position, position_or_len}
 use Rattle.std.proofs.lemmas.List.{length-map}
@@ -30,7 +31,8 @@ cond_none false x e = refl
 pub small_at : (files : List File) (i : ℕ) (d : File) → first_large (texts_of files) ≡ None → i < length files → length (get_or files i d).items ≤ MOST_BYTES
 small_at files i d none lt =
     let e = first_map files ∙ none in
-    let past : length files ≤ position_or_len (λ f. is_large f.items) files = ltb-false _ _ (cond_none (nat_lt (position_or_len (λ f. is_large f.items) files) (length files)) (position_or_len (λ f. is_large f.items) files) e) in
+    let past : length files ≤ position_or_len (λ f. is_large f.items) files =
+        ltb-false _ _ (cond_none (nat_lt (position_or_len (λ f. is_large f.items) files) (length files)) (position_or_len (λ f. is_large f.items) files) e) in
     ltb-false _ _ (fails_before_first (λ f. is_large f.items) files i d (omega arith))
 
 -- ---- what is refused
@@ -40,8 +42,12 @@ pub refusal_cases : (texts : List (List ℕ)) → ((MOST_FILES < length texts) �
 unfolding refusal_of
 refusal_cases texts = go (nat_lt MOST_FILES (length texts)) refl
   where
-    go : (b : Bool) → nat_lt MOST_FILES (length texts) ≡ b → ((MOST_FILES < length texts) × (cond (nat_lt MOST_FILES (length texts)) (Some TooManyFiles) (option_map FileTooLarge (first_large texts)) ≡ Some TooManyFiles))
-        ⊎ ((length texts ≤ MOST_FILES) × (cond (nat_lt MOST_FILES (length texts)) (Some TooManyFiles) (option_map FileTooLarge (first_large texts)) ≡ option_map FileTooLarge (first_large texts)))
+    go : (b : Bool) → nat_lt MOST_FILES (length texts) ≡ b
+        → ((MOST_FILES < length texts)
+        × (cond (nat_lt MOST_FILES (length texts)) (Some TooManyFiles) (option_map FileTooLarge (first_large texts)) ≡ Some TooManyFiles))
+        ⊎ ((length texts ≤ MOST_FILES)
+            × (cond (nat_lt MOST_FILES (length texts)) (Some TooManyFiles) (option_map FileTooLarge (first_large texts))
+            ≡ option_map FileTooLarge (first_large texts)))
     go true e = inl (ltb-true _ _ e, rw e refl)
     go false e = inr (ltb-false _ _ e, rw e refl)
 

@@ -1,5 +1,6 @@
 -- A text is read as claims exactly where it is a book of them.
-use Rattle.std.proofs.Common.{◌≡◌, ℕ, zero, suc, ◌+◌, ◌<◌, ◌&&◌, Bool, true, false, List, [], ◌∷◌, length, Contains, refl, ap, sym, ◌∙◌, subst, inl, inr, Option, Some, None, arith}
+use Rattle.std.proofs.Common.{◌≡◌, ℕ, zero, suc, ◌+◌, ◌<◌, ◌&&◌, Bool, true, false, List, [], ◌∷◌, length, Contains}
+use Rattle.std.proofs.Common.{refl, ap, sym, ◌∙◌, subst, inl, inr, Option, Some, None, arith}
 use Rattle.std.specs.Prelude.{◌↔◌, ◌⊎◌, Result, Ok, Err, nat_eq}
 use Rattle.std.specs.List.{AllByRecursion}
 use Rattle.std.specs.List.Sorted.{IsStrictlySortedBy}
@@ -15,7 +16,9 @@ use Rattle.othello_bits.specs.Pos.{PosView, discs_of}
 use Rattle.othello_bits.specs.Symmetries.{canonical_of}
 use Rattle.obf_text.specs.LineText.{lines_of}
 use Rattle.obf_text.specs.Obf.{Entry, Meaning, Skipped, Holds, Faulty, item_of}
-use Rattle.solved_book.specs.Claims.{ClaimsView, PositionClaim, advice, advice_under, claim_or_fault, claims_after, claims_from, claims_of, claim_in_line, entry_claim, is_black_side, is_canonical_entry, lists_nothing, same_discs, scoring_of_lines}
+use Rattle.solved_book.specs.Claims.{ClaimsView, PositionClaim, advice, advice_under, claim_or_fault, claims_after}
+use Rattle.solved_book.specs.Claims.{claims_from, claims_of, claim_in_line, entry_claim, is_black_side}
+use Rattle.solved_book.specs.Claims.{is_canonical_entry, lists_nothing, same_discs, scoring_of_lines}
 use Rattle.solved_book.specs.Order.{is_behind, by_masks}
 use Rattle.solved_book.specs.Listing.{claim_of}
 use Rattle.solved_book.specs.Reading.{claimed_positions}
@@ -48,7 +51,8 @@ none_to : (n : ℕ) → 0 < n → nat_eq n 0 ≡ false
 none_to n lt = ne_eqb n 0 (λ e. omega (arith, e, lt))
 
 -- what the tests of a line say
-checked_passes : (n : ℕ) (nothing behind canonical : Bool) (c : PositionClaim) (given : Option PositionClaim) → claim_or_fault n nothing behind canonical c ≡ Ok given
+checked_passes : (n : ℕ) (nothing behind canonical : Bool) (c : PositionClaim) (given : Option PositionClaim)
+    → claim_or_fault n nothing behind canonical c ≡ Ok given
     → (nothing ≡ false) × (canonical ≡ true)
 checked_passes n true behind canonical c given h = cc
 checked_passes n false false canonical c given h = cc
@@ -59,7 +63,9 @@ line_passes : (n : ℕ) (before : Option PosView) (m : Meaning) (given : Option 
 line_passes n before Skipped given h = tt
 line_passes n before (Faulty f) given h = cc
 line_passes n before (Holds entry) given h =
-    let facts = checked_passes n (lists_nothing entry) (is_behind before (discs_of entry.position)) (is_canonical_entry entry.position) (discs_of entry.position, claim_of entry.listed) given h in
+    let facts =
+        checked_passes n (lists_nothing entry) (is_behind before (discs_of entry.position))
+            (is_canonical_entry entry.position) (discs_of entry.position, claim_of entry.listed) given h in
     let parts = and_parts (is_black_side entry.position.mover) (same_discs (canonical_of (discs_of entry.position)) (discs_of entry.position)) facts.1 in
     record {
       listed = some_from (length entry.listed) facts.0;
@@ -72,7 +78,8 @@ passes_checked : (n : ℕ) (before : Option PosView) (entry : Entry) → IsBookE
 passes_checked n before entry is behind =
     let c : PositionClaim = (discs_of entry.position, claim_of entry.listed) in
     let canonical : is_canonical_entry entry.position ≡ true =
-    ap (λ s. is_black_side s && same_discs (canonical_of (discs_of entry.position)) (discs_of entry.position)) is.black ∙ same_to (canonical_of (discs_of entry.position)) (discs_of entry.position) is.canonical in
+    ap (λ s. is_black_side s && same_discs (canonical_of (discs_of entry.position)) (discs_of entry.position)) is.black
+        ∙ same_to (canonical_of (discs_of entry.position)) (discs_of entry.position) is.canonical in
     ap (λ b. claim_or_fault n b (is_behind before (discs_of entry.position)) (is_canonical_entry entry.position) c) (none_to (length entry.listed) is.listed)
     ∙ (ap (λ b. claim_or_fault n false b (is_canonical_entry entry.position) c) behind ∙ ap (λ b. claim_or_fault n false true b c) canonical)
 
@@ -99,7 +106,8 @@ unfolding IsStrictlySortedBy
 follow_more None p ps behind h = h
 follow_more (Some q) p ps behind h =
     let less : by_masks q p ≡ Less = less_turned p q (gt_is (by_masks p q) behind) in
-    ((less, all_weaker (λ r. by_masks p r ≡ Less) (λ r. by_masks q r ≡ Less) (λ r l. masks_total.trans (masks_at q) (masks_at p) (masks_at r) less l) ps h.0), h)
+    ((less, all_weaker (λ r. by_masks p r ≡ Less) (λ r. by_masks q r ≡ Less) (λ r l. masks_total.trans (masks_at q) (masks_at p) (masks_at r) less l) ps h.0),
+        h)
 
 follow_behind : (before : Option PosView) (p : PosView) (ps : List PosView) → Follow before (p ∷ ps) → is_behind before p ≡ true
 unfolding IsStrictlySortedBy
@@ -117,7 +125,8 @@ abbrev AllPass : List (List ℕ) → Type 0
 AllPass lines = AllByRecursion (λ line. Passes (item_of line)) lines
 
 -- lines without a fault pass, and their positions rise
-without_fault : (n : ℕ) (before : Option PosView) (lines : List (List ℕ)) (cs : List PositionClaim) → claims_from n before lines ≡ Ok cs → AllPass lines × Follow before (claimed_positions cs)
+without_fault : (n : ℕ) (before : Option PosView) (lines : List (List ℕ)) (cs : List PositionClaim)
+    → claims_from n before lines ≡ Ok cs → AllPass lines × Follow before (claimed_positions cs)
 without_fault n before [] cs h =
     let none : [] ≡ cs = let same = sym (from_end n before) ∙ h in cc in
     (tt, subst (λ ds. Follow before (claimed_positions ds)) none (follow_nil before))
@@ -133,11 +142,13 @@ without_fault n before (line ∷ lines) cs h = by (claim_in_line n before (item_
     by (Ok (Some c)) i more =
         let split = onto_ok c (claims_from (n + 1) (Some c.0) lines) cs (sym (from_some n before line lines c i) ∙ h) in
         let rest = more (Some c.0) split.0 split.1 in
-        let all : Follow before (c.0 ∷ claimed_positions split.0) = follow_more before c.0 (claimed_positions split.0) (line_behind n before (item_of line) c i) rest.1 in
+        let all : Follow before (c.0 ∷ claimed_positions split.0) =
+            follow_more before c.0 (claimed_positions split.0) (line_behind n before (item_of line) c i) rest.1 in
         ((line_passes n before (item_of line) (Some c) i, rest.0), subst (λ ds. Follow before (claimed_positions ds)) (sym split.2) all)
 
 -- lines that pass have no fault where their positions rise
-no_fault : (n : ℕ) (before : Option PosView) (lines : List (List ℕ)) → AllPass lines → Follow before (claimed_positions (entry_claims lines)) → claims_from n before lines ≡ Ok (entry_claims lines)
+no_fault : (n : ℕ) (before : Option PosView) (lines : List (List ℕ)) → AllPass lines
+    → Follow before (claimed_positions (entry_claims lines)) → claims_from n before lines ≡ Ok (entry_claims lines)
 no_fault n before [] pass follow = from_end n before
 no_fault n before (line ∷ lines) pass follow = by (item_of line) refl (λ b h. no_fault (n + 1) b lines pass.1 h)
   where
@@ -210,11 +221,13 @@ claim_line (line ∷ lines) c h = by (entry_claim (item_of line)) refl (λ k. cl
           | inr rest ↦ later (more rest)
         ]
 
-line_claim : (lines : List (List ℕ)) (c : PositionClaim) (line : List ℕ) → Contains lines line → entry_claim (item_of line) ≡ Some c → Contains (entry_claims lines) c
+line_claim : (lines : List (List ℕ)) (c : PositionClaim) (line : List ℕ) → Contains lines line
+    → entry_claim (item_of line) ≡ Some c → Contains (entry_claims lines) c
 line_claim [] c line at is = absurd (Contains-nil line at)
 line_claim (l ∷ lines) c line at is = by (entry_claim (item_of l)) refl (Contains-cons_cases l lines line at) (λ k. line_claim lines c line k is)
   where
-    by : (o : Option PositionClaim) → entry_claim (item_of l) ≡ o → (l ≡ line) ⊎ Contains lines line → (Contains lines line → Contains (entry_claims lines) c) → Contains (entry_claims (l ∷ lines)) c
+    by : (o : Option PositionClaim) → entry_claim (item_of l) ≡ o → (l ≡ line) ⊎ Contains lines line
+        → (Contains lines line → Contains (entry_claims lines) c) → Contains (entry_claims (l ∷ lines)) c
     by None e (inl same) more = let no : None ≡ Some c = sym e ∙ (ap (λ x. entry_claim (item_of x)) same ∙ is) in cc
     by None e (inr rest) more = rw e (more rest)
     by (Some d) e (inl same) more =

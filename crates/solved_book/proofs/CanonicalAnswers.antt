@@ -34,7 +34,8 @@ pub score_shown : (z : ℤ) → IsScore z → shown z ≡ z
 score_shown z h = let a = h.low in let b = h.high in omega (arith, ints)
 
 -- the answer of the canonical position, by the symmetry that leads to it
-pub canonical_answer_is : (g : Scoring) (p : PosView) (s : Sym) (a : AnswerView) (score : ℤ) (best : Best) → s ≡ first_symmetry (position_of Black p) → a ≡ answer_of g p
+pub canonical_answer_is : (g : Scoring) (p : PosView) (s : Sym) (a : AnswerView) (score : ℤ) (best : Best)
+    → s ≡ first_symmetry (position_of Black p) → a ≡ answer_of g p
     → score ≡ a.score → best ≡ best_image s a.best → record { score = score; best = best } ≡ answer_of g (canonical_of p)
 canonical_answer_is g p s a score best es ea escore ebest =
     let there = ap (answer_of g) (canonical_of-is p) ∙ answer_of-image_of g (first_symmetry (position_of Black p)) p in

@@ -6,7 +6,9 @@ use Rattle.othello_rules.specs.declared.scoring.Scoring.{Scoring}
 use Rattle.othello_bits.specs.Pos.{PosView, discs_of}
 use Rattle.obf_text.specs.LineText.{lines_of}
 use Rattle.obf_text.specs.Obf.{Meaning, Skipped, Holds, Faulty, item_of}
-use Rattle.solved_book.specs.Claims.{ClaimsView, PositionClaim, advice, advice_under, claim_or_fault, claims_from, claims_of, entry_claim, is_canonical_entry, last_position, claim_in_line, lists_nothing, claims_after, scoring_of_lines}
+use Rattle.solved_book.specs.Claims.{ClaimsView, PositionClaim, advice, advice_under, claim_or_fault, claims_from}
+use Rattle.solved_book.specs.Claims.{claims_of, entry_claim, is_canonical_entry, last_position, claim_in_line}
+use Rattle.solved_book.specs.Claims.{lists_nothing, claims_after, scoring_of_lines}
 use Rattle.solved_book.specs.Order.{is_behind}
 use Rattle.solved_book.specs.Listing.{claim_of}
 use Rattle.solved_book.specs.declared.book_fault.BookFault.{BookFault}
@@ -17,7 +19,8 @@ Given = Result (List PositionClaim) BookFault
 
 -- ---- the lines in front
 
-pub onto_ok : (c : PositionClaim) (r : Given) (cs : List PositionClaim) → claims_after (c ∷ []) r ≡ Ok cs → (more : List PositionClaim) × (r ≡ Ok more) × (cs ≡ c ∷ more)
+pub onto_ok : (c : PositionClaim) (r : Given) (cs : List PositionClaim) → claims_after (c ∷ []) r ≡ Ok cs
+    → (more : List PositionClaim) × (r ≡ Ok more) × (cs ≡ c ∷ more)
 onto_ok c (Ok more) cs h = (more, refl, cc)
 onto_ok c (Err f) cs h = cc
 
@@ -49,12 +52,14 @@ lines_after (l ∷ front) rest n before cs h = by (claim_in_line n before (item_
         ∙ ap₂ (λ ds k. claims_after ds (claims_from k (last_position before ds) rest)) (sym split.2) further))
 
 -- the fault of lines is that of these and further lines
-pub fault_before : (front rest : List (List ℕ)) (n : ℕ) (before : Option PosView) (f : BookFault) → claims_from n before front ≡ Err f → claims_from n before (front ++ rest) ≡ Err f
+pub fault_before : (front rest : List (List ℕ)) (n : ℕ) (before : Option PosView) (f : BookFault)
+    → claims_from n before front ≡ Err f → claims_from n before (front ++ rest) ≡ Err f
 fault_before [] rest n before f h = let no = sym (from_end n before) ∙ h in cc
 fault_before (l ∷ front) rest n before f h = by (claim_in_line n before (item_of l)) refl (λ b k. fault_before front rest (n + 1) b f k)
   where
     by : (r : Result (Option PositionClaim) BookFault) → claim_in_line n before (item_of l) ≡ r
-        → ((b : Option PosView) → claims_from (n + 1) b front ≡ Err f → claims_from (n + 1) b (front ++ rest) ≡ Err f) → claims_from n before (l ∷ (front ++ rest)) ≡ Err f
+        → ((b : Option PosView) → claims_from (n + 1) b front ≡ Err f → claims_from (n + 1) b (front ++ rest) ≡ Err f)
+        → claims_from n before (l ∷ (front ++ rest)) ≡ Err f
     by (Err k) i more = from_err n before l (front ++ rest) k i ∙ (sym (from_err n before l front k i) ∙ h)
     by (Ok None) i more = from_none n before l (front ++ rest) i ∙ more before (sym (from_none n before l front i) ∙ h)
     by (Ok (Some c)) i more =
@@ -63,7 +68,8 @@ fault_before (l ∷ front) rest n before f h = by (claim_in_line n before (item_
 
 -- where the lines before a faulty line have no fault, its fault is that of all lines
 pub fault_after : (front rest : List (List ℕ)) (line : List ℕ) (n : ℕ) (before : Option PosView) (cs : List PositionClaim) (f : BookFault)
-    → claims_from n before front ≡ Ok cs → claim_in_line (n + length front) (last_position before cs) (item_of line) ≡ Err f → claims_from n before (front ++ line ∷ rest) ≡ Err f
+    → claims_from n before front ≡ Ok cs → claim_in_line (n + length front) (last_position before cs) (item_of line) ≡ Err f
+    → claims_from n before (front ++ line ∷ rest) ≡ Err f
 fault_after front rest line n before cs f h e =
     lines_after front (line ∷ rest) n before cs h ∙ ap (claims_after cs) (from_err (n + length front) (last_position before cs) line rest f e)
 
@@ -76,13 +82,16 @@ entry_given n before (Faulty f) given h = cc
 entry_given n before (Holds entry) given h =
     by (lists_nothing entry) (is_behind before (discs_of entry.position)) (is_canonical_entry entry.position) h
   where
-    by : (nothing behind canonical : Bool) → claim_or_fault n nothing behind canonical (discs_of entry.position, claim_of entry.listed) ≡ Ok given → Some (discs_of entry.position, claim_of entry.listed) ≡ given
+    by : (nothing behind canonical : Bool)
+        → claim_or_fault n nothing behind canonical (discs_of entry.position, claim_of entry.listed) ≡ Ok given
+        → Some (discs_of entry.position, claim_of entry.listed) ≡ given
     by true behind canonical h = cc
     by false false canonical h = cc
     by false true false h = cc
     by false true true h = cc
 
-entries_from : (n : ℕ) (before : Option PosView) (lines : List (List ℕ)) (cs : List PositionClaim) → claims_from n before lines ≡ Ok cs → cs ≡ filter_map (λ line. entry_claim (item_of line)) lines
+entries_from : (n : ℕ) (before : Option PosView) (lines : List (List ℕ)) (cs : List PositionClaim)
+    → claims_from n before lines ≡ Ok cs → cs ≡ filter_map (λ line. entry_claim (item_of line)) lines
 entries_from n before [] cs h = let same = sym (from_end n before) ∙ h in cc
 entries_from n before (line ∷ lines) cs h = by (claim_in_line n before (item_of line)) refl (λ b ds k. entries_from (n + 1) b lines ds k)
   where

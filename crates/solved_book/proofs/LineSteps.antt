@@ -1,5 +1,6 @@
 -- A text that is read line by line: a line with its end, and a line that is faulty by its front.
-use Rattle.std.proofs.Common.{◌≡◌, ◌==◌, ℕ, suc, ◌+◌, ◌-◌, ◌<◌, true, false, cond, List, [], ◌∷◌, ◌++◌, All, map, take, drop, length, refl, ap, sym, ◌∙◌, Option, Some, None, arith, append_assoc, get_or}
+use Rattle.std.proofs.Common.{◌≡◌, ◌==◌, ℕ, suc, ◌+◌, ◌-◌, ◌<◌, true, false, cond, List, [], ◌∷◌, ◌++◌, All, map, take}
+use Rattle.std.proofs.Common.{drop, length, refl, ap, sym, ◌∙◌, Option, Some, None, arith, append_assoc, get_or}
 use Rattle.std.specs.Prelude.{Result, Ok, Err, option_map, codes, nat_eq, if◌then◌else◌}
 use Rattle.std.specs.List.{onto_first, slice_split, starts_with}
 use Rattle.std.specs.Str.{bytes_eq}
@@ -18,7 +19,9 @@ use Rattle.obf_text.specs.Obf.{Faulty, item_of}
 use Rattle.obf_text.specs.declared.line_fault.LineFault.{LineFault}
 use Rattle.obf_text.proofs.LineLemmas.{has_first_part}
 use Rattle.solved_book.specs.Books.{header_start}
-use Rattle.solved_book.specs.Claims.{ClaimsView, PositionClaim, advice, advice_under, claim_in_line, claims_after, claims_from, claims_of, last_position, more_claims, no_claims, scoring_in, scoring_of_lines}
+use Rattle.solved_book.specs.Claims.{ClaimsView, PositionClaim, advice, advice_under, claim_in_line, claims_after}
+use Rattle.solved_book.specs.Claims.{claims_from, claims_of, last_position, more_claims, no_claims, scoring_in}
+use Rattle.solved_book.specs.Claims.{scoring_of_lines}
 use Rattle.solved_book.specs.Reading.{NoFeeds}
 use Rattle.solved_book.specs.declared.book_fault.BookFault.{BookFault}
 use Rattle.solved_book.specs.declared.book_fault.BookFault.TheVariants as fault
@@ -46,13 +49,16 @@ last_after before [] ys = refl
 last_after before (x ∷ xs) ys = last_after (Some x.0) xs ys
 
 -- the claims of a first line, and then those of the lines after it
-first_and_rest : (a b : ClaimsView) (n : ℕ) (line : List ℕ) (lines : List (List ℕ)) → more_lines a n (line ∷ []) ≡ Ok b → more_lines a n (line ∷ lines) ≡ more_lines b (n + 1) lines
+first_and_rest : (a b : ClaimsView) (n : ℕ) (line : List ℕ) (lines : List (List ℕ)) → more_lines a n (line ∷ []) ≡ Ok b
+    → more_lines a n (line ∷ lines) ≡ more_lines b (n + 1) lines
 first_and_rest a b n line lines h = by (claims_from n (last_position None a.claims) (line ∷ [])) refl
   where
-    by : (r : Result (List PositionClaim) BookFault) → claims_from n (last_position None a.claims) (line ∷ []) ≡ r → more_lines a n (line ∷ lines) ≡ more_lines b (n + 1) lines
+    by : (r : Result (List PositionClaim) BookFault) → claims_from n (last_position None a.claims) (line ∷ []) ≡ r
+        → more_lines a n (line ∷ lines) ≡ more_lines b (n + 1) lines
     by (Err f) e = let no : Err f ≡ Ok b = sym (ap (λ r. advice a.scoring (claims_after a.claims r)) e) ∙ h in cc
     by (Ok cs) e =
-        let made : Ok (let c : ClaimsView = record { scoring = a.scoring; claims = a.claims ++ cs } in c) ≡ Ok b = sym (ap (λ r. advice a.scoring (claims_after a.claims r)) e) ∙ h in
+        let made : Ok (let c : ClaimsView = record { scoring = a.scoring; claims = a.claims ++ cs } in c) ≡ Ok b =
+            sym (ap (λ r. advice a.scoring (claims_after a.claims r)) e) ∙ h in
         let same : (let c : ClaimsView = record { scoring = a.scoring; claims = a.claims ++ cs } in c) ≡ b = cc in
         let rest = claims_from (n + 1) (last_position (last_position None a.claims) cs) lines in
         ap (λ r. advice a.scoring (claims_after a.claims r)) (lines_after (line ∷ []) lines n (last_position None a.claims) cs e)
@@ -60,22 +66,26 @@ first_and_rest a b n line lines h = by (claims_from n (last_position None a.clai
         ∙ (ap (λ p. advice a.scoring (claims_after (a.claims ++ cs) (claims_from (n + 1) p lines))) (last_after None a.claims cs)
         ∙ ap (λ (c : ClaimsView). more_lines c (n + 1) lines) same))
 
-pub next_line : (a b : ClaimsView) (n : ℕ) (line rest : List ℕ) → NoFeeds line → more_claims a n (line ++ 10 ∷ []) ≡ Ok b → more_claims a n (line ++ 10 ∷ rest) ≡ more_claims b (n + 1) rest
+pub next_line : (a b : ClaimsView) (n : ℕ) (line rest : List ℕ) → NoFeeds line
+    → more_claims a n (line ++ 10 ∷ []) ≡ Ok b → more_claims a n (line ++ 10 ∷ rest) ≡ more_claims b (n + 1) rest
 next_line a b n line rest none h =
     ap (more_lines a n) (line_lines line rest none)
     ∙ first_and_rest a b n (strip_carriage_return line) (lines_of rest) (sym (ap (more_lines a n) (line_lines line [] none)) ∙ h)
 
-pub fault_of_line : (a : ClaimsView) (n : ℕ) (line rest : List ℕ) (f : BookFault) → NoFeeds line → more_claims a n (line ++ 10 ∷ []) ≡ Err f → more_claims a n (line ++ 10 ∷ rest) ≡ Err f
+pub fault_of_line : (a : ClaimsView) (n : ℕ) (line rest : List ℕ) (f : BookFault) → NoFeeds line
+    → more_claims a n (line ++ 10 ∷ []) ≡ Err f → more_claims a n (line ++ 10 ∷ rest) ≡ Err f
 fault_of_line a n line rest f none h = by (claims_from n (last_position None a.claims) (strip_carriage_return line ∷ [])) refl
   where
     alone : more_lines a n (strip_carriage_return line ∷ []) ≡ Err f
     alone = sym (ap (more_lines a n) (line_lines line [] none)) ∙ h
 
-    by : (r : Result (List PositionClaim) BookFault) → claims_from n (last_position None a.claims) (strip_carriage_return line ∷ []) ≡ r → more_claims a n (line ++ 10 ∷ rest) ≡ Err f
+    by : (r : Result (List PositionClaim) BookFault)
+        → claims_from n (last_position None a.claims) (strip_carriage_return line ∷ []) ≡ r → more_claims a n (line ++ 10 ∷ rest) ≡ Err f
     by (Ok cs) e = let no = sym (ap (λ r. advice a.scoring (claims_after a.claims r)) e) ∙ alone in cc
     by (Err k) e =
         ap (more_lines a n) (line_lines line rest none)
-        ∙ (ap (λ r. advice a.scoring (claims_after a.claims r)) (fault_before (strip_carriage_return line ∷ []) (lines_of rest) n (last_position None a.claims) k e)
+        ∙ (ap (λ r. advice a.scoring (claims_after a.claims r))
+            (fault_before (strip_carriage_return line ∷ []) (lines_of rest) n (last_position None a.claims) k e)
         ∙ (sym (ap (λ r. advice a.scoring (claims_after a.claims r)) e) ∙ alone))
 
 pub no_more : (a : ClaimsView) (n : ℕ) → more_claims a n [] ≡ Ok a
@@ -105,7 +115,8 @@ stripped sure more b =
     elim (get_or line (length line - 1) 0 == 13) as (λ t. (s : List ℕ) × (cond t (take (length line - 1) line) line ≡ sure ++ s))
     [ true ↦ (take (length more) (b ∷ more), ap (λ k. take k line) less ∙ take-append-add sure (b ∷ more) (length more)) | false ↦ (b ∷ more, refl) ]
 
-onto_front : (front rest y : List ℕ) (ps : List (List ℕ)) → All (λ b. is_feed b ≡ false) front → slice_split is_feed rest ≡ y ∷ ps → slice_split is_feed (front ++ rest) ≡ (front ++ y) ∷ ps
+onto_front : (front rest y : List ℕ) (ps : List (List ℕ)) → All (λ b. is_feed b ≡ false) front
+    → slice_split is_feed rest ≡ y ∷ ps → slice_split is_feed (front ++ rest) ≡ (front ++ y) ∷ ps
 onto_front [] rest y ps none e = e
 onto_front (b ∷ front) rest y ps none e =
     slice_split-cons_no is_feed b (front ++ rest) (none 0 0 (omega arith))
@@ -117,7 +128,8 @@ some_kept (b ∷ bs) [] some = ([], refl)
 some_kept (b ∷ bs) (p ∷ ps) some = (without_empty_last (p ∷ ps), refl)
 
 -- the first line of a text that begins with such a front
-front_line : (sure rest : List ℕ) (b : ℕ) → NoFeeds (sure ++ b ∷ []) → (s : List ℕ) × (more : List (List ℕ)) × (lines_of ((sure ++ b ∷ []) ++ rest) ≡ (sure ++ s) ∷ more)
+front_line : (sure rest : List ℕ) (b : ℕ) → NoFeeds (sure ++ b ∷ [])
+    → (s : List ℕ) × (more : List (List ℕ)) × (lines_of ((sure ++ b ∷ []) ++ rest) ≡ (sure ++ s) ∷ more)
 front_line sure rest b none =
     let front = sure ++ b ∷ [] in
     let part = has_first_part is_feed rest in
@@ -132,13 +144,15 @@ front_line sure rest b none =
           ∙ ap (λ l. l ∷ map strip_carriage_return kept.0) (ap strip_carriage_return (append_assoc sure (b ∷ []) y) ∙ line.1)),
     )
 
-pub fault_in_front : (a : ClaimsView) (n : ℕ) (sure rest : List ℕ) (b : ℕ) (f : LineFault) → NoFeeds (sure ++ b ∷ []) → ((more : List ℕ) → item_of (sure ++ more) ≡ Faulty f)
+pub fault_in_front : (a : ClaimsView) (n : ℕ) (sure rest : List ℕ) (b : ℕ) (f : LineFault) → NoFeeds (sure ++ b ∷ [])
+    → ((more : List ℕ) → item_of (sure ++ more) ≡ Faulty f)
     → more_claims a n ((sure ++ b ∷ []) ++ rest) ≡ Err (fault.Line n f)
 fault_in_front a n sure rest b f none stays =
     let line = front_line sure rest b none in
     let before = last_position None a.claims in
     ap (more_lines a n) line.2
-    ∙ ap (λ r. advice a.scoring (claims_after a.claims r)) (from_err n before (sure ++ line.0) line.1 (fault.Line n f) (ap (claim_in_line n before) (stays line.0)))
+    ∙ ap (λ r. advice a.scoring (claims_after a.claims r))
+        (from_err n before (sure ++ line.0) line.1 (fault.Line n f) (ap (claim_in_line n before) (stays line.0)))
 
 -- ---- a header by its front
 
@@ -149,7 +163,8 @@ long_name Sign name long e = let l = ap length e in omega (arith, l)
 
 unnamed : (name : List ℕ) → 6 < length name → scoring_named name ≡ None
 unnamed name long =
-    let off : (g : Scoring) → bytes_eq (scoring_name g) name ≡ false = λ g. false_from_ne_true _ (λ e. long_name g name long ((bytes_eq-Decides (scoring_name g) name).0 e)) in
+    let off : (g : Scoring) → bytes_eq (scoring_name g) name ≡ false =
+        λ g. false_from_ne_true _ (λ e. long_name g name long ((bytes_eq-Decides (scoring_name g) name).0 e)) in
     rw (off Winner, off Discs, off Sign) refl
 
 -- the scoring that a line names which is longer than a header, by its front: the test for a header

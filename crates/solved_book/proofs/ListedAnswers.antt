@@ -1,5 +1,6 @@
 -- The claim of the fields of a written answer is the answer.
-use Rattle.std.proofs.Common.{◌≡◌, ℕ, ℤ, suc, ◌^◌, ◌<◌, ◌&&◌, ◌||◌, Bool, true, false, cond, List, [], ◌∷◌, map, length, Contains, refl, ap, ap₂, sym, ◌∙◌, arith, inl, inr}
+use Rattle.std.proofs.Common.{◌≡◌, ℕ, ℤ, suc, ◌^◌, ◌<◌, ◌&&◌, ◌||◌, Bool, true, false, cond, List, [], ◌∷◌, map, length}
+use Rattle.std.proofs.Common.{Contains, refl, ap, ap₂, sym, ◌∙◌, arith, inl, inr}
 use Rattle.std.specs.Prelude.{◌==◌, nat_eq}
 use Rattle.std.specs.Int.{int_max}
 use Rattle.std.specs.List.{fold, list_any}
@@ -62,7 +63,8 @@ lists_same score q (s ∷ qs) =
 squares_back : (score : ℤ) (m : ℕ) → m < 2 ^ 64 → listed_squares score (map (at score) (squares_of m)) ≡ m
 unfolding listed_squares
 squares_back score m h =
-    sym (is_where m (λ q. list_any (field_lists_square score q) (map (at score) (squares_of m))) h (λ q l. sym (lists_same score q (squares_of m) ∙ square_in_mask m q l)))
+    sym (is_where m (λ q. list_any (field_lists_square score q) (map (at score) (squares_of m))) h
+        (λ q l. sym (lists_same score q (squares_of m) ∙ square_in_mask m q l)))
 
 -- ---- the score
 
@@ -89,7 +91,8 @@ pub record IsListed (score : ℤ) (best : Best) (fields : List Field) : Type 0 w
   pub some : nat_eq (length fields) 0 ≡ false
   pub claim : claim_of fields ≡ record { score = score; best = best }
 
-claim_from : (score : ℤ) (b : Best) (fields : List Field) → greatest_listed fields ≡ score → listed_best score fields ≡ b → claim_of fields ≡ record { score = score; best = b }
+claim_from : (score : ℤ) (b : Best) (fields : List Field) → greatest_listed fields ≡ score
+    → listed_best score fields ≡ b → claim_of fields ≡ record { score = score; best = b }
 claim_from score b fields s e =
     let best : listed_best (greatest_listed fields) fields ≡ b = ap (λ z. listed_best z fields) s ∙ e in
     λ k. let c : Claim = record { score = s k; best = best k } in c
@@ -97,7 +100,8 @@ claim_from score b fields s e =
 moves_by : (score : ℤ) (m : ℕ) → 0 < m → m < 2 ^ 64 → listed_best score (map (at score) (squares_of m)) ≡ best.Moves m
 moves_by score m some h =
     ap (λ squares. best_by squares (list_any (field_lists_pass score) (map (at score) (squares_of m)))) (squares_back score m h)
-    ∙ ap (λ b. cond b (cond (list_any (field_lists_pass score) (map (at score) (squares_of m))) best.Pass best.Over) (best.Moves m)) (ne_eqb m 0 (λ e. absurd (omega arith)))
+    ∙ ap (λ b. cond b (cond (list_any (field_lists_pass score) (map (at score) (squares_of m))) best.Pass best.Over) (best.Moves m))
+        (ne_eqb m 0 (λ e. absurd (omega arith)))
 
 moves_back : (score : ℤ) (m : ℕ) (qs : List ℕ) → squares_of m ≡ qs → 0 < m → m < 2 ^ 64 → IsListed score (best.Moves m) (map (at score) (squares_of m))
 unfolding greatest
@@ -106,7 +110,9 @@ moves_back score m [] e some h =
     absurd (omega arith)
 moves_back score m (q ∷ qs) e some h = record {
   some = ap (λ t. nat_eq (length (map (at score) t)) 0) e ∙ ne_eqb (suc (length (map (at score) qs))) 0 (λ z. absurd (omega arith));
-  claim = claim_from score (best.Moves m) (map (at score) (squares_of m)) (ap (λ t. greatest_listed (map (at score) t)) e ∙ scores_back score qs) (moves_by score m some h);
+  claim =
+      claim_from score (best.Moves m) (map (at score) (squares_of m))
+          (ap (λ t. greatest_listed (map (at score) t)) e ∙ scores_back score qs) (moves_by score m some h);
 }
 
 no_squares : (score : ℤ) (fields : List Field) → ((q : ℕ) → list_any (field_lists_square score q) fields ≡ false) → listed_squares score fields ≡ 0

@@ -23,7 +23,8 @@ pub lists_none : (score : ℤ) → IsMaskOfListed score [] 0
 lists_none score = record { fits = omega arith; each = λ q h. in_mask-zero q }
 
 pub lists_more : (score : ℤ) (fields : List Field) (i : ℕ) (field : Field) (mask new : ℕ) → i < length fields → field ≡ get_or fields i field → new < 2 ^ 64
-    → ((q : ℕ) → q < 64 → in_mask new q ≡ (field_lists_square score q field || in_mask mask q)) → IsMaskOfListed score (take i fields) mask → IsMaskOfListed score (take (i + 1) fields) new
+    → ((q : ℕ) → q < 64 → in_mask new q ≡ (field_lists_square score q field || in_mask mask q))
+    → IsMaskOfListed score (take i fields) mask → IsMaskOfListed score (take (i + 1) fields) new
 lists_more score fields i field mask new within is fits step held = record {
   fits = fits;
   each = λ q h.
@@ -34,7 +35,9 @@ lists_more score fields i field mask new within is fits step held = record {
       ∙ sym (list_any_more (field_lists_square score q) fields i field within);
 }
 
-pub lists_all : (score : ℤ) (fields : List Field) (i mask : ℕ) → length fields ≤ i → IsMaskOfListed score (take i fields) mask → mask ≡ listed_squares score fields
+pub lists_all : (score : ℤ) (fields : List Field) (i mask : ℕ) → length fields ≤ i
+    → IsMaskOfListed score (take i fields) mask → mask ≡ listed_squares score fields
 unfolding listed_squares
 lists_all score fields i mask past held =
-    is_where mask (λ q. list_any (field_lists_square score q) fields) held.fits (λ q h. held.each q h ∙ ap (list_any (field_lists_square score q)) (take_all i fields past))
+    is_where mask (λ q. list_any (field_lists_square score q) fields) held.fits
+        (λ q h. held.each q h ∙ ap (list_any (field_lists_square score q)) (take_all i fields past))

@@ -34,7 +34,8 @@ first_same p q ps qs a b c d =
 in_tail : (p q : PosView) (ps qs : List PosView) → AreAfter p ps → Contains ps q → Contains (p ∷ qs) q → Contains qs q
 in_tail p q ps qs a c d = elim (Contains-cons_cases p qs q d) [ inl e ↦ absurd (not_itself p q (less_than_each p ps a q c) e) | inr k ↦ k ]
 
-pub same_order : (ps qs : List PosView) → IsStrictlySortedBy by_masks ps → IsStrictlySortedBy by_masks qs → ((p : PosView) → Contains ps p ↔ Contains qs p) → ps ≡ qs
+pub same_order : (ps qs : List PosView) → IsStrictlySortedBy by_masks ps → IsStrictlySortedBy by_masks qs
+    → ((p : PosView) → Contains ps p ↔ Contains qs p) → ps ≡ qs
 unfolding IsStrictlySortedBy
 same_order [] [] a b h = refl
 same_order [] (q ∷ qs) a b h = absurd (Contains-nil q ((h q).1 (Contains-head q qs)))

@@ -8,7 +8,8 @@ use Rattle.std.proofs.lemmas.List.Splits.{slice_split-cons_no, slice_split-cons_
 use Rattle.othello_rules.specs.declared.scoring.Scoring.{Scoring}
 use Rattle.obf_text.specs.LineText.{lines_of, without_empty_last}
 use Rattle.obf_text.proofs.LineLemmas.{has_first_part, keeps_first}
-use Rattle.solved_book.specs.Claims.{ClaimsView, PositionClaim, advice, advice_under, claims_after, claims_from, claims_of, last_position, more_claims, scoring_of_lines}
+use Rattle.solved_book.specs.Claims.{ClaimsView, PositionClaim, advice, advice_under, claims_after, claims_from}
+use Rattle.solved_book.specs.Claims.{claims_of, last_position, more_claims, scoring_of_lines}
 use Rattle.solved_book.specs.declared.book_fault.BookFault.{BookFault}
 use Rattle.solved_book.proofs.BookTexts.{scoring_under}
 use Rattle.solved_book.proofs.LineLaws.{fault_before, lines_after, under_ok}
@@ -20,7 +21,8 @@ is_feed b = b == 10
 abbrev pub ended_lines : List ℕ → List (List ℕ)
 ended_lines front = map strip_carriage_return (slice_split is_feed front)
 
-onto_split : (b : ℕ) (xs ys : List ℕ) → onto_first b (slice_split is_feed xs ++ slice_split is_feed ys) ≡ onto_first b (slice_split is_feed xs) ++ slice_split is_feed ys
+onto_split : (b : ℕ) (xs ys : List ℕ)
+    → onto_first b (slice_split is_feed xs ++ slice_split is_feed ys) ≡ onto_first b (slice_split is_feed xs) ++ slice_split is_feed ys
 onto_split b xs ys = let part = has_first_part is_feed xs in rw part.2 refl
 
 split_parts : (front rest : List ℕ) → slice_split is_feed (front ++ 10 ∷ rest) ≡ slice_split is_feed front ++ slice_split is_feed rest
@@ -44,7 +46,8 @@ last_kept (p ∷ r ∷ ps) q qs = keeps_first p (r ∷ (ps ++ q ∷ qs)) r (ps +
 pub lines_parts : (front rest : List ℕ) → lines_of (front ++ 10 ∷ rest) ≡ ended_lines front ++ lines_of rest
 lines_parts front rest =
     let part = has_first_part is_feed rest in
-    let kept : without_empty_last (slice_split is_feed front ++ slice_split is_feed rest) ≡ slice_split is_feed front ++ without_empty_last (slice_split is_feed rest) =
+    let kept : without_empty_last (slice_split is_feed front ++ slice_split is_feed rest)
+        ≡ slice_split is_feed front ++ without_empty_last (slice_split is_feed rest) =
     rw part.2 (last_kept (slice_split is_feed front) part.0 part.1) in
     ap (λ parts. map strip_carriage_return (without_empty_last parts)) (split_parts front rest)
     ∙ (ap (map strip_carriage_return) kept ∙ map-append strip_carriage_return (slice_split is_feed front) (without_empty_last (slice_split is_feed rest)))
@@ -73,13 +76,16 @@ fault_under (Some g) front rest f h = by (claims_from 1 None front) refl
 
 pub fault_of_part : (front rest : List ℕ) (f : BookFault) → claims_of (front ++ 10 ∷ []) ≡ Err f → claims_of (front ++ 10 ∷ rest) ≡ Err f
 fault_of_part front rest f h =
-    both_parts front rest ∙ fault_under (scoring_of_lines (ended_lines front)) (ended_lines front) (lines_of rest) f (sym (ap advice_of (front_lines front)) ∙ h)
+    both_parts front rest ∙ fault_under (scoring_of_lines (ended_lines front)) (ended_lines front) (lines_of rest) f
+        (sym (ap advice_of (front_lines front)) ∙ h)
 
-pub claims_of_parts : (front rest : List ℕ) (a : ClaimsView) → claims_of (front ++ 10 ∷ []) ≡ Ok a → claims_of (front ++ 10 ∷ rest) ≡ more_claims a (1 + length (lines_of (front ++ 10 ∷ []))) rest
+pub claims_of_parts : (front rest : List ℕ) (a : ClaimsView) → claims_of (front ++ 10 ∷ []) ≡ Ok a
+    → claims_of (front ++ 10 ∷ rest) ≡ more_claims a (1 + length (lines_of (front ++ 10 ∷ []))) rest
 claims_of_parts front rest a h =
     let lines = ended_lines front in
     let first : advice_of lines ≡ Ok a = sym (ap advice_of (front_lines front)) ∙ h in
     both_parts front rest
     ∙ (ap (λ o. advice_under o (lines ++ lines_of rest)) (scoring_under (scoring_of_lines lines) lines a first)
     ∙ (ap (advice a.scoring) (lines_after lines (lines_of rest) 1 None a.claims (under_ok (scoring_of_lines lines) lines a first))
-    ∙ ap (λ ls. advice a.scoring (claims_after a.claims (claims_from (1 + length ls) (last_position None a.claims) (lines_of rest)))) (sym (front_lines front))))
+    ∙ ap (λ ls. advice a.scoring (claims_after a.claims (claims_from (1 + length ls) (last_position None a.claims) (lines_of rest))))
+        (sym (front_lines front))))

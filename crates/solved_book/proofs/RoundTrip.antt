@@ -1,5 +1,6 @@
 -- The text of a book is read again.
-use Rattle.std.proofs.Common.{◌≡◌, ℕ, ◌+◌, ◌^◌, ◌<◌, ◌&&◌, Bool, true, false, cond, List, [], ◌∷◌, ◌++◌, map, Contains, refl, ap, ap₂, sym, ◌∙◌, subst, inl, inr, Option, Some, None}
+use Rattle.std.proofs.Common.{◌≡◌, ℕ, ◌+◌, ◌^◌, ◌<◌, ◌&&◌, Bool, true, false, cond, List, [], ◌∷◌, ◌++◌, map, Contains}
+use Rattle.std.proofs.Common.{refl, ap, ap₂, sym, ◌∙◌, subst, inl, inr, Option, Some, None}
 use Rattle.std.specs.Prelude.{◌==◌, nat_eq, option_map, Ok}
 use Rattle.std.specs.List.{AllByRecursion, flat_map, slice_split}
 use Rattle.std.specs.List.Sorted.{IsStrictlySortedBy}
@@ -32,7 +33,9 @@ use Rattle.obf_text.proofs.LineLemmas.{has_first_part, keeps_first}
 use Rattle.obf_text.proofs.OnlyMeaning.{says_only}
 use Rattle.obf_text.proofs.WrittenLines.{written_line, written_says}
 use Rattle.endgame_search.specs.declared.solved.Claim.{Claim}
-use Rattle.solved_book.specs.Claims.{ClaimsView, advice, advice_under, answer_claim, claim_or_fault, claim_at, claim_by, claims_from, claims_of, claim_for, image_claim, is_canonical_entry, claim_in_line, claims_after, same_discs, scoring_in, scoring_of_lines}
+use Rattle.solved_book.specs.Claims.{ClaimsView, advice, advice_under, answer_claim, claim_or_fault, claim_at, claim_by}
+use Rattle.solved_book.specs.Claims.{claims_from, claims_of, claim_for, image_claim, is_canonical_entry, claim_in_line}
+use Rattle.solved_book.specs.Claims.{claims_after, same_discs, scoring_in, scoring_of_lines}
 use Rattle.solved_book.specs.Order.{is_behind, position_at, IsCanonical, AreBookPositions, by_masks}
 use Rattle.solved_book.specs.Books.{book_text, book_line, header}
 use Rattle.solved_book.proofs.CanonicalAnswers.{answer_best, answer_score, canonical_apart}
@@ -68,7 +71,9 @@ narrow_by false b f = where_lt f
 
 answer_narrow : (g : Scoring) (p : PosView) → IsNarrow (answer_of g p).best
 unfolding best_answer
-answer_narrow g p = subst IsNarrow (ap (λ (r : AnswerView). r.best) (sym (answer-is g p))) (narrow_by (nat_eq (moves_of p) 0) (nat_eq (moves_of (pass_of p)) 0) (is_best_move g p))
+answer_narrow g p =
+    subst IsNarrow (ap (λ (r : AnswerView). r.best) (sym (answer-is g p)))
+        (narrow_by (nat_eq (moves_of p) 0) (nat_eq (moves_of (pass_of p)) 0) (is_best_move g p))
 
 -- ---- a line
 
@@ -100,7 +105,8 @@ entry_line : (g : Scoring) (p : PosView) (rest : List ℕ) → lines_of (book_li
 unfolding book_line
 entry_line g p rest = written_line (position_of Black p) (answer_of g p) rest (answer_score g p)
 
-lines_back : (g : Scoring) (n : ℕ) (before : Option PosView) (ps : List PosView) → IsStrictlySortedBy by_masks ps → AllByRecursion IsCanonical ps → IsFirstAfter before ps
+lines_back : (g : Scoring) (n : ℕ) (before : Option PosView) (ps : List PosView) → IsStrictlySortedBy by_masks ps
+    → AllByRecursion IsCanonical ps → IsFirstAfter before ps
     → claims_from n before (lines_of (flat_map (book_line g) ps)) ≡ Ok (map (answer_claim g) ps)
 unfolding IsStrictlySortedBy
 lines_back g n before [] sorted own next = from_end n before
@@ -112,7 +118,8 @@ lines_back g n before (p ∷ ps) sorted own next =
 
 -- ---- the header
 
-header_cut : (line : List ℕ) (rest : List ℕ) → slice_split (λ b. b == 10) (line ++ 10 ∷ rest) ≡ line ∷ slice_split (λ b. b == 10) rest → strip_carriage_return line ≡ line
+header_cut : (line : List ℕ) (rest : List ℕ) → slice_split (λ b. b == 10) (line ++ 10 ∷ rest) ≡ line ∷ slice_split (λ b. b == 10) rest
+    → strip_carriage_return line ≡ line
     → lines_of (line ++ 10 ∷ rest) ≡ line ∷ lines_of rest
 header_cut line rest cut same =
     let part = has_first_part (λ b. b == 10) rest in
@@ -138,14 +145,16 @@ header_scoring scoring.Winner = refl
 header_scoring scoring.Discs = refl
 header_scoring scoring.Sign = refl
 
-pub claims_back : (g : Scoring) (ps : List PosView) → AreBookPositions ps → claims_of (book_text g ps) ≡ Ok (record { scoring = g; claims = map (answer_claim g) ps })
+pub claims_back : (g : Scoring) (ps : List PosView) → AreBookPositions ps
+    → claims_of (book_text g ps) ≡ Ok (record { scoring = g; claims = map (answer_claim g) ps })
 unfolding book_text
 claims_back g ps h =
     let rest = flat_map (book_line g) ps in
     let skipped : claim_in_line 1 None (item_of (header g)) ≡ Ok None = ap (claim_in_line 1 None) (header_skipped g) in
     ap (λ lines. advice_under (scoring_of_lines lines) lines) (header_line g rest)
     ∙ ap (λ o. advice_under o (header g ∷ lines_of rest)) (header_scoring g)
-    ∙ ap (advice g) (from_none 1 None (header g) (lines_of rest) skipped ∙ lines_back g 2 None ps h.rising (recursion_from_All IsCanonical ps h.canonical) (first ps))
+    ∙ ap (advice g)
+        (from_none 1 None (header g) (lines_of rest) skipped ∙ lines_back g 2 None ps h.rising (recursion_from_All IsCanonical ps h.canonical) (first ps))
   where
     first : (ps : List PosView) → IsFirstAfter None ps
     first [] = tt
@@ -176,15 +185,18 @@ claim_missing : (g : Scoring) (c : PosView) (ps : List PosView) → (Contains ps
 claim_missing g c [] h = refl
 claim_missing g c (p ∷ ps) h = by (by_masks c p) refl (claim_missing g c ps (λ k. h (Contains-cons p ps c k)))
   where
-    by : (o : Ordering) → by_masks c p ≡ o → claim_at c (map (answer_claim g) ps) ≡ None → cond (is_eq o) (Some (claim_by (answer_of g p))) (claim_at c (map (answer_claim g) ps)) ≡ None
+    by : (o : Ordering) → by_masks c p ≡ o → claim_at c (map (answer_claim g) ps) ≡ None
+        → cond (is_eq o) (Some (claim_by (answer_of g p))) (claim_at c (map (answer_claim g) ps)) ≡ None
     by Equal e rest = absurd (h (subst (λ q. Contains (p ∷ ps) q) (sym (is_exact c p e)) (Contains-head p ps)))
     by Less e rest = rest
     by Greater e rest = rest
 
-read_is : (g : Scoring) (ps : List PosView) (a : ClaimsView) → AreBookPositions ps → claims_of (book_text g ps) ≡ Ok a → record { scoring = g; claims = map (answer_claim g) ps } ≡ a
+read_is : (g : Scoring) (ps : List PosView) (a : ClaimsView) → AreBookPositions ps → claims_of (book_text g ps) ≡ Ok a
+    → record { scoring = g; claims = map (answer_claim g) ps } ≡ a
 read_is g ps a h e = let same = sym (claims_back g ps h) ∙ e in cc
 
-pub found_back : (g : Scoring) (ps : List PosView) (a : ClaimsView) (p : PosView) → AreBookPositions ps → claims_of (book_text g ps) ≡ Ok a → Contains ps (canonical_of p) → claim_for a p ≡ Some (claim_by (answer_of g p))
+pub found_back : (g : Scoring) (ps : List PosView) (a : ClaimsView) (p : PosView) → AreBookPositions ps
+    → claims_of (book_text g ps) ≡ Ok a → Contains ps (canonical_of p) → claim_for a p ≡ Some (claim_by (answer_of g p))
 found_back g ps a p h e held =
     let s = inverse (first_symmetry (position_of Black p)) in
     let c = canonical_of p in
@@ -193,11 +205,13 @@ found_back g ps a p h e held =
     (λ k. let x : Claim = record { score = score k; best = best_image s (answer_of g c).best } in x) ∙ ap claim_by (sym (answer_of-back g p)) in
     ap (λ (b : ClaimsView). claim_for b p) (sym (read_is g ps a h e)) ∙ ap (option_map (image_claim s)) (claim_held g c ps held) ∙ ap (λ x. Some x) there
 
-pub found_on_images : (g : Scoring) (ps : List PosView) (a : ClaimsView) (p : PosView) (s : Sym) → AreBookPositions ps → claims_of (book_text g ps) ≡ Ok a → Contains ps (canonical_of p)
+pub found_on_images : (g : Scoring) (ps : List PosView) (a : ClaimsView) (p : PosView) (s : Sym) → AreBookPositions ps
+    → claims_of (book_text g ps) ≡ Ok a → Contains ps (canonical_of p)
     → claim_for a (image_of s p) ≡ Some (claim_by (answer_of g (image_of s p)))
 found_on_images g ps a p s h e held = found_back g ps a (image_of s p) h e (subst (λ c. Contains ps c) (sym (canonical_of-image_of s p)) held)
 
-pub missing_back : (g : Scoring) (ps : List PosView) (a : ClaimsView) (p : PosView) → AreBookPositions ps → claims_of (book_text g ps) ≡ Ok a → (Contains ps (canonical_of p) → ⊥) → claim_for a p ≡ None
+pub missing_back : (g : Scoring) (ps : List PosView) (a : ClaimsView) (p : PosView) → AreBookPositions ps
+    → claims_of (book_text g ps) ≡ Ok a → (Contains ps (canonical_of p) → ⊥) → claim_for a p ≡ None
 missing_back g ps a p h e none =
     ap (λ (b : ClaimsView). claim_for b p) (sym (read_is g ps a h e))
     ∙ ap (option_map (image_claim (inverse (first_symmetry (position_of Black p))))) (claim_missing g (canonical_of p) ps none)

@@ -32,7 +32,8 @@ unfolding rows_from
 rows_no g by n line lines e = rw e refl
 
 -- a line with a result adds its row
-pub rows_more : (g : Scoring) (by : Criteria) (n next : ℕ) (line : List ℕ) (left lines : List (List ℕ)) (r : ParsedLine) (made : List NumberedLine) (all : List ReportRow)
+pub rows_more : (g : Scoring) (by : Criteria) (n next : ℕ) (line : List ℕ) (left lines : List (List ℕ)) (r : ParsedLine)
+    (made : List NumberedLine) (all : List ReportRow)
     → next ≡ n + 1 → left ≡ line ∷ lines → line_result g by (item_of line) ≡ Some (parsed_result r) → map row_in made ++ rows_from g by n left ≡ all
     → map row_in (made ++ (record { number = n; parsed = r }) ∷ []) ++ rows_from g by next lines ≡ all
 rows_more g by n next line left lines r made all counted cut e h =

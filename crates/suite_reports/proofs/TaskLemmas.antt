@@ -1,5 +1,6 @@
 -- The tasks of a text, built from one line after the other.
-use Rattle.std.proofs.Common.{◌≡◌, ℕ, zero, suc, ◌+◌, ◌<◌, Bool, true, false, cond, List, [], ◌∷◌, ◌++◌, length, get_or, take, drop, All, refl, sym, ap, ap₂, ◌∙◌, subst, arith}
+use Rattle.std.proofs.Common.{◌≡◌, ℕ, zero, suc, ◌+◌, ◌<◌, Bool, true, false, cond, List, [], ◌∷◌, ◌++◌, length, get_or}
+use Rattle.std.proofs.Common.{take, drop, All, refl, sym, ap, ap₂, ◌∙◌, subst, arith}
 use Rattle.std.specs.Prelude.{Option, Some, None, slice_get, nat_lt}
 use Rattle.std.specs.List.{cons_option}
 use Rattle.std.proofs.lemmas.List.{append_assoc, append-nil, drop_more, take_more}
@@ -28,7 +29,8 @@ joined xs ys (Some x) = append_assoc xs (x ∷ []) ys
 
 -- ---- lines are read
 
-module _ (g : Scoring) (limit : ℕ) (line : List ℕ) (left lines : List (List ℕ)) (cut : left ≡ line ∷ lines) (made : List NumberedLine) (all : List TaskView) (h : tasks_in made ++ tasks_from g limit left ≡ all) where
+module _ (g : Scoring) (limit : ℕ) (line : List ℕ) (left lines : List (List ℕ)) (cut : left ≡ line ∷ lines)
+    (made : List NumberedLine) (all : List TaskView) (h : tasks_in made ++ tasks_from g limit left ≡ all) where
   step : tasks_in made ++ cons_option (task_of g limit (item_of line)) (tasks_from g limit lines) ≡ all
   step = sym (ap (λ l. tasks_in made ++ l) (ap (tasks_from g limit) cut ∙ tasks_step g limit line lines)) ∙ h
 
@@ -73,7 +75,8 @@ module _ (lines : List NumberedLine) (i : ℕ) (d : NumberedLine) (lt : i < leng
   pub next_answer : (answers : List TaskView) (t : TaskView) → answers ≡ tasks_in (drop i lines) → here ≡ Some t → slice_get answers 0 ≡ Some t
   next_answer answers t h e = ap (λ l. slice_get l 0) (h ∙ cut_tasks ∙ ap (λ o. cons_option o (tasks_in (drop (i + 1) lines))) e)
 
-  pub answers_left : (answers later : List TaskView) → answers ≡ tasks_in (drop i lines) → answers ≡ cons_option here later → later ≡ tasks_in (drop (i + 1) lines)
+  pub answers_left : (answers later : List TaskView) → answers ≡ tasks_in (drop i lines)
+      → answers ≡ cons_option here later → later ≡ tasks_in (drop (i + 1) lines)
   answers_left answers later h e = same_after here later (tasks_in (drop (i + 1) lines)) (sym e ∙ h ∙ cut_tasks)
 
 front_holds : {X : Type 0} (P : X → Type 0) (x : X) (xs : List X) → All P (x ∷ xs) → P x
@@ -103,7 +106,8 @@ task_scored g limit Skipped t e = cc
 task_scored g limit (Faulty fault) t e = cc
 task_scored g limit (Holds entry) t e = ap (λ (r : TaskView). r.scoring) (sym (chosen (nat_lt limit (empties entry.position)) _ t e))
 
-line_scored : (g : Scoring) (o : Option TaskView) (ts : List TaskView) → ((t : TaskView) → o ≡ Some t → HasScoring g t) → All (HasScoring g) ts → All (HasScoring g) (cons_option o ts)
+line_scored : (g : Scoring) (o : Option TaskView) (ts : List TaskView) → ((t : TaskView) → o ≡ Some t → HasScoring g t)
+    → All (HasScoring g) ts → All (HasScoring g) (cons_option o ts)
 line_scored g None ts h all = all
 line_scored g (Some t) ts h all = All-cons (HasScoring g) t ts (h t refl) all
 

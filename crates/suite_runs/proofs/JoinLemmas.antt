@@ -33,17 +33,21 @@ pub join_step : (done : List PartPromise) (a : PartPromise) (old new : List Part
 join_step done a old new before after (Ok part) ok err gives h = rw (ok.0, ok.1) (part_joined done a old part before gives h)
 join_step done a old new before after (Err fault) ok err gives h = rw err (worse_kept before fault gives)
 
-joined_parts : (clients : List PartPromise) (parts : List Part) (fault : Option RunFault) → AreJoined clients parts fault → fault ≡ None → map part_view_of parts ≡ map promised_part clients
+joined_parts : (clients : List PartPromise) (parts : List Part) (fault : Option RunFault)
+    → AreJoined clients parts fault → fault ≡ None → map part_view_of parts ≡ map promised_part clients
 joined_parts clients parts None h e = h
 joined_parts clients parts (Some fault) h e = cc
 
-joined_fault : (clients : List PartPromise) (parts : List Part) (fault : Option RunFault) (f : RunFault) → AreJoined clients parts fault → fault ≡ Some f → IsPartFault f
+joined_fault : (clients : List PartPromise) (parts : List Part) (fault : Option RunFault) (f : RunFault)
+    → AreJoined clients parts fault → fault ≡ Some f → IsPartFault f
 joined_fault clients parts None f h e = cc
 joined_fault clients parts (Some fault) f h e = let same : fault ≡ f = cc in rw (← same) h
 
 -- the parts that were joined are those of the texts
-pub parts_given : (g : Scoring) (by : Criteria) (texts : List (List ℕ)) (clients : List PartPromise) (parts : Vec Part Global) (fault : Option RunFault) (r : Result (Vec Part Global) RunFault)
-    → map promised_part clients ≡ map (part_view g by) texts → AreJoined clients parts.items fault → IfOk r (λ v. (v ≡ parts) × (fault ≡ None)) → IfErr r (λ f. fault ≡ Some f) → GivesParts g by texts r
+pub parts_given : (g : Scoring) (by : Criteria) (texts : List (List ℕ)) (clients : List PartPromise)
+    (parts : Vec Part Global) (fault : Option RunFault) (r : Result (Vec Part Global) RunFault)
+    → map promised_part clients ≡ map (part_view g by) texts → AreJoined clients parts.items fault
+    → IfOk r (λ v. (v ≡ parts) × (fault ≡ None)) → IfErr r (λ f. fault ≡ Some f) → GivesParts g by texts r
 parts_given g by texts clients parts fault (Ok v) e h ok err =
     ap (λ (w : Vec Part Global). map part_view_of w.items) ok.0 ∙ joined_parts clients parts.items fault h ok.1 ∙ e
 parts_given g by texts clients parts fault (Err f) e h ok err = joined_fault clients parts.items fault f h err

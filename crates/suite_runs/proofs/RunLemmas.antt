@@ -51,7 +51,8 @@ none_first : (o : Option ℕ) → option_map input.FileTooLarge o ≡ None → o
 none_first None e = refl
 none_first (Some t) e = cc
 
-pub many_iff : {X : Type 0} (P : X → Type 0) (r : Result X RunFault) (texts : List (List ℕ)) → Answers P texts r → IsErrOf r TooManyFiles ↔ MOST_FILES < length texts
+pub many_iff : {X : Type 0} (P : X → Type 0) (r : Result X RunFault) (texts : List (List ℕ)) → Answers P texts r
+    → IsErrOf r TooManyFiles ↔ MOST_FILES < length texts
 many_iff P r texts a =
     let same = answers_refused P r texts a in (
       (λ e. elim (refusal_cases texts) [

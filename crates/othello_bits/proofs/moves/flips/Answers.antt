@@ -10,7 +10,8 @@ use Rattle.othello_bits.proofs.RayMasks.{four}
 use Rattle.othello_bits.proofs.Bits.{in_mask-or, in_mask-zero, hit, miss}
 use Rattle.othello_bits.proofs.moves.flips.Goals as goal
 
-regroup : (ne n nw e se s sw w : Bool) → ((nw || (n || ne)) || (e || ((sw || (s || se)) || w))) ≡ (n || (ne || (e || (se || (s || (sw || (w || (nw || false))))))))
+regroup : (ne n nw e se s sw w : Bool)
+    → ((nw || (n || ne)) || (e || ((sw || (s || se)) || w))) ≡ (n || (ne || (e || (se || (s || (sw || (w || (nw || false))))))))
 regroup ne true true e se s sw w = refl
 regroup true false true e se s sw w = refl
 regroup false false true true se s sw w = refl
@@ -34,7 +35,8 @@ regroup false false false false false false false false = refl
 pub returns-then-own-opp-ne0 : goal.returns-then-own-opp-ne0
 returns-then-own-opp-ne0 c = λ i.
     let q = c.args.square in
-    let taken : (in_mask c.args.own q || in_mask c.args.opp q) ≡ true = sym (in_mask-or c.args.own c.args.opp q) ∙ hit (bit_or c.args.own c.args.opp) q c.requires.on_board c.if-own-opp-ne0.true in
+    let taken : (in_mask c.args.own q || in_mask c.args.opp q) ≡ true =
+        sym (in_mask-or c.args.own c.args.opp q) ∙ hit (bit_or c.args.own c.args.opp) q c.requires.on_board c.if-own-opp-ne0.true in
     in_mask-zero i ∙ rw taken
 
 pub returns : goal.returns

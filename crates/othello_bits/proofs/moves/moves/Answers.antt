@@ -14,7 +14,8 @@ returns c = λ q l.
     ∙ rw (
       in_mask-not (bit_or own opp) q (or_lt 64 own opp c.ranges.own.fits c.ranges.opp.fits) l,
       in_mask-or own opp q,
-      all_eight c.reached.result c.reached-2.result c.reached-3.result c.reached-4.result c.reached-5.result c.reached-6.result c.reached-7.result c.reached-8.result q,
+      all_eight c.reached.result c.reached-2.result c.reached-3.result c.reached-4.result c.reached-5.result
+          c.reached-6.result c.reached-7.result c.reached-8.result q,
       c.reached.ensures q l,
       c.reached-2.ensures q l,
       c.reached-3.ensures q l,

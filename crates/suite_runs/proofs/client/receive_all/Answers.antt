@@ -6,7 +6,8 @@ use Rattle.endgame_search.specs.Task.{TaskView}
 use Rattle.job_board.specs.Client.{ClientView}
 use Rattle.suite_runs.proofs.client.receive_all.Goals as goal
 
-one_more : (sent : List TaskView) (k : ℕ) (solved : List TaskView) (t : TaskView) → solved ≡ take k sent → slice_get sent k ≡ Some t → solved ++ t ∷ [] ≡ take (k + 1) sent
+one_more : (sent : List TaskView) (k : ℕ) (solved : List TaskView) (t : TaskView) → solved ≡ take k sent
+    → slice_get sent k ≡ Some t → solved ++ t ∷ [] ≡ take (k + 1) sent
 one_more sent k solved t e h =
     ap (λ l. l ++ t ∷ []) e ∙ sym (take_more sent k t (slice_get_within sent k t h) ∙ ap (λ x. take k sent ++ x ∷ []) (get_or_from_slice_get sent k t t h))
 

@@ -15,7 +15,8 @@ having_sent client all = record client { sent = all }
 abbrev sending : ClientView → List TaskView → ClientView
 sending client tasks = record client { sent = client.sent ++ tasks }
 
-sent_more : (now new old : ClientView) (done : List TaskView) (t : TaskView) → now ≡ sending old done → new ≡ with_sent t now → new ≡ sending old (done ++ t ∷ [])
+sent_more : (now new old : ClientView) (done : List TaskView) (t : TaskView) → now ≡ sending old done
+    → new ≡ with_sent t now → new ≡ sending old (done ++ t ∷ [])
 sent_more now new old done t before e =
     e ∙ ap (with_sent t) before ∙ ap (having_sent old) (append_assoc old.sent done (t ∷ []))
 

@@ -10,5 +10,6 @@ invariant-loop-file g l = record {
   sender : l.sender ≡ l.file-index;
   room : length l.files ≤ vec_capacity l.clients;
   count : vec_len l.clients ≡ l.file-index;
-  started : map promised_part l.clients.items ≡ map (part_view l.crew.shared.now.table.scoring (criteria_of l.crew.shared.now.settings)) (texts_of (take l.file-index l.files));
+  started : map promised_part l.clients.items
+      ≡ map (part_view l.crew.shared.now.table.scoring (criteria_of l.crew.shared.now.settings)) (texts_of (take l.file-index l.files));
 }

@@ -8,12 +8,14 @@ use Rattle.othello_rules.proofs.BoundLaws.{can_move_with, can_move_none}
 use Rattle.othello_rules.proofs.grid.Grid.can_move.Goals as goal
 
 pub returns-then-is_legal : goal.returns-then-is_legal
-returns-then-is_legal c = sym (can_move_with c.args.self.now (get_or c.all.result c.loop-square.square-index c.square-item.result) (c.is_legal.ensures.value.0 c.if-is_legal.true))
+returns-then-is_legal c =
+    sym (can_move_with c.args.self.now (get_or c.all.result c.loop-square.square-index c.square-item.result) (c.is_legal.ensures.value.0 c.if-is_legal.true))
 
 pub loop-square-preserved : goal.loop-square-preserved
 loop-square-preserved c =
     let item : ℕ = get_or c.all.result c.loop-square.square-index c.square-item.result in
-    let at : item ≡ c.loop-square.square-index = item_of_squares c.all.result c.loop-square.square-index c.square-item.result c.all.ensures c.loop-square-test.true in
+    let at : item ≡ c.loop-square.square-index =
+        item_of_squares c.all.result c.loop-square.square-index c.square-item.result c.all.ensures c.loop-square-test.true in
     below_more _ _ c.loop-square.invariant
     (false_from_ne_true (is_move c.args.self.now c.loop-square.square-index) (λ t.
     let m : Contains (moves c.args.self.now) item = rw at (Contains-moves c.args.self.now c.loop-square.square-index c.loop-square-test.true t) in

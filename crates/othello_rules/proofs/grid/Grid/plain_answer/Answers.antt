@@ -9,11 +9,16 @@ use Rattle.othello_rules.proofs.grid.Grid.plain_answer.Goals.{Joined-can_move, t
 best_is : (c : Joined-can_move) → c.if-can_move.best ≡ best c.args.scoring c.args.self.now
 best_is c =
     elim c.if-can_move.branch [
-      | then-can_move w ↦ w.best-is ∙ ap Moves w.best_mask-mask.ensures ∙ sym (best_is_moves c.args.scoring c.args.self.now (sym c.can_move.ensures ∙ w.if-can_move.true))
+      | then-can_move w ↦
+          w.best-is ∙ ap Moves w.best_mask-mask.ensures ∙ sym (best_is_moves c.args.scoring c.args.self.now (sym c.can_move.ensures ∙ w.if-can_move.true))
       | else-can_move+then-can_move-2 w ↦
-          w.best-is ∙ sym (best_is_pass c.args.scoring c.args.self.now (sym c.can_move.ensures ∙ w.if-can_move.false) (ap can_move (sym w.pass.ensures) ∙ sym w.can_move-else-can_move.ensures ∙ w.if-can_move-2.true))
+          w.best-is
+              ∙ sym (best_is_pass c.args.scoring c.args.self.now (sym c.can_move.ensures ∙ w.if-can_move.false)
+              (ap can_move (sym w.pass.ensures) ∙ sym w.can_move-else-can_move.ensures ∙ w.if-can_move-2.true))
       | else-can_move+else-can_move-2 w ↦
-          w.best-is ∙ sym (best_is_over c.args.scoring c.args.self.now (sym c.can_move.ensures ∙ w.if-can_move.false) (ap can_move (sym w.pass.ensures) ∙ sym w.can_move-else-can_move.ensures ∙ w.if-can_move-2.false))
+          w.best-is
+              ∙ sym (best_is_over c.args.scoring c.args.self.now (sym c.can_move.ensures ∙ w.if-can_move.false)
+              (ap can_move (sym w.pass.ensures) ∙ sym w.can_move-else-can_move.ensures ∙ w.if-can_move-2.false))
     ]
 
 pub invariant_of-result : goal.invariant_of-result

@@ -7,7 +7,8 @@ use Rattle.solved_book.specs.Order.{position_at}
 use Rattle.solved_book.specs.Claims.{ClaimsView, advice, claim_in_line, claims_after, claims_from, last_position}
 use Rattle.solved_book.specs.Reading.{position_claim}
 use Rattle.solved_book.specs.declared.book_fault.BookFault.TheVariants.{Memory}
-use Rattle.solved_book.proofs.ClaimSteps.{claims_more, gives_fault, last_more, line_behind, reads_end, reads_err, reads_none, reads_some, reads_start, room_more}
+use Rattle.solved_book.proofs.ClaimSteps.{claims_more, gives_fault, last_more, line_behind, reads_end, reads_err}
+use Rattle.solved_book.proofs.ClaimSteps.{reads_none, reads_some, reads_start, room_more}
 use Rattle.solved_book.proofs.KeptEntries.{rising_insert}
 use Rattle.solved_book.proofs.claims.Claims.read_more.Goals as goal
 use Rattle.solved_book.proofs.claims.Claims.read_more.Goals.{in-Some-2+in_ok-insert, in_default}
@@ -18,7 +19,9 @@ loop-line-init c =
     let room = c.split_lines-line-items.ensures.room in
     let kept = c.self.inside.claims.entries in
     record {
-      reads = rw same (reads_start c.args.number c.last_masks-before.result kept c.args.self.claims (lines_of c.args.text.now) (ap (λ (a : ClaimsView). a.claims) c.self.view_is) c.last_masks-before.ensures);
+      reads =
+          rw same (reads_start c.args.number c.last_masks-before.result kept c.args.self.claims
+              (lines_of c.args.text.now) (ap (λ (a : ClaimsView). a.claims) c.self.view_is) c.last_masks-before.ensures);
       last = c.last_masks-before.ensures;
       rising = c.self.invariant;
       room = rw same (omega arith);
@@ -69,7 +72,9 @@ returns-in_err-masks c =
     let last = last_position None a.claims in
     let lines = lines_of c.args.text.now in
     let cut : c.loop-line.line-iterator ≡ c.in-Some.line.now ∷ c.next.new.self = search rules in
-    let fault = reads_err c.loop-line.number c.loop-line.before c.loop-line.claims.entries c.in-Some.line.now c.loop-line.line-iterator c.next.new.self c.in_err-masks.field-0.0
+    let fault =
+        reads_err c.loop-line.number c.loop-line.before c.loop-line.claims.entries c.in-Some.line.now
+            c.loop-line.line-iterator c.next.new.self c.in_err-masks.field-0.0
     (claims_after a.claims (claims_from c.args.number last lines)) cut c.in_err-masks.ensures c.loop-line.invariant.reads in
     rw (p.1, p.2) (gives_fault a.scoring c.in_err-masks.field-0.0 a.claims c.args.number last lines fault)
 

@@ -8,5 +8,6 @@ use Rattle.suite_runs.proofs.solved_files.SolvedFiles.reports.Given as goal
 abbrev pub invariant-loop-part : goal.invariant-loop-part
 invariant-loop-part l = record {
   file : l.file ≡ l.part-index;
-  whole : texts_of l.reports.items ++ reports_of_views l.part-index (map part_view_of (drop l.part-index l.self.parts.items)) ≡ reports_of_views 0 (map part_view_of l.self.parts.items);
+  whole : texts_of l.reports.items ++ reports_of_views l.part-index (map part_view_of (drop l.part-index l.self.parts.items))
+      ≡ reports_of_views 0 (map part_view_of l.self.parts.items);
 }
