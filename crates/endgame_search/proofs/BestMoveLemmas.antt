@@ -109,7 +109,7 @@ module _ (g : Scoring) (p : PosView) (low high : ℤ) (items : List Child) (i : 
                 (subst (λ (c : Child). neg_ℤ (value_of g c.position) ≤ℤ score) is (omega (arith, ints)));
             kept = All-more (λ (c : Child). neg_ℤ (value_of g c.position) ≡ score → in_mask new c.square ≡ true) items i x here
                 (All-weaker (λ (c : Child). neg_ℤ (value_of g c.position) ≡ score → in_mask squares c.square ≡ true)
-                    (λ (c : Child). neg_ℤ (value_of g c.position) ≡ score → in_mask new c.square ≡ true)
+                (λ (c : Child). neg_ℤ (value_of g c.position) ≡ score → in_mask new c.square ≡ true)
                 (λ c k e. added c.square ∙ ap (λ b. b || x.square == c.square) (k e)) (take i items) held.kept)
                 (subst (λ (c : Child). neg_ℤ (value_of g c.position) ≡ score → in_mask new c.square ≡ true) is
                 (λ e. added x.square ∙ ap (λ b. in_mask squares x.square || b) (eq-eqb x.square x.square refl) ∙ or-true (in_mask squares x.square)));
@@ -143,7 +143,7 @@ module _ (g : Scoring) (p : PosView) (low high : ℤ) (items : List Child) (i : 
                 (subst (λ (c : Child). neg_ℤ (value_of g c.position) ≤ℤ w) is (omega (arith, ints)));
             kept = All-more (λ (c : Child). neg_ℤ (value_of g c.position) ≡ w → in_mask new c.square ≡ true) items i x here
                 (All-weaker (λ (c : Child). neg_ℤ (value_of g c.position) ≤ℤ score)
-                    (λ (c : Child). neg_ℤ (value_of g c.position) ≡ w → in_mask new c.square ≡ true)
+                (λ (c : Child). neg_ℤ (value_of g c.position) ≡ w → in_mask new c.square ≡ true)
                 (λ c h e. let j : neg_ℤ (value_of g c.position) ≤ℤ score = h in absurd (omega (arith, ints))) (take i items) held.covered)
                 (subst (λ (c : Child). neg_ℤ (value_of g c.position) ≡ w → in_mask new c.square ≡ true) is
                 (λ e. alone x.square ∙ ap (λ b. in_mask 0 x.square || b) (eq-eqb x.square x.square refl) ∙ or-true (in_mask 0 x.square)));
@@ -175,8 +175,11 @@ module _ (g : Scoring) (p : PosView) (low high : ℤ) (items : List Child) (scor
   squares_found : low ≤ℤ value_of g p → squares ≡ mask_where (is_best_move g p)
   squares_found k =
       is_where squares (is_best_move g p) held.small
-          (λ q h. elim (cases_Bool (is_best_move g p q)) [ inl b ↦ kept q b ∙ sym b | inr n ↦
-          false_from_ne_true (in_mask squares q) (λ b. both_ways (is_best_move g p q) n (best q b)) ∙ sym n ])
+      (λ q h. elim (cases_Bool (is_best_move g p q)) [
+        | inl b ↦ kept q b ∙ sym b
+        | inr n ↦
+            false_from_ne_true (in_mask squares q) (λ b. both_ways (is_best_move g p q) n (best q b)) ∙ sym n
+      ])
     where
       by_square : All (λ (c : Child). neg_ℤ (value_of g (play_of p c.square)) ≡ score → in_mask squares c.square ≡ true) items
       by_square i x h =

@@ -33,7 +33,7 @@ module _ (b : ℤ) (bound : IsBound b) where
   pub same_fail_soft : (v r : ℤ) → IsNullWindowScore (shown b) v r → IsNullWindowScore b v (shown r)
   same_fail_soft v r p =
       recast _ _ b (b +ℤ pos 1) v r _ bound_same (λ k. bound_same k +ℤ pos 1)
-          (sym (shown_same r (let l = p.least in omega (arith, ints)) (let m = p.most in omega (arith, ints)))) p
+      (sym (shown_same r (let l = p.least in omega (arith, ints)) (let m = p.most in omega (arith, ints)))) p
 
   -- a score as it is stored
   pub stored_fail_soft : (v s : ℤ) → IsNullWindowScore b v s → IsFailSoft (shown b) (shown (shown b +ℤ pos 1)) v s

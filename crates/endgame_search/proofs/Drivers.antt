@@ -57,7 +57,7 @@ at_first low high v l h lower upper i w range holds is_low is_high raised' lower
     let m : shown lower ≡ int_max (shown low) i.low = omega (arith, ints, clamps, raised', z, x, a, b, k, c, d, e) in
     let o : shown upper ≡ int_min (shown high) i.high = omega (arith, ints, clamps, lowered', n, y, a, b, k, c, d, e) in
     begun (shown low) (shown high) v (shown lower) (shown upper) i
-        (omega (arith, ints, x, c), omega (arith, ints, x, y, d), omega (arith, ints, y, e)) range holds m o
+    (omega (arith, ints, x, c), omega (arith, ints, x, y, d), omega (arith, ints, y, e)) range holds m o
 
 -- the bound asked lies between them, so that its score brings them closer
 module _ (lower upper s m b : ℤ) (l : IsScore lower) (u : IsScore upper) (small : negsuc 127 ≤ℤ s) (great : s ≤ℤ pos 127) (open' : lt_z lower upper ≡ true)

@@ -175,7 +175,7 @@ module _ (p : PosView) (s : ℕ) (m : IsMove p s) where
       false_from_ne_true (eqb i s && turns i) (λ t.
       let h = and_parts (eqb i s) (turns i) t in
       both_ways (same_cell cell.White (cell_at Black p s)) (empty_not_white (in_mask p.own s) (in_mask p.opp s) was_empty)
-          (turns_cell s (ap turns (sym (eqb-true i s h.0)) ∙ h.1)))
+      (turns_cell s (ap turns (sym (eqb-true i s h.0)) ∙ h.1)))
 
   own_apart : (i : ℕ) → (in_mask p.own i && (eqb i s || turns i)) ≡ false
   own_apart i =
@@ -190,8 +190,8 @@ module _ (p : PosView) (s : ℕ) (m : IsMove p s) where
   own_count fits =
       let r = play_of p s in
       let e : ones r.opp ≡ count_below 64 (λ i. in_mask p.own i || (eqb i s || turns i)) =
-          ap ones (is_where r.opp (λ i. in_mask p.own i || (eqb i s || turns i)) (play_apart p s).opp_fits after_move)
-              ∙ ones_where (λ i. in_mask p.own i || (eqb i s || turns i)) in
+      ap ones (is_where r.opp (λ i. in_mask p.own i || (eqb i s || turns i)) (play_apart p s).opp_fits after_move)
+      ∙ ones_where (λ i. in_mask p.own i || (eqb i s || turns i)) in
       let a = both_below 64 (in_mask p.own) (λ i. eqb i s || turns i) own_apart in
       let b = both_below 64 (λ i. eqb i s) turns placed_apart in
       let c = one_below s on_board in
@@ -227,7 +227,7 @@ turns_none p s e m =
     let h : has P cell.White t.0 ≡ true = turns_other p s m t.0 t.1 in
     let low : t.0 < 64 = subst (λ n. t.0 < n) (length-cells_of Black p) (counts.has_within P cell.White t.0 h) in
     both_ways (in_mask (mask_where (λ i. mem i (rules.flips P s))) t.0)
-        (none_from_zero _ (zero_from_ones (mask_where (λ i. mem i (rules.flips P s))) e) t.0) (in_mask-where (λ i. mem i (rules.flips P s)) t.0 low ∙ t.1)
+    (none_from_zero _ (zero_from_ones (mask_where (λ i. mem i (rules.flips P s))) e) t.0) (in_mask-where (λ i. mem i (rules.flips P s)) t.0 low ∙ t.1)
 
 pub turns_some : (p : PosView) (s : ℕ) → 0 < ones (flips_of p s) → IsMove p s
 unfolding flips_of ones
@@ -236,7 +236,7 @@ turns_some p s h =
     let f : ℕ → Bool = λ i. mem i (rules.flips P s) in
     let t = some_square (mask_where f) (where_lt f) (λ e. let z : ones (mask_where f) ≡ 0 = ap ones e in omega (arith, h, z)) in
     let low : t.0 < 64 =
-        elim (cases_lt t.0 64) [ inl l ↦ l | inr g ↦ absurd (both_ways (in_mask (mask_where f) t.0) (in_mask-above (mask_where f) t.0 (where_lt f) g) t.1) ] in
+    elim (cases_lt t.0 64) [ inl l ↦ l | inr g ↦ absurd (both_ways (in_mask (mask_where f) t.0) (in_mask-above (mask_where f) t.0 (where_lt f) g) t.1) ] in
     let m : rules.is_move P s ≡ true = not_empty (rules.flips P s) t.0 (sym (in_mask-where f t.0 low) ∙ t.1) in
     let b : s < 64 = subst (λ n. s < n) (length-cells_of Black p) (counts.has_within P cell.Empty s (move_empty P s m)) in
     IsMove-from p s b m

@@ -41,7 +41,7 @@ pub pass_empty : (p : PosView) (q : ℕ) → IsEmptySquare (pass_of p) q → IsE
 unfolding pass_of
 pass_empty p q h =
     let e : position_of side.White (pass_of p) ≡ rules.pass (position_of side.Black p) =
-        position_of-discs_of (rules.pass (position_of side.Black p)) (length-cells_of side.Black p) in
+    position_of-discs_of (rules.pass (position_of side.Black p)) (length-cells_of side.Black p) in
     subst (λ P. has P cell.Empty q ≡ true) e (empty-either side.Black side.White (pass_of p) q h)
 
 disc-no_empty : (s : Side) → same_cell cell.Empty (disc s) ≡ false
@@ -60,18 +60,18 @@ play_empty p q i h =
     let low : i < 64 = on_board side.Black (play_of p q) i h in
     let within : i < length P.cells = subst (λ n. i < n) (sym (length-cells_of side.Black p)) low in
     let painted : get_or (rules.painted_cells (own P) qs P.cells) i cell.Empty ≡ cond (list_any (nat_eq i) qs) (own P) (get_or P.cells i cell.Empty) =
-        get_or-painted (own P) qs P.cells i cell.Empty within in
+    get_or-painted (own P) qs P.cells i cell.Empty within in
     let there : same_cell cell.Empty (cond (list_any (nat_eq i) qs) (own P) (get_or P.cells i cell.Empty)) ≡ true =
-        ap (same_cell cell.Empty) (sym painted) ∙ counts.has_get_or (rules.play P q) cell.Empty i cell.Empty after in
+    ap (same_cell cell.Empty) (sym painted) ∙ counts.has_get_or (rules.play P q) cell.Empty i cell.Empty after in
     elim (cases_Bool (list_any (nat_eq i) qs)) [
       | inl b ↦
           absurd (both_ways (same_cell cell.Empty (own P)) (disc-no_empty side.Black)
-              (subst (λ t. same_cell cell.Empty (cond t (own P) (get_or P.cells i cell.Empty)) ≡ true) b there))
+          (subst (λ t. same_cell cell.Empty (cond t (own P) (get_or P.cells i cell.Empty)) ≡ true) b there))
       | inr b ↦
           let old : same_cell cell.Empty (get_or P.cells i cell.Empty) ≡ true =
-              subst (λ t. same_cell cell.Empty (cond t (own P) (get_or P.cells i cell.Empty)) ≡ true) b there in
+          subst (λ t. same_cell cell.Empty (cond t (own P) (get_or P.cells i cell.Empty)) ≡ true) b there in
           let was : same_cell cell.Empty (cell_at side.Black p i) ≡ true =
-              ap (same_cell cell.Empty) (sym (get_or-cells_of side.Black p i cell.Empty low)) ∙ old in (
+          ap (same_cell cell.Empty) (sym (get_or-cells_of side.Black p i cell.Empty low)) ∙ old in (
             has_empty side.Black p i low ∙ sym (same-empty_cell side.Black p i) ∙ was,
             λ same. both_ways (list_any (nat_eq i) qs) b (or_left (nat_eq i q) (list_any (nat_eq i) (rules.flips P q)) (eq-eqb i q same)),
           )

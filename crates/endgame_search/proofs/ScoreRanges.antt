@@ -23,7 +23,7 @@ told_true low high v s i p score at_most at_least exact window =
 -- a range from l to h holds the value v, which is from minus m to m: so does its part from minus m to m
 module _ (l h m v a b : ℤ) (i : RangeView) (low : l ≡ i.low) (high : h ≡ i.high) (range : IsRange i) (holds : (i.low ≤ℤ v) × (v ≤ℤ i.high))
     (some : pos 1 ≤ℤ m) (most : m ≤ℤ pos 64) (score : IsWithin m v)
-        (is_low : a ≡ int_max (shown l) (shown (pos 0 -ℤ shown m))) (is_high : b ≡ int_min (shown h) (shown m)) where
+    (is_low : a ≡ int_max (shown l) (shown (pos 0 -ℤ shown m))) (is_high : b ≡ int_min (shown h) (shown m)) where
   cut_low : (negsuc 63 ≤ℤ shown a) × (shown a ≤ℤ v)
   cut_low =
       let r = range.least in

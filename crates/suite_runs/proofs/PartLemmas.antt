@@ -61,7 +61,7 @@ pub scored_at : (g : Scoring) (parts : List Part) (i : ℕ) (d : Part) → i < l
     → All (AreScored g) (map part_view_of parts) → All (HasScoring g) (get_or parts i d).solved.items
 scored_at g parts i d lt all =
     All-contains (AreScored g) (map part_view_of parts) (part_view_of (get_or parts i d)) all
-        (Contains-map part_view_of parts (get_or parts i d) (Contains-get_or parts i d lt))
+    (Contains-map part_view_of parts (get_or parts i d) (Contains-get_or parts i d lt))
 
 -- ---- the book
 
@@ -129,8 +129,8 @@ book_more old new parts i d solved lt e before added p =
     let done = tasks_of_views (map part_view_of (take i parts)) in
     let more : canonicals (tasks_of_views (map part_view_of (take (i + 1) parts))) ≡ canonicals done ++ canonicals solved =
     ap canonicals
-        (ap tasks_of_views (map_more part_view_of parts i d lt)
-        ∙ flat_map-append (λ (y : PartView). y.1) (map part_view_of (take i parts)) (part_view_of (get_or parts i d) ∷ [])
+    (ap tasks_of_views (map_more part_view_of parts i d lt)
+    ∙ flat_map-append (λ (y : PartView). y.1) (map part_view_of (take i parts)) (part_view_of (get_or parts i d) ∷ [])
     ∙ ap (λ l. done ++ l) (append-nil (get_or parts i d).solved.items ∙ sym e)) ∙ map-append _ done solved in (
       (λ h. subst (λ l. Contains l p) (sym more) (elim ((added p).0 h) [
         | inl h ↦ Contains-append_left (canonicals done) (canonicals solved) p ((before p).0 h)
@@ -149,7 +149,7 @@ pub parts_fit : (parts : List Part) (s g : Scoring) (by : Criteria) (files : Lis
     → map part_view_of parts ≡ map (part_view g by) (texts_of files) → (length parts ≤ MOST_FILES) × All (AreScored s) (map part_view_of parts)
 parts_fit parts s g by files few same e =
     let count : length parts ≡ length files =
-        sym (length-map parts part_view_of) ∙ ap length e ∙ length-map (texts_of files) (part_view g by) ∙ length-map files (λ (f : File). f.items) in
+    sym (length-map parts part_view_of) ∙ ap length e ∙ length-map (texts_of files) (part_view g by) ∙ length-map files (λ (f : File). f.items) in
     let all = All-same (AreScored g) (map part_view_of parts) (map (part_view g by) (texts_of files)) e (views_scored g by (texts_of files)) in
     (omega arith, subst (λ k. All (AreScored k) (map part_view_of parts)) (sym same) all)
 

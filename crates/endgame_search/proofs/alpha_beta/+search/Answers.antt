@@ -42,7 +42,7 @@ search-returns-else-moves-ne0 g t c = same_fail_soft c.args.bound c.requires.bou
 pub search_pass-returns-then-replies-eq0 : goal.search_pass-returns-then-replies-eq0
 search_pass-returns-then-replies-eq0 g t c =
     let over : HasNoMove (pass_of c.args.position) =
-        ap moves_of (sym c.pass-passed.ensures.value) ∙ sym c.moves-replies.ensures.value ∙ c.if-replies-eq0.true in
+    ap moves_of (sym c.pass-passed.ensures.value) ∙ sym c.moves-replies.ensures.value ∙ c.if-replies-eq0.true in
     let r = g.T.Bounds.scoring c.args.table.now in
     let s = value_score r c.args.position in
     let e : c.final_score.result ≡ value_of r c.args.position =
@@ -70,9 +70,9 @@ search_pass-store_if_deep-requires-clause-window g t c = stored_window c.args.bo
 pub search_pass-store_if_deep-requires-clause-fail_soft : goal.search_pass-store_if_deep-requires-clause-fail_soft
 search_pass-store_if_deep-requires-clause-fail_soft g t c =
     let w =
-        passed_worth (g.T.Bounds.scoring c.args.table.now)
-            c.args.position c.pass-passed.result c.moves-replies.result c.requires.none c.pass-passed.ensures.value
-            c.moves-replies.ensures.value c.if-replies-eq0.false in
+    passed_worth (g.T.Bounds.scoring c.args.table.now)
+    c.args.position c.pass-passed.result c.moves-replies.result c.requires.none c.pass-passed.ensures.value
+    c.moves-replies.ensures.value c.if-replies-eq0.false in
     stored_fail_soft c.args.bound c.requires.bound _ _
     (subst (λ z. IsNullWindowScore c.args.bound z (shown (pos 0 -ℤ shown c.search_moves-score.result))) (sym w)
     (turned_above c.args.bound _ _ c.requires.bound c.search_moves-score.ensures))
@@ -80,9 +80,9 @@ search_pass-store_if_deep-requires-clause-fail_soft g t c =
 pub search_pass-returns : goal.search_pass-returns
 search_pass-returns g t c =
     let w =
-        passed_worth (g.T.Bounds.scoring c.args.table.now)
-            c.args.position c.pass-passed.result c.moves-replies.result c.requires.none c.pass-passed.ensures.value
-            c.moves-replies.ensures.value c.if-replies-eq0.false in
+    passed_worth (g.T.Bounds.scoring c.args.table.now)
+    c.args.position c.pass-passed.result c.moves-replies.result c.requires.none c.pass-passed.ensures.value
+    c.moves-replies.ensures.value c.if-replies-eq0.false in
     subst (λ z. IsNullWindowScore c.args.bound z (shown (pos 0 -ℤ shown c.search_moves-score.result))) (sym w)
     (turned_above c.args.bound _ _ c.requires.bound c.search_moves-score.ensures)
 
@@ -138,8 +138,8 @@ search_by_mobility-search_children-requires g t c κs within =
     let d : 8 * empties_of c.args.position + 3 ≡ t = c.decreases in
     let w : 8 * empties_of c.args.position + 2 < t = omega (arith, d) in
     let unlisted =
-        unlisted_sorted r c.args.position (negsuc 64) _ _ c.sort_children.ensures
-            (none_unlisted r c.args.position _ (negsuc 64) (c.in_default.ensures.all refl)) in (
+    unlisted_sorted r c.args.position (negsuc 64) _ _ c.sort_children.ensures
+    (none_unlisted r c.args.position _ (negsuc 64) (c.in_default.ensures.all refl)) in (
       w,
       (
         within,
@@ -186,8 +186,8 @@ search_by_mobility-search_children-requires-2 g t c κs within =
     let p = turned_above c.args.bound _ _ c.requires.bound c.search-score.ensures in
     let covered = score_covers c.args.bound _ _ s c.requires.bound p above c.if-score-bound.false in
     let unlisted =
-        unlisted_sorted r c.args.position _ _ _ c.sort_children-2.ensures
-            (unlisted_after_first r c.args.position c.in-Some.split _ _ _ split covered c.add_children.ensures.each c.add_children.ensures.every) in (
+    unlisted_sorted r c.args.position _ _ _ c.sort_children-2.ensures
+    (unlisted_after_first r c.args.position c.in-Some.split _ _ _ split covered c.add_children.ensures.each c.add_children.ensures.every) in (
       w,
       (
         within,
@@ -214,8 +214,8 @@ search_by_worth-search_children-requires g t c κs within =
     let d : 8 * empties_of p + 3 ≡ t = c.decreases in
     let w : 8 * empties_of p + 2 < t = omega (arith, d) in
     let sorted =
-        judged_sorted p _ _ c.judge_children.new.children _
-            (sym (c.judge_children.auto.children ∙ ap length c.deref_mut.ensures.value)) c.sort_children.ensures c.judge_children.ensures in
+    judged_sorted p _ _ c.judge_children.new.children _
+    (sym (c.judge_children.auto.children ∙ ap length c.deref_mut.ensures.value)) c.sort_children.ensures c.judge_children.ensures in
     let unlisted = none_unlisted r p _ (negsuc 64) sorted in (
       w,
       (
@@ -239,12 +239,18 @@ search_by_worth-search_shared_children-requires g t c κs within =
     let d : 8 * empties_of p + 3 ≡ t = c.decreases in
     let w : 8 * empties_of p + 2 < t = omega (arith, d) in
     let sorted =
-        judged_sorted p _ _ c.judge_children.new.children _
-            (sym (c.judge_children.auto.children ∙ ap length c.deref_mut.ensures.value)) c.sort_children.ensures c.judge_children.ensures in
-    let few : length c.deref-2.result.now < 64 = subst (λ n. n < 64) (c.len.ensures.value ∙ ap length (sym c.deref-2.ensures.0)) c.if-len-ge64.false in
-    (w, (within,
-        (subst (AreChildrenOf p) (sym c.deref-2.ensures.0) sorted,
-        (few, (λ z. c.requires.some (c.requires.moves ∙ z), shown_bound c.args.bound c.requires.bound)))))
+    judged_sorted p _ _ c.judge_children.new.children _
+    (sym (c.judge_children.auto.children ∙ ap length c.deref_mut.ensures.value)) c.sort_children.ensures c.judge_children.ensures in
+    let few : length c.deref-2.result.now < 64 = subst (λ n. n < 64) (c.len.ensures.value ∙ ap length (sym c.deref-2.ensures.0)) c.if-len-ge64.false in (
+      w,
+      (
+        within,
+        (
+          subst (AreChildrenOf p) (sym c.deref-2.ensures.0) sorted,
+          (few, (λ z. c.requires.some (c.requires.moves ∙ z), shown_bound c.args.bound c.requires.bound)),
+        ),
+      ),
+    )
 
 pub search_shared_children-loop-unsearched-init : goal.search_shared_children-loop-unsearched-init
 search_shared_children-loop-unsearched-init g t c =
@@ -264,9 +270,9 @@ search_shared_children-search-score-requires g t c κs within =
     let x = c.index-children-from.result in
     let at = c.from.ensures ∙ c.number.ensures.value in
     let child =
-        at_left (IsChildOf c.args.position) c.args.children.now c.loop-unsearched.unsearched
-            c.next_to_share-index.result c.from.result x c.loop-unsearched.invariant.listed
-            c.next_to_share-index.ensures at c.index-children-from.is c.requires.children.each in
+    at_left (IsChildOf c.args.position) c.args.children.now c.loop-unsearched.unsearched
+    c.next_to_share-index.result c.from.result x c.loop-unsearched.invariant.listed
+    c.next_to_share-index.ensures at c.index-children-from.is c.requires.children.each in
     let w : 8 * empties_of x.position + 7 < t = omega (arith, d, child_empties c.args.position x child) in
     (w, (within, (child.replies, other_bound c.args.bound c.requires.bound)))
 
@@ -275,9 +281,9 @@ search_shared_children-returns-then-score-bound g t c =
     let x = c.index-children-from.result in
     let at = c.from.ensures ∙ c.number.ensures.value in
     let child =
-        at_left (IsChildOf c.args.position) c.args.children.now c.loop-unsearched.unsearched
-            c.next_to_share-index.result c.from.result x c.loop-unsearched.invariant.listed
-            c.next_to_share-index.ensures at c.index-children-from.is c.requires.children.each in
+    at_left (IsChildOf c.args.position) c.args.children.now c.loop-unsearched.unsearched
+    c.next_to_share-index.result c.from.result x c.loop-unsearched.invariant.listed
+    c.next_to_share-index.ensures at c.index-children-from.is c.requires.children.each in
     cut_above c.args.bound _ _ (shown (pos 0 -ℤ shown c.search-score.result)) c.requires.bound
     (turned_above c.args.bound _ _ c.requires.bound c.search-score.ensures)
     (child_worth (g.T.Bounds.scoring c.args.table.now) c.args.position x child) c.if-score-bound.true
@@ -292,8 +298,8 @@ pub search_shared_children-loop-unsearched-smaller : goal.search_shared_children
 search_shared_children-loop-unsearched-smaller g t c =
     let small = c.loop-unsearched.invariant.small in
     let k =
-        one_less _ _ _ c.next_to_share-index.ensures c.without-unsearched.ensures small c.without-unsearched.type_inv
-            (on_board _ _ small c.next_to_share-index.ensures) in
+    one_less _ _ _ c.next_to_share-index.ensures c.without-unsearched.ensures small c.without-unsearched.type_inv
+    (on_board _ _ small c.next_to_share-index.ensures) in
     omega (arith, k)
 
 pub search_shared_children-loop-unsearched-preserved : goal.search_shared_children-loop-unsearched-preserved
@@ -305,8 +311,8 @@ search_shared_children-loop-unsearched-preserved g t c =
     let here = c.next_to_share-index.ensures in
     let at = c.from.ensures ∙ c.number.ensures.value in
     let child =
-        at_left (IsChildOf c.args.position) items c.loop-unsearched.unsearched c.next_to_share-index.result
-            c.from.result x kept.listed here at c.index-children-from.is c.requires.children.each in
+    at_left (IsChildOf c.args.position) items c.loop-unsearched.unsearched c.next_to_share-index.result
+    c.from.result x kept.listed here at c.index-children-from.is c.requires.children.each in
     let above = child_worth r c.args.position x child in
     let s = shown (pos 0 -ℤ shown c.search-score.result) in
     let p = turned_above c.args.bound _ _ c.requires.bound c.search-score.ensures in
@@ -354,16 +360,16 @@ pub search_children-search-score-requires : goal.search_children-search-score-re
 search_children-search-score-requires g t c κs within =
     let d : 8 * empties_of c.args.position + 2 ≡ t = c.decreases in
     let child =
-        at_index (IsChildOf c.args.position)
-            c.args.children.now c.loop-child.child-index c.child-item.result c.loop-child-test.true c.child-item.is c.requires.unlisted.each in
+    at_index (IsChildOf c.args.position)
+    c.args.children.now c.loop-child.child-index c.child-item.result c.loop-child-test.true c.child-item.is c.requires.unlisted.each in
     let w : 8 * empties_of c.child-item.result.position + 7 < t = omega (arith, d, child_empties c.args.position c.child-item.result child) in
     (w, (within, (child.replies, other_bound c.args.bound c.requires.bound)))
 
 pub search_children-returns-then-score-bound : goal.search_children-returns-then-score-bound
 search_children-returns-then-score-bound g t c =
     let child =
-        at_index (IsChildOf c.args.position)
-            c.args.children.now c.loop-child.child-index c.child-item.result c.loop-child-test.true c.child-item.is c.requires.unlisted.each in
+    at_index (IsChildOf c.args.position)
+    c.args.children.now c.loop-child.child-index c.child-item.result c.loop-child-test.true c.child-item.is c.requires.unlisted.each in
     cut_above c.args.bound _ _ (shown (pos 0 -ℤ shown c.search-score.result)) c.requires.bound
     (turned_above c.args.bound _ _ c.requires.bound c.search-score.ensures)
     (child_worth (g.T.Bounds.scoring c.args.table.now) c.args.position c.child-item.result child) c.if-score-bound.true
@@ -377,8 +383,8 @@ search_children-loop-child-preserved g t c =
     let items = c.args.children.now in
     let r = g.T.Bounds.scoring c.args.table.now in
     let child =
-        at_index (IsChildOf c.args.position)
-            items c.loop-child.child-index c.child-item.result c.loop-child-test.true c.child-item.is c.requires.unlisted.each in
+    at_index (IsChildOf c.args.position)
+    items c.loop-child.child-index c.child-item.result c.loop-child-test.true c.child-item.is c.requires.unlisted.each in
     let above = child_worth r c.args.position c.child-item.result child in
     let s = shown (pos 0 -ℤ shown c.search-score.result) in
     let p = turned_above c.args.bound _ _ c.requires.bound c.search-score.ensures in

@@ -7,19 +7,19 @@ pub loop-lower-init : goal.loop-lower-init
 loop-lower-init g c =
     let possible = c.possible_scores-possible in
     at_first c.args.low c.args.high _ c.low.result c.high.result _ _ possible.result c.requires c.low.ensures.ordered
-        possible.ensures c.low.ensures.value c.high.ensures.value c.max-lower.ensures.value c.min-upper.ensures.value
+    possible.ensures c.low.ensures.value c.high.ensures.value c.max-lower.ensures.value c.min-upper.ensures.value
 
 pub search-score-requires-clause-bound : goal.search-score-requires-clause-bound
 search-score-requires-clause-bound g c =
     let kept = c.loop-lower.invariant in
     asked_bound _ _ _ _ _ kept.lower_score kept.upper_score (omega (arith, ints))
-        (omega (arith, ints)) c.loop-lower-test.true c.max.ensures.value c.min-bound.ensures.value
+    (omega (arith, ints)) c.loop-lower-test.true c.max.ensures.value c.min-bound.ensures.value
 
 pub loop-lower-smaller-then-score-bound : goal.loop-lower-smaller-then-score-bound
 loop-lower-smaller-then-score-bound g c =
     let kept = c.loop-lower.invariant in
     less_raised _ _ _ _ _ kept.lower_score kept.upper_score (omega (arith, ints))
-        (omega (arith, ints)) c.loop-lower-test.true c.max.ensures.value c.min-bound.ensures.value _ c.if-score-bound.true
+    (omega (arith, ints)) c.loop-lower-test.true c.max.ensures.value c.min-bound.ensures.value _ c.if-score-bound.true
 
 pub loop-lower-preserved-then-score-bound : goal.loop-lower-preserved-then-score-bound
 loop-lower-preserved-then-score-bound g c = raised _ _ _ _ _ c.min-bound.result _ c.loop-lower.invariant c.search-score.ensures c.if-score-bound.true
@@ -28,7 +28,7 @@ pub loop-lower-smaller : goal.loop-lower-smaller
 loop-lower-smaller g c =
     let kept = c.loop-lower.invariant in
     less_lowered _ _ _ _ _ kept.lower_score kept.upper_score (omega (arith, ints))
-        (omega (arith, ints)) c.loop-lower-test.true c.max.ensures.value c.min-bound.ensures.value _ c.if-score-bound.false
+    (omega (arith, ints)) c.loop-lower-test.true c.max.ensures.value c.min-bound.ensures.value _ c.if-score-bound.false
 
 pub loop-lower-preserved : goal.loop-lower-preserved
 loop-lower-preserved g c = lowered _ _ _ _ _ c.min-bound.result _ c.loop-lower.invariant c.search-score.ensures c.if-score-bound.false

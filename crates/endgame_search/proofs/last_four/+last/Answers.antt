@@ -18,9 +18,13 @@ search_after-search_in_order-requires g t c κs within =
     let p = c.args.position in
     let d : 4 * empties_of p + 3 ≡ t = c.decreases in
     let few = passing_most (moves_of p) in
-    let w : 4 * empties_of p + passing (moves_of p) < t = omega (arith, d, few) in
-    (w, (within,
-        (λ q m. c.empty_squares.ensures.squares q (moves_to_empty c.args.position q m), (c.requires.empties, shown_bound c.args.bound c.requires.bound))))
+    let w : 4 * empties_of p + passing (moves_of p) < t = omega (arith, d, few) in (
+      w,
+      (
+        within,
+        (λ q m. c.empty_squares.ensures.squares q (moves_to_empty c.args.position q m), (c.requires.empties, shown_bound c.args.bound c.requires.bound)),
+      ),
+    )
 
 pub search_in_order-loop-position-init : goal.search_in_order-loop-position-init
 search_in_order-loop-position-init g t c =
@@ -127,8 +131,8 @@ search_pass_in_order-search_in_order-requires g t c κs within =
 pub search_pass_in_order-returns : goal.search_pass_in_order-returns
 search_pass_in_order-returns g t c =
     let w =
-        passed_worth (g.T.Bounds.scoring c.args.table.now)
-            c.args.position c.pass-passed.result c.moves-replies.result c.requires.none c.pass-passed.ensures.value
-            c.moves-replies.ensures.value c.if-replies-eq0.false in
+    passed_worth (g.T.Bounds.scoring c.args.table.now)
+    c.args.position c.pass-passed.result c.moves-replies.result c.requires.none c.pass-passed.ensures.value
+    c.moves-replies.ensures.value c.if-replies-eq0.false in
     subst (λ z. IsNullWindowScore c.args.bound z (shown (pos 0 -ℤ shown c.search_in_order.result))) (sym w)
     (turned_above c.args.bound _ _ c.requires.bound c.search_in_order.ensures)

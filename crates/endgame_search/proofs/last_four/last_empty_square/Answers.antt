@@ -9,4 +9,4 @@ lowest-requires c = some_square_left c.empty_squares.result 1 (c.empty_squares.e
 pub returns : goal.returns
 returns c =
     λ q h. only_one c.empty_squares.result _ q c.empty_squares.type_inv
-        (c.empty_squares.ensures.count ∙ c.requires.one) c.lowest.ensures.member (c.empty_squares.ensures.squares q h)
+    (c.empty_squares.ensures.count ∙ c.requires.one) c.lowest.ensures.member (c.empty_squares.ensures.squares q h)

@@ -11,7 +11,7 @@ returns-in-Some-clause-some c =
     let k = one_less _ _ _ here c.without-rest.ensures kept.small c.without-rest.type_inv (on_board _ _ kept.small here) in
     let f = kept.fewer in
     move_taken c.args.position c.args.squares _ _ _ here c.without-rest.ensures kept.among _
-        (c.in-Some.ensures.when.0 refl) c.in-Some.ensures.value refl (omega (arith, k, f))
+    (c.in-Some.ensures.when.0 refl) c.in-Some.ensures.value refl (omega (arith, k, f))
 
 pub loop-rest-smaller : goal.loop-rest-smaller
 loop-rest-smaller c =

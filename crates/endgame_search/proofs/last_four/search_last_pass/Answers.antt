@@ -29,10 +29,10 @@ returns-then-passed-eq0 g c =
     let m = f.high in
     let n : shown c.final_score.result ≡ c.final_score.result = omega (arith, ints, l, m) in
     let over : HasNoMove (pass_of p) =
-        ap moves_of (sym (c.new-passed.ensures.position ∙ c.pass.ensures.value)) ∙ no_move c.new-passed.result c.new-passed.ensures.last c.if-passed-eq0.true in
+    ap moves_of (sym (c.new-passed.ensures.position ∙ c.pass.ensures.value)) ∙ no_move c.new-passed.result c.new-passed.ensures.last c.if-passed-eq0.true in
     exact _ _ _ _ (value_score r p)
     (n ∙ c.final_score.ensures.value ∙ ap (λ h. final_of h p) c.scoring.ensures
-        ∙ sym (value-over r p (no_move c.args.last c.requires.last c.requires.none, over)))
+    ∙ sym (value-over r p (no_move c.args.last c.requires.last c.requires.none, over)))
 
 pub probe_cutoff-requires : goal.probe_cutoff-requires
 probe_cutoff-requires g c = shown_bound c.args.bound c.requires.bound
@@ -54,7 +54,7 @@ returns g c =
     let k = c.if-passed-eq0.false in
     let some : moves_of d ≢ 0 = last_some d e.square (c.new-passed.ensures.last.legal.1 (omega (arith, k))) in
     let w =
-        passed_worth r c.args.last.position d (moves_of d) (no_move c.args.last c.requires.last c.requires.none)
-            (c.new-passed.ensures.position ∙ c.pass.ensures.value) refl some in
+    passed_worth r c.args.last.position d (moves_of d) (no_move c.args.last c.requires.last c.requires.none)
+    (c.new-passed.ensures.position ∙ c.pass.ensures.value) refl some in
     subst (λ z. IsNullWindowScore c.args.bound z (shown (pos 0 -ℤ shown c.search_last_move.result))) (sym w)
-        (turned_above c.args.bound _ _ c.requires.bound c.search_last_move.ensures)
+    (turned_above c.args.bound _ _ c.requires.bound c.search_last_move.ensures)

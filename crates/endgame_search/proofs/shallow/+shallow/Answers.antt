@@ -38,7 +38,7 @@ search_shallow-returns-else-moves-ne0 g t c = same_fail_soft c.args.bound c.requ
 pub search_shallow_pass-returns-then-replies-eq0 : goal.search_shallow_pass-returns-then-replies-eq0
 search_shallow_pass-returns-then-replies-eq0 g t c =
     let over : HasNoMove (pass_of c.args.position) =
-        ap moves_of (sym c.pass-passed.ensures.value) ∙ sym c.moves-replies.ensures.value ∙ c.if-replies-eq0.true in
+    ap moves_of (sym c.pass-passed.ensures.value) ∙ sym c.moves-replies.ensures.value ∙ c.if-replies-eq0.true in
     let r = g.T.Bounds.scoring c.args.table.now in
     let s = value_score r c.args.position in
     let e : c.final_score.result ≡ value_of r c.args.position =
@@ -66,9 +66,9 @@ search_shallow_pass-search_shallow_moves-requires g t c κs within =
 pub search_shallow_pass-returns : goal.search_shallow_pass-returns
 search_shallow_pass-returns g t c =
     let w =
-        passed_worth (g.T.Bounds.scoring c.args.table.now)
-            c.args.position c.pass-passed.result c.moves-replies.result c.requires.none c.pass-passed.ensures.value
-            c.moves-replies.ensures.value c.if-replies-eq0.false in
+    passed_worth (g.T.Bounds.scoring c.args.table.now)
+    c.args.position c.pass-passed.result c.moves-replies.result c.requires.none c.pass-passed.ensures.value
+    c.moves-replies.ensures.value c.if-replies-eq0.false in
     subst (λ z. IsNullWindowScore c.args.bound z (shown (pos 0 -ℤ shown c.search_shallow_moves.result))) (sym w)
     (turned_above c.args.bound _ _ c.requires.bound c.search_shallow_moves.ensures)
 
@@ -137,12 +137,13 @@ search_shallow_by_list-returns-then-score-bound g t c =
     cut_above c.args.bound _ _ (shown (pos 0 -ℤ shown c.search_shallow_pass-score.result)) c.requires.bound
     (turned_above c.args.bound _ _ c.requires.bound c.search_shallow_pass-score.ensures)
     (child_worth (g.T.Bounds.scoring c.args.table.now)
-        c.args.position c.in-Some-add_until_no_replies.split.child c.in-Some-add_until_no_replies.ensures.split.child) c.if-score-bound.true
+    c.args.position c.in-Some-add_until_no_replies.split.child c.in-Some-add_until_no_replies.ensures.split.child) c.if-score-bound.true
 
 pub search_shallow_by_list-add_children-requires : goal.search_shallow_by_list-add_children-requires
-search_shallow_by_list-add_children-requires g t c =
-    (search rules,
-        (c.in-Some-add_until_no_replies.ensures.split.rest, (c.in-Some-add_until_no_replies.ensures.room, c.in-Some-add_until_no_replies.ensures.split.each)))
+search_shallow_by_list-add_children-requires g t c = (
+  search rules,
+  (c.in-Some-add_until_no_replies.ensures.split.rest, (c.in-Some-add_until_no_replies.ensures.room, c.in-Some-add_until_no_replies.ensures.split.each)),
+)
 
 pub search_shallow_by_list-search_shallow_children-requires-2 : goal.search_shallow_by_list-search_shallow_children-requires-2
 search_shallow_by_list-search_shallow_children-requires-2 g t c κs within =
@@ -155,8 +156,8 @@ search_shallow_by_list-search_shallow_children-requires-2 g t c κs within =
     let p = turned_above c.args.bound _ _ c.requires.bound c.search_shallow_pass-score.ensures in
     let covered = score_covers c.args.bound _ _ s c.requires.bound p above c.if-score-bound.false in
     let unlisted =
-        unlisted_after_first r c.args.position c.in-Some-add_until_no_replies.split _ _ _ split covered
-            c.add_children.ensures.each c.add_children.ensures.every in (
+    unlisted_after_first r c.args.position c.in-Some-add_until_no_replies.split _ _ _ split covered
+    c.add_children.ensures.each c.add_children.ensures.every in (
       w,
       (
         within,
@@ -203,8 +204,8 @@ search_shallow_children-search_shallow-score-requires g t c κs within =
     let x = c.index-children-from.result in
     let at = c.from.ensures ∙ c.number.ensures.value in
     let child =
-        at_left (IsChildOf c.args.position) c.args.children.now c.loop-unsearched.unsearched c.next_of-index.result
-            c.from.result x c.loop-unsearched.invariant.listed c.next_of-index.ensures at c.index-children-from.is c.requires.unlisted.each in
+    at_left (IsChildOf c.args.position) c.args.children.now c.loop-unsearched.unsearched c.next_of-index.result
+    c.from.result x c.loop-unsearched.invariant.listed c.next_of-index.ensures at c.index-children-from.is c.requires.unlisted.each in
     let e = child_empties c.args.position x child in
     let v = c.empties-empties.ensures.value in
     let w : 6 * empties_of x.position + 5 < t = omega (arith, d, e) in
@@ -215,8 +216,8 @@ search_shallow_children-returns-then-score-bound g t c =
     let x = c.index-children-from.result in
     let at = c.from.ensures ∙ c.number.ensures.value in
     let child =
-        at_left (IsChildOf c.args.position) c.args.children.now c.loop-unsearched.unsearched c.next_of-index.result
-            c.from.result x c.loop-unsearched.invariant.listed c.next_of-index.ensures at c.index-children-from.is c.requires.unlisted.each in
+    at_left (IsChildOf c.args.position) c.args.children.now c.loop-unsearched.unsearched c.next_of-index.result
+    c.from.result x c.loop-unsearched.invariant.listed c.next_of-index.ensures at c.index-children-from.is c.requires.unlisted.each in
     cut_above c.args.bound _ _ (shown (pos 0 -ℤ shown c.search_shallow-score.result)) c.requires.bound
     (turned_above c.args.bound _ _ c.requires.bound c.search_shallow-score.ensures)
     (child_worth (g.T.Bounds.scoring c.args.table.now) c.args.position x child) c.if-score-bound.true
@@ -225,7 +226,7 @@ pub search_shallow_children-loop-unsearched-smaller : goal.search_shallow_childr
 search_shallow_children-loop-unsearched-smaller g t c =
     let small = c.loop-unsearched.invariant.small in
     let k =
-        one_less _ _ _ c.next_of-index.ensures c.without-unsearched.ensures small c.without-unsearched.type_inv (on_board _ _ small c.next_of-index.ensures) in
+    one_less _ _ _ c.next_of-index.ensures c.without-unsearched.ensures small c.without-unsearched.type_inv (on_board _ _ small c.next_of-index.ensures) in
     omega (arith, k)
 
 pub search_shallow_children-loop-unsearched-preserved : goal.search_shallow_children-loop-unsearched-preserved
@@ -237,8 +238,8 @@ search_shallow_children-loop-unsearched-preserved g t c =
     let here = c.next_of-index.ensures in
     let at = c.from.ensures ∙ c.number.ensures.value in
     let child =
-        at_left (IsChildOf c.args.position) items c.loop-unsearched.unsearched c.next_of-index.result c.from.result x
-            kept.listed here at c.index-children-from.is c.requires.unlisted.each in
+    at_left (IsChildOf c.args.position) items c.loop-unsearched.unsearched c.next_of-index.result c.from.result x
+    kept.listed here at c.index-children-from.is c.requires.unlisted.each in
     let above = child_worth r c.args.position x child in
     let s = shown (pos 0 -ℤ shown c.search_shallow-score.result) in
     let p = turned_above c.args.bound _ _ c.requires.bound c.search_shallow-score.ensures in

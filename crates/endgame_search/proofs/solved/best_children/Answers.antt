@@ -24,8 +24,8 @@ worth_from-worth-requires-clause-most g c =
     let b = c.requires.high in
     let h = score_same c.args.high b.low b.high in
     let child =
-        at_index (IsChildOf c.args.position)
-            c.args.children.now c.loop-child.child-index c.child-item.result c.loop-child-test.true c.child-item.is c.requires.children.each in
+    at_index (IsChildOf c.args.position)
+    c.args.children.now c.loop-child.child-index c.child-item.result c.loop-child-test.true c.child-item.is c.requires.children.each in
     let w = child_worth r c.args.position c.child-item.result child in
     let m = c.requires.most in
     omega (arith, ints)
@@ -35,8 +35,8 @@ loop-child-preserved g c =
     let r = g.T.Bounds.scoring c.args.table.now in
     let items = c.args.children.now in
     let child =
-        at_index (IsChildOf c.args.position)
-            items c.loop-child.child-index c.child-item.result c.loop-child-test.true c.child-item.is c.requires.children.each in
+    at_index (IsChildOf c.args.position)
+    items c.loop-child.child-index c.child-item.result c.loop-child-test.true c.child-item.is c.requires.children.each in
     let x = c.child-item.result in
     let i = c.loop-child.child-index in
     let here = c.loop-child-test.true in
@@ -65,11 +65,11 @@ loop-child-preserved g c =
           (subst (after best) (sym b.squares-is)
           (added_to r c.args.position _ _ items i x best c.loop-child.squares here c.child-item.is child held
           b.including-squares-then-worth-score-2.result worth b.including-squares-then-worth-score-2.type_inv
-              (sym same ∙ w ∙ e) b.including-squares-then-worth-score-2.ensures))
+          (sym same ∙ w ∙ e) b.including-squares-then-worth-score-2.ensures))
       | else-worth-score+else-worth-score-2 b ↦
           let same : best ≤ℤ worth → worth ≡ best = λ k. omega (arith, ints, b.if-worth-score.false, w) in
           let less : worth <ℤ best =
-              by_lt_z worth best (λ k. k) (λ k. absurd (b.if-worth-score-2.false (ap (of_z w8) (same k) ∙ of_z-to_z c.loop-child.auto.score-fits))) in
+          by_lt_z worth best (λ k. k) (λ k. absurd (b.if-worth-score-2.false (ap (of_z w8) (same k) ∙ of_z-to_z c.loop-child.auto.score-fits))) in
           subst (λ n. after n c.if-worth-score.squares) (sym b.score-is)
           (subst (after best) (sym b.squares-is)
           (left_out r c.args.position _ _ items i x best c.loop-child.squares here c.child-item.is child held (c.worth_from-worth.ensures.less less)))
@@ -83,8 +83,8 @@ returns g c =
     let l = score_same c.args.low a.low a.high in
     let e : take c.loop-child.child-index items ≡ items = take_all c.loop-child.child-index items (omega (arith, c.loop-child-test.false)) in
     let held =
-        subst (λ xs. HoldsBest r c.args.position (shown c.args.low) (shown c.args.high) xs (to_z w8 c.loop-child.score-bits) c.loop-child.squares)
-            e c.loop-child.invariant in
+    subst (λ xs. HoldsBest r c.args.position (shown c.args.low) (shown c.args.high) xs (to_z w8 c.loop-child.score-bits) c.loop-child.squares)
+    e c.loop-child.invariant in
     best_found r c.args.position c.args.low (shown c.args.high) items
-        (to_z w8 c.loop-child.score-bits) c.loop-child.squares c.requires.low c.requires.some c.requires.children
+    (to_z w8 c.loop-child.score-bits) c.loop-child.squares c.requires.low c.requires.some c.requires.children
     (subst (λ z. HoldsBest r c.args.position z (shown c.args.high) items (to_z w8 c.loop-child.score-bits) c.loop-child.squares) l held) _ refl refl

@@ -7,4 +7,4 @@ pub best_children-requires-clause-children : goal.best_children-requires-clause-
 best_children-requires-clause-children g c =
     subst (AreChildrenOf c.args.position) (sym c.deref.ensures.0)
     (judged_sorted c.args.position _ _ c.judge_children.new.children _
-        (sym (c.judge_children.auto.children ∙ ap length c.deref_mut.ensures.value)) c.sort_children.ensures c.judge_children.ensures)
+    (sym (c.judge_children.auto.children ∙ ap length c.deref_mut.ensures.value)) c.sort_children.ensures c.judge_children.ensures)

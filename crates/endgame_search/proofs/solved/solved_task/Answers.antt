@@ -26,4 +26,4 @@ pub invariant_of-result-2 : goal.invariant_of-result-2
 invariant_of-result-2 g c =
     let s : shown c.args.score ≡ c.args.score = omega (arith, ints) in
     answer_told c.args.task.scoring c.scoring.result c.args.task.position c.pos-2.result _ _ (sym c.scoring.ensures)
-        (sym c.pos-2.ensures.value) (s ∙ c.requires.value) c.requires.best
+    (sym c.pos-2.ensures.value) (s ∙ c.requires.value) c.requires.best

@@ -11,9 +11,9 @@ returns-then-worth-bound g c =
     let r = g.T.Bounds.scoring c.args.table.now in
     let x = c.child-item.result in
     let child =
-        at_index (IsChildOf c.args.position) c.args.children.now c.loop-child.child-index x c.loop-child-test.true c.child-item.is c.requires.children in
+    at_index (IsChildOf c.args.position) c.args.children.now c.loop-child.child-index x c.loop-child-test.true c.child-item.is c.requires.children in
     let o = c.high-worth.ensures.ordered in
     let e = c.high-worth.ensures.value in
     known_above c.args.bound (value_of r c.args.position) (value_of r x.position) c.high-worth.result c.requires.bound
-        (child_worth r c.args.position x child) (rw (← e) at c.in-Some.ensures.1)
-        (omega (arith, ints, e, o.least, o.ordered)) (omega (arith, ints, e, o.most)) c.if-worth-bound.true
+    (child_worth r c.args.position x child) (rw (← e) at c.in-Some.ensures.1)
+    (omega (arith, ints, e, o.least, o.ordered)) (omega (arith, ints, e, o.most)) c.if-worth-bound.true

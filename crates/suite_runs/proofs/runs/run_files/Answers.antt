@@ -10,7 +10,7 @@ pub returns-in_err-check_files-clause-answers : goal.returns-in_err-check_files-
 returns-in_err-check_files-clause-answers c =
     let p = err_from_is_err_and c.from_residual.result c.from_residual.ensures.1 in
     rw p.1 (refused_answers (Solves c.args.settings.now (texts_of c.args.files.now)) c.in_err-check_files.field-0.0 p.0
-        (texts_of c.args.files.now) c.in_err-check_files.ensures.refuses p.2)
+    (texts_of c.args.files.now) c.in_err-check_files.ensures.refuses p.2)
 
 pub returns-in_err-check_files-clause-unmixed : goal.returns-in_err-check_files-clause-unmixed
 returns-in_err-check_files-clause-unmixed c =

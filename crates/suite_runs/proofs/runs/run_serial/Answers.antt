@@ -8,7 +8,7 @@ use Rattle.suite_runs.proofs.runs.run_serial.Goals as goal
 pub returns-clause-too_many : goal.returns-clause-too_many
 returns-clause-too_many c =
     rw length-map at
-        (many_iff (Solves c.args.settings.now (texts_of c.args.files.now)) c.run_files.result (texts_of c.args.files.now) c.run_files.ensures.answers)
+    (many_iff (Solves c.args.settings.now (texts_of c.args.files.now)) c.run_files.result (texts_of c.args.files.now) c.run_files.ensures.answers)
 
 pub returns-clause-too_large : goal.returns-clause-too_large
 returns-clause-too_large c =

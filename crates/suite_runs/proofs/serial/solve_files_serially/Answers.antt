@@ -22,7 +22,7 @@ loop-file-preserved c =
     ∙ ap f (c.deref.ensures.value ∙ ap (λ v. v.items) c.file-item.is) in
     rw c.in_ok-push.ensures.items (map-append part_view_of c.loop-file.parts.items (c.in_ok-solve_text.field-0 ∷ [])
     ∙ views_step f c.args.files.now c.loop-file.file-index c.file-item.result (map part_view_of c.loop-file.parts.items)
-        (part_view_of c.in_ok-solve_text.field-0)
+    (part_view_of c.in_ok-solve_text.field-0)
     c.loop-file-test.true c.loop-file.invariant made)
 
 pub invariant_of-result : goal.invariant_of-result

@@ -39,7 +39,7 @@ returns c =
     let n : ones c.own.result + c.args.self.turned + 1 ≡ ones p.own + ones (flips_of p s) + 1 = omega (arith, o, t) in
     let e : value_of c.args.scoring p ≡ c.score.result =
     last_score p s (h.legal.1 c.requires.some) c.args.scoring
-        (subst (λ n. n < 2 ^ 64) c.own.ensures c.own.type_inv) h.full (ones c.own.result + c.args.self.turned + 1) n ∙ sym c.score.ensures.value in
+    (subst (λ n. n < 2 ^ 64) c.own.ensures c.own.type_inv) h.full (ones c.own.result + c.args.self.turned + 1) n ∙ sym c.score.ensures.value in
     let r = c.score.ensures.in_range in
     let l = r.low in
     let m = r.high in

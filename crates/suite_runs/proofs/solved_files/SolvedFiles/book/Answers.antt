@@ -28,7 +28,7 @@ loop-part-preserved c =
       scoring = c.in_ok-add_all.ensures.scoring ∙ c.loop-part.invariant.scoring;
       positions =
           book_more c.loop-part.book.positions c.add_all.new.book.positions c.args.self.now.parts.items
-              c.loop-part.part-index c.part-item.result c.deref.result.now
+          c.loop-part.part-index c.part-item.result c.deref.result.now
           lt (c.deref.ensures.value ∙ ap (λ (p : Part). p.solved.items) item) c.loop-part.invariant.positions c.in_ok-add_all.ensures.holds;
     }
 
@@ -36,4 +36,4 @@ pub returns : goal.returns
 returns c =
     subst (λ l. IsBookOf c.args.self.now.scoring (tasks_of_views (map part_view_of l)) c.loop-part.book)
     (take_all c.loop-part.part-index c.args.self.now.parts.items
-        (subst (λ (l : List Part). length l ≤ c.loop-part.part-index) c.deref-part-items.ensures.value c.loop-part-test.false)) c.loop-part.invariant
+    (subst (λ (l : List Part). length l ≤ c.loop-part.part-index) c.deref-part-items.ensures.value c.loop-part-test.false)) c.loop-part.invariant
