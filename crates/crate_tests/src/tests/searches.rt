@@ -2,6 +2,7 @@
 
 mod claims;
 mod counts;
+mod foreseen;
 mod orders;
 mod probes;
 mod shared;

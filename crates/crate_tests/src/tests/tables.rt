@@ -8,7 +8,7 @@ ghost use Rattle.othello_rules.specs.declared.scoring.Scoring.TheVariants.{Winne
 ghost use Rattle.bound_table.specs.Range.{IsTrueOf};
 
 use super::published::MOST_ENTRIES;
-use bound_table::{BoundTable, Bounds, NoTable, Range, TableFault};
+use bound_table::{BoundTable, Bounds, Foreseen, NoTable, Range, TableFault};
 use othello_bits::{Pos, Sym};
 use othello_rules::{Scoring, Side};
 use std::process::Abort;
@@ -118,5 +118,29 @@ fn count_shown(rt: &impl Abort, table: &BoundTable) -> usize
 fn positions_have_entries_of_their_own(rt: HostRuntime) -> Result<(), Fail> {
     let table = BoundTable::new(rt.alloc(), 64, Scoring::Winner)?;
     assert!(rt; count_shown(&rt, &table) >= 8);
+    Ok(())
+}
+
+// What the table finds noted of a position after this note.
+fn found_after(table: &BoundTable, position: &Pos, note: Foreseen) -> Foreseen {
+    table.note_foreseen(position, 5, note);
+    table.foreseen(position, 5)
+}
+
+// Notes are kept beside 4,096 entries or more, each for its position in its respect.
+#[test]
+fn notes_are_found(rt: HostRuntime) -> Result<(), Fail> {
+    let Exact { position, .. } = Exact::of_unequal_corners(&rt);
+    let other = Exact::of_equal_corners(&rt).position;
+    let table = BoundTable::new(rt.alloc(), 4_096, Scoring::Winner)?;
+    assert!(rt; table.foreseen(&position, 5) == Foreseen::Unknown);
+    for note in [Foreseen::Begun, Foreseen::Worth(0), Foreseen::Worth(4_000)] {
+        assert!(rt; found_after(&table, &position, note) == note);
+    }
+    assert!(rt; table.foreseen(&position, 6) == Foreseen::Unknown);
+    assert!(rt; table.foreseen(&other, 5) == Foreseen::Unknown);
+    let small = BoundTable::new(rt.alloc(), 4_095, Scoring::Winner)?;
+    assert!(rt; found_after(&small, &position, Foreseen::Worth(1)) == Foreseen::Unkept);
+    assert!(rt; NoTable::new(Scoring::Winner).foreseen(&position, 5) == Foreseen::Unkept);
     Ok(())
 }

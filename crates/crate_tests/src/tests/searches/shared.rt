@@ -3,42 +3,58 @@
 ghost use Rattle.othello_rules.specs.declared.scoring.Scoring.TheVariants.{Winner};
 
 use super::super::worked::{Discs, pos_of};
-use bound_table::{Bounds, Range};
+use bound_table::{BoundTable, Bounds, Range};
 use endgame_search::value_in;
 use othello_bits::Pos;
 use othello_rules::{Scoring, Side};
-use std::alloc::{AllocError, Global};
+use std::alloc::Global;
 use std::cell::Cell;
 use std::test::Fail;
 
-// -OOO-O-- XOOO-O-- OXXOXOOX -OOXOOO- XOXOXXOO O-XOXXO- --XXOOOO XXXO--O-: 16 empty squares, 14 moves
-const SIXTEEN_EMPTY_SQUARES: Discs = (0x70c_3435_0896_0100, 0x48f0_49ca_7669_2e2e);
+// The most moves of a position below.
+const MOST_MOVES: usize = 14;
 
-const MOVES: usize = 14;
+// The mover's discs and the opponent's, the number of moves, and how many eldest children are searched
+// in any case. With 16, 18 and 21 empty squares.
+const ROWS: [(Discs, usize, usize); 3] = [
+    // -OOO-O-- XOOO-O-- OXXOXOOX -OOXOOO- XOXOXXOO O-XOXXO- --XXOOOO XXXO--O-
+    ((0x70c_3435_0896_0100, 0x48f0_49ca_7669_2e2e), 14, 1),
+    // -XXX---- XXX-OO-X --OOOOXX OOOOXXXX OOOOXOX- O-XXOOX- -OOOOOO- --O-X-XO
+    ((0x5000_4c50_f0c0_870e, 0x847e_312f_0f3c_3000), 10, 2),
+    // -OOO---- OOO-XX-O --XXXX-O XXXXOXXO XXXXXXO- --OXXXO- -OOOO-X- --X-O-OX
+    ((0x8440_383f_6f3c_3000, 0x501e_4440_9080_870e), 10, 3),
+];
 
-// Keeps nothing. Says that other threads are searching some positions, and notes in order which
-// positions the calling thread begins to search.
+// Says that other threads are searching some positions, and notes in order which positions with so many
+// empty squares the calling thread begins to search.
 #[derive(Drop)]
 struct Others {
+    table: BoundTable,
     searching: Vec<Pos>,
+    empties: u8,
     begun: Vec<Cell<Option<Pos>>>,
     count: Cell<usize>,
 }
 
 impl Bounds for Others {
-    ghost scoring = { λ others. Winner };
+    ghost scoring = { λ others. others.table.scoring };
 
     fn scoring(&self) -> Scoring {
-        Scoring::Winner
+        self.table.scoring()
     }
 
-    fn probe(&self, _position: &Pos) -> Option<Range> {
-        None
+    fn probe(&self, position: &Pos) -> Option<Range> {
+        self.table.probe(position)
     }
 
-    fn store(&self, _position: &Pos, _range: Range) {}
+    fn store(&self, position: &Pos, range: Range) {
+        self.table.store(position, range);
+    }
 
     fn begin(&self, position: &Pos) {
+        if position.empties() != self.empties {
+            return;
+        }
         let count = self.count.get();
         if let Some(place) = self.begun.get(count) {
             place.set(Some(*position));
@@ -57,13 +73,15 @@ fn begun_beside(
     alloc: Global,
     position: Pos,
     searching: Vec<Pos>,
-) -> Result<Vec<Option<Pos>>, AllocError> {
+) -> Result<Vec<Option<Pos>>, Fail> {
     let mut begun = Vec::new(alloc);
-    for _ in 0..MOVES {
+    for _ in 0..MOST_MOVES {
         begun.push(Cell::new(None))?;
     }
     let others = Others {
+        table: BoundTable::new(alloc, 4_096, Scoring::Winner)?,
         searching,
+        empties: position.empties().saturating_sub(1),
         begun,
         count: Cell::new(0),
     };
@@ -72,31 +90,38 @@ fn begun_beside(
     for place in &others.begun {
         order.push(place.get())?;
     }
-    if others.count.get() != MOVES {
-        order.clear();
-    }
+    order.truncate(others.count.get());
     Ok(order)
 }
 
-// The three eldest children are searched in any case; then those that no other thread searches, and at
-// last those that were left.
-const SEARCHED_BY_OTHERS: [usize; 5] = [0, 1, 2, 3, 5];
-
-const ORDER: [usize; MOVES] = [0, 1, 2, 4, 6, 7, 8, 9, 10, 11, 12, 13, 3, 5];
-
+// Others search the eldest children, the next one, and the one after the one after it. The eldest ones
+// are searched in any case; then those that no other thread searches, and at last those two.
 #[test]
 fn children_that_others_search_are_left_for_later(rt: HostRuntime) -> Result<(), Fail> {
     let alloc = rt.alloc();
-    let position = pos_of(&rt, SIXTEEN_EMPTY_SQUARES, Side::Black);
-    let alone = begun_beside(alloc, position, Vec::new(alloc))?;
-    assert!(rt; alone.len() == MOVES);
-    let mut searching = Vec::new(alloc);
-    for index in SEARCHED_BY_OTHERS {
-        searching.push(alone[index].unwrap_or(position))?;
-    }
-    let shared = begun_beside(alloc, position, searching)?;
-    for at in 0..MOVES {
-        assert!(rt; shared.get(at) == alone.get(ORDER[at]) && alone[at] != Some(position));
+    for (discs, moves, eldest) in ROWS {
+        let position = pos_of(&rt, discs, Side::Black);
+        let alone = begun_beside(alloc, position, Vec::new(alloc))?;
+        assert!(rt; alone.len() == moves);
+        let mut searching = Vec::new(alloc);
+        let mut expected = Vec::new(alloc);
+        let mut left = Vec::new(alloc);
+        for (index, child) in alone.iter().enumerate() {
+            let is_left = index == eldest || index == eldest.wrapping_add(2);
+            if index < eldest || is_left {
+                searching.push(child.unwrap_or(position))?;
+            }
+            if is_left {
+                left.push(*child)?;
+            } else {
+                expected.push(*child)?;
+            }
+        }
+        for child in &left {
+            expected.push(*child)?;
+        }
+        let shared = begun_beside(alloc, position, searching)?;
+        assert!(rt; shared == expected && !shared.contains(&Some(position)));
     }
     Ok(())
 }

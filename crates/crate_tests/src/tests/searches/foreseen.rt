@@ -1,0 +1,88 @@
+//! What threads that search one position foresee, each for all.
+
+ghost use Rattle.std.specs.Prelude.{◌≡◌};
+ghost use Rattle.othello_rules.specs.declared.scoring.Scoring.TheVariants.{Winner};
+
+use super::super::worked::{Discs, pos_of, task_of};
+use bound_table::{BoundTable, Bounds, Foreseen, Range};
+use endgame_search::{Task, solve};
+use othello_bits::Pos;
+use othello_rules::{Scoring, Side};
+use std::alloc::Global;
+use std::cell::Cell;
+use std::test::Fail;
+
+// -OOO-O-- XOOO-O-- OXXOXOOX -OOXOOO- XOXOXXOO O-XOXXO- --XXOOOO XXXO--O-: 16 empty squares
+const SIXTEEN_EMPTY_SQUARES: Discs = (0x70c_3435_0896_0100, 0x48f0_49ca_7669_2e2e);
+
+// Says of each position what others have noted, or else what the table has noted, and counts what is
+// noted, and the evaluations.
+#[derive(Drop)]
+struct Notes {
+    table: BoundTable,
+    by_others: Option<Foreseen>,
+    noted: Cell<u32>,
+    evaluations: Cell<u32>,
+}
+
+impl Bounds for Notes {
+    ghost scoring = { λ notes. notes.table.scoring };
+
+    fn scoring(&self) -> Scoring {
+        self.table.scoring()
+    }
+
+    fn probe(&self, position: &Pos) -> Option<Range> {
+        self.table.probe(position)
+    }
+
+    fn store(&self, position: &Pos, range: Range) {
+        self.table.store(position, range);
+    }
+
+    fn foreseen(&self, position: &Pos, respect: u16) -> Foreseen {
+        match self.by_others {
+            Some(foreseen) => foreseen,
+            None => self.table.foreseen(position, respect),
+        }
+    }
+
+    fn note_foreseen(&self, position: &Pos, respect: u16, foreseen: Foreseen) {
+        self.noted.set(self.noted.get().wrapping_add(1));
+        self.table.note_foreseen(position, respect, foreseen);
+    }
+
+    fn note_evaluation(&self) {
+        self.evaluations.set(self.evaluations.get().wrapping_add(1));
+    }
+}
+
+// What is noted, and how many evaluations are made.
+fn count(alloc: Global, task: Task, by_others: Option<Foreseen>) -> Result<(u32, u32), Fail>
+    requires { task.scoring ≡ Winner }
+{
+    let notes = Notes {
+        table: BoundTable::new(alloc, 65_536, Scoring::Winner)?,
+        by_others,
+        noted: Cell::new(0),
+        evaluations: Cell::new(0),
+    };
+    let _ = solve(&notes, task);
+    Ok((notes.noted.get(), notes.evaluations.get()))
+}
+
+// What is noted is not looked at again. A thread looks itself at what others have begun, once.
+#[test]
+fn what_threads_foresee_is_found_once(rt: HostRuntime) -> Result<(), Fail> {
+    let alloc = rt.alloc();
+    let position = pos_of(&rt, SIXTEEN_EMPTY_SQUARES, Side::Black);
+    let task = task_of(&rt, position, Scoring::Winner);
+    let (_, plain) = count(alloc, task, Some(Foreseen::Unkept))?;
+    let (_, begun) = count(alloc, task, Some(Foreseen::Begun))?;
+    let (_, found) = count(alloc, task, Some(Foreseen::Worth(512)))?;
+    let (noted, own) = count(alloc, task, None)?;
+    assert!(rt; begun == plain);
+    assert!(rt; found < plain);
+    assert!(rt; own <= plain && noted > 0);
+    Ok(())
+}
