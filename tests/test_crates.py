@@ -11,7 +11,7 @@ TESTS = (
     "written_lines::", "fault_texts::", "tables::", "searches::", "books::find::", "boards::limits::",
     "boards::memory::", "boards::steps::", "prints_a_front", "a_full_writer", "a_desk_on_one_thread",
     "a_clients_memory", "gives_a_book", "clients_alone", "clients_are_refused", "gates_are_called", "a_refused_finish",
-    "a_refused_submit",
+    "a_refused_submit", "an_unread_text",
 )
 # Tests that each refused request ends, and the number of their requests (None: any number). They show that a lack of
 # memory is reported before all other faults, and that nothing is requested after the last step that can report it.

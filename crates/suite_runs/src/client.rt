@@ -72,10 +72,10 @@ fn receive_all<R: Wait, T: Bounds, G: Gate>(
     unreachable!()
 }
 
-/// Submits the tasks of the lines, and then closes the client's sender in any case, since
-/// workers wait until each sender is closed. Returns the lines. `Memory` if `read` is
-/// an error, or if a submit was refused for memory; `Mixed` for any other refusal of the desk.
-pub fn send_and_close<R: Wait>(
+// Submits the tasks of the lines, and then closes the client's sender in any case, since
+// workers wait until each sender is closed. Returns the lines. `Memory` if `read` is
+// an error, or if a submit was refused for memory; `Mixed` for any other refusal of the desk.
+fn send_and_close<R: Wait>(
     rt: &R,
     desk: &Desk,
     client: &mut Client,

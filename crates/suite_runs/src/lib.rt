@@ -11,11 +11,11 @@
 //! ```
 //!
 //! Programs call `solve_files`. `run` is for callers that want reports and book at once, and
-//! `run_serial` for those without threads. The modules `client`, `joined`, `solver`, `started_client`
-//! and `worker` are public for the tests, which are in `crate_tests`.
+//! `run_serial` for those without threads. `worker_part` and the modules `joined` and `started_client`
+//! are public for the tests, which are in `crate_tests`.
 #![tactic(auto)]
 
-pub mod client;
+mod client;
 mod gate;
 pub mod joined;
 pub mod laws;
@@ -26,10 +26,10 @@ mod runs;
 mod serial;
 mod shared;
 mod solved_files;
-pub mod solver;
+mod solver;
 pub mod started_client;
 mod threads;
-pub mod worker;
+mod worker;
 
 pub use gate::{Gate, NoGate};
 pub use outcome::Outcome;
@@ -38,3 +38,4 @@ pub use run_fault::RunFault;
 pub use runs::{run, run_serial};
 pub use solved_files::SolvedFiles;
 pub use threads::solve_files;
+pub use worker::worker_part;

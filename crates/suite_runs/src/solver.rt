@@ -12,21 +12,21 @@ use std::alloc::{AllocError, Global};
 
 /// A table of bounds, and the claims of a book if one was read. Tasks are solved by it.
 #[derive(Drop)]
-pub struct Solver<'a, T: Bounds> {
+pub(crate) struct Solver<'a, T: Bounds> {
     table: &'a T,
     claims: Option<&'a Claims>,
 }
 
 impl<'a, T: Bounds> Solver<'a, T> {
     /// Solves over this table, with these claims.
-    pub fn new(table: &'a T, claims: Option<&'a Claims>) -> Solver<'a, T>
+    pub(crate) fn new(table: &'a T, claims: Option<&'a Claims>) -> Solver<'a, T>
         ensures { result.table.now ≡ table.now }
     {
         Solver { table, claims }
     }
 
     /// The scoring of the table.
-    pub fn scoring(&self) -> Scoring
+    pub(crate) fn scoring(&self) -> Scoring
         ensures { result ≡ T.scoring self.now.table.now }
     {
         self.table.scoring()
@@ -51,7 +51,7 @@ impl<'a, T: Bounds> Solver<'a, T> {
 
     /// The task's position with its exact answer. `confirm` returns it if the position has a
     /// claim, otherwise `solve`.
-    pub fn answer(&self, task: Task) -> Solved
+    pub(crate) fn answer(&self, task: Task) -> Solved
         requires { task.scoring ≡ T.scoring self.now.table.now }
         ensures { result ≡ task }
     {

@@ -9,15 +9,16 @@ use crate::run_fault::RunFault;
 use crate::solver::Solver;
 use bound_table::Bounds;
 use job_board::{Client, Desk, Errand, Job, Mixed, SharedJob, Turn};
+use solved_book::Claims;
 use std::sync::Wait;
 
 /// What a thread needs to solve the jobs of a desk: the desk, a solver, and the gate that is called
 /// for each job.
 #[derive(Drop)]
-pub struct Worker<'a, T: Bounds, G: Gate> {
-    pub desk: &'a Desk,
-    pub solver: Solver<'a, T>,
-    pub gate: &'a G,
+pub(crate) struct Worker<'a, T: Bounds, G: Gate> {
+    pub(crate) desk: &'a Desk,
+    pub(crate) solver: Solver<'a, T>,
+    pub(crate) gate: &'a G,
 }
 
 impl<'a, T: Bounds, G: Gate> Worker<'a, T, G> {
@@ -87,7 +88,7 @@ impl<'a, T: Bounds, G: Gate> Worker<'a, T, G> {
     /// with those that other threads have taken, with each once. It ends early after a job under a
     /// scoring other than the table's, and after an answer that the desk refuses. It may wait for
     /// other threads.
-    pub fn work<R: Wait>(&self, rt: &R) {
+    pub(crate) fn work<R: Wait>(&self, rt: &R) {
         let mut helped = 0;
         for _ in rt.forever() {
             match self.take(rt, helped) {
@@ -101,4 +102,21 @@ impl<'a, T: Bounds, G: Gate> Worker<'a, T, G> {
             }
         }
     }
+}
+
+/// Does the whole part of a worker: `Worker::work` at this desk, over this table and with these claims.
+/// Programs have workers by `solve_files`; a test gives them a table that counts.
+pub fn worker_part<R: Wait, T: Bounds, G: Gate>(
+    rt: &R,
+    desk: &Desk,
+    table: &T,
+    claims: Option<&Claims>,
+    gate: &G,
+) {
+    let worker = Worker {
+        desk,
+        solver: Solver::new(table, claims),
+        gate,
+    };
+    worker.work(rt);
 }

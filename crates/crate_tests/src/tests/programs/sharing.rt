@@ -16,8 +16,7 @@ use std::test::Fail;
 use std::thread;
 use std::thread::Threads;
 use std::time::{Clock, Duration};
-use suite_runs::solver::Solver;
-use suite_runs::worker::Worker;
+use suite_runs::worker_part;
 use suite_solver::laws::client_part;
 use suite_solver::{Gate, NoGate};
 
@@ -175,12 +174,14 @@ fn play<R: Wait + Clock>(
         scene.gate.open(rt);
         return None;
     }
-    let worker = Worker {
-        desk: &scene.desk,
-        solver: Solver::new(&scene.counter, scene.claims),
-        gate: &scene.gate,
-    };
-    worker.work(rt);
+    let Scene {
+        claims,
+        desk,
+        counter,
+        gate,
+        ..
+    } = scene;
+    worker_part(rt, desk, counter, *claims, gate);
     None
 }
 
