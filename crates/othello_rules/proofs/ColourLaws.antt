@@ -68,8 +68,8 @@ painted_from-swap : (c : Cell) (qs : List ℕ) (n : ℕ) (xs : List Cell)
 painted_from-swap c qs n [] = refl
 painted_from-swap c qs n (x ∷ xs) =
     let rest : map (painted_cell (swap_cell c) qs) (enumerate_from (n + 1) (map swap_cell xs))
-        ≡ map swap_cell (map (painted_cell c qs) (enumerate_from (n + 1) xs)) =
-        painted_from-swap c qs (n + 1) xs in
+    ≡ map swap_cell (map (painted_cell c qs) (enumerate_from (n + 1) xs)) =
+    painted_from-swap c qs (n + 1) xs in
     elim (cases_Bool (list_any (nat_eq n) qs)) [ inl b ↦ rw (b, rest) refl | inr b ↦ rw (b, rest) refl ]
 
 pub play-swapped : (P : GridView) (q : ℕ) → play (colour_swap P) q ≡ colour_swap (play P q)
@@ -86,9 +86,9 @@ final-swapped : (g : Scoring) (P : GridView) → final g (colour_swap P) ≡ fin
 unfolding final
 final-swapped g P =
     let m : count_of (colour_swap P) (own (colour_swap P)) ≡ count_of P (own P) =
-        ap (λ c. count_by (same_cell c) (map swap_cell P.cells)) (disc-other P.mover) ∙ count-swap (own P) P.cells in
+    ap (λ c. count_by (same_cell c) (map swap_cell P.cells)) (disc-other P.mover) ∙ count-swap (own P) P.cells in
     let o : count_of (colour_swap P) (opposing (colour_swap P)) ≡ count_of P (opposing P) =
-        ap (λ c. count_by (same_cell c) (map swap_cell P.cells)) (disc-other (other P.mover)) ∙ count-swap (opposing P) P.cells in
+    ap (λ c. count_by (same_cell c) (map swap_cell P.cells)) (disc-other (other P.mover)) ∙ count-swap (opposing P) P.cells in
     let e : count_of (colour_swap P) cell.Empty ≡ count_of P cell.Empty = count-swap cell.Empty P.cells in
     λ i. score_of g (m i) (o i) (e i)
 
@@ -116,7 +116,7 @@ value_at-swapped g (suc n) P =
                 ∙ sym (value_at-pass g n P h k)
             | inr k ↦
                 value_at-over g (suc n) (colour_swap P) (can_move-swapped P ∙ h) (can_move-swapped (pass P) ∙ k)
-                    ∙ final-swapped g P ∙ sym (value_at-over g (suc n) P h k)
+                ∙ final-swapped g P ∙ sym (value_at-over g (suc n) P h k)
           ]
     ]
 

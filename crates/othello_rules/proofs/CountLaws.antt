@@ -65,13 +65,13 @@ played_like_set : (P : GridView) (q : ℕ) → has P cell.Empty q ≡ true → (
     ≡ same_cell cell.Empty (get_or (set P.cells q (own P)) k cell.Empty)
 played_like_set P q vacant k h =
     let after : get_or (painted_cells (own P) (q ∷ flips P q) P.cells) k cell.Empty
-        ≡ cond (nat_eq k q || list_any (nat_eq k) (flips P q)) (own P) (get_or P.cells k cell.Empty) =
+    ≡ cond (nat_eq k q || list_any (nat_eq k) (flips P q)) (own P) (get_or P.cells k cell.Empty) =
     get_or-painted (own P) (q ∷ flips P q) P.cells k cell.Empty h in
     elim (cases_eq k q) [
       | inl same ↦
           let on : nat_eq k q ≡ true = eq-eqb k q same in
           let placed : get_or (set P.cells q (own P)) k cell.Empty ≡ own P =
-              rw same (get_or-set_same P.cells q (own P) cell.Empty (has_within P cell.Empty q vacant)) in
+          rw same (get_or-set_same P.cells q (own P) cell.Empty (has_within P cell.Empty q vacant)) in
           rw (after, on, placed) refl
       | inr apart ↦
           let off : nat_eq k q ≡ false = ne_eqb k q apart in
@@ -95,7 +95,7 @@ empties-play P q h =
     (simp (length-painted, length-set))
     (λ k b. played_like_set P q vacant k (rw length-painted at b)) in
     let written : count_by (same_cell cell.Empty) (set P.cells q (own P))
-        + cond (same_cell cell.Empty (get_or P.cells q cell.Empty)) 1 0 ≡ count_by (same_cell cell.Empty) P.cells + cond (same_cell cell.Empty (own P)) 1 0 =
+    + cond (same_cell cell.Empty (get_or P.cells q cell.Empty)) 1 0 ≡ count_by (same_cell cell.Empty) P.cells + cond (same_cell cell.Empty (own P)) 1 0 =
     sum_by-set (λ c. cond (same_cell cell.Empty c) 1 0) P.cells q (own P) cell.Empty (has_within P cell.Empty q vacant) in
     let was : same_cell cell.Empty (get_or P.cells q cell.Empty) ≡ true = has_get_or P cell.Empty q cell.Empty vacant in
     let is_now : same_cell cell.Empty (own P) ≡ false = disc-not_empty P.mover in

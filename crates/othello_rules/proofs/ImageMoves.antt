@@ -42,7 +42,7 @@ closes-map own opp mine there f (x ∷ xs) g h =
     let first : there (f x) ≡ opp x = h x (Contains-head x xs) in
     let last : mine (f x) ≡ own x = g x (Contains-head x xs) in
     let rest : closes mine there (map f xs) ≡ closes own opp xs =
-        closes-map own opp mine there f xs (λ s c. g s (Contains-cons x xs s c)) (λ s c. h s (Contains-cons x xs s c)) in
+    closes-map own opp mine there f xs (λ s c. g s (Contains-cons x xs s c)) (λ s c. h s (Contains-cons x xs s c)) in
     λ i. cond (first i) (rest i) (last i)
 
 -- in the direction that d becomes, the images are turned
@@ -53,11 +53,11 @@ turned-sent r P q d e full b c same =
     let P' : GridView = image_by r.back P in
     let mine : (s : ℕ) → Contains (ray d q) s → has P' (own P) (r.to s) ≡ has P (own P) s = λ s m. has-sent r P (own P) s full (ray_on_board q d s b c m) in
     let there : (s : ℕ) → Contains (ray d q) s → has P' (opposing P) (r.to s) ≡ has P (opposing P) s =
-        λ s m. has-sent r P (opposing P) s full (ray_on_board q d s b c m) in
+    λ s m. has-sent r P (opposing P) s full (ray_on_board q d s b c m) in
     let ran : run (has P' (opposing P)) (map r.to (ray d q)) ≡ map r.to (run (has P (opposing P)) (ray d q)) =
-        run-map (has P (opposing P)) (has P' (opposing P)) r.to (ray d q) there in
+    run-map (has P (opposing P)) (has P' (opposing P)) r.to (ray d q) there in
     let closed : closes (has P' (own P)) (has P' (opposing P)) (map r.to (ray d q)) ≡ closes (has P (own P)) (has P (opposing P)) (ray d q) =
-        closes-map (has P (own P)) (has P (opposing P)) (has P' (own P)) (has P' (opposing P)) r.to (ray d q) mine there in
+    closes-map (has P (own P)) (has P (opposing P)) (has P' (own P)) (has P' (opposing P)) r.to (ray d q) mine there in
     ap (turned_on (has P' (own P)) (has P' (opposing P))) same
     ∙ (λ i. cond (closed i) (ran i) [])
     ∙ cond-map r.to (closes (has P (own P)) (has P (opposing P)) (ray d q)) (run (has P (opposing P)) (ray d q))
@@ -69,10 +69,10 @@ flips-sent r P q s full b h =
     elim (cases_Bool (has P Empty q)) [
       | inl v ↦
           let t : (d : Direction) × Contains directions d × Contains (turned P q d) s =
-              piece-flat_map (turned P q) directions s (rw (flips_empty P q v) at h) in
+          piece-flat_map (turned P q) directions s (rw (flips_empty P q v) at h) in
           let there : (e : Direction) × Contains directions e × (ray e (r.to q) ≡ map r.to (ray t.0 q)) = r.there.rays q t.0 b t.1 in
           let member : Contains (turned (image_by r.back P) (r.to q) there.0) (r.to s) =
-              rw (turned-sent r P q t.0 there.0 full b t.1 there.2) (Contains-map r.to (turned P q t.0) s t.2) in
+          rw (turned-sent r P q t.0 there.0 full b t.1 there.2) (Contains-map r.to (turned P q t.0) s t.2) in
           let vacant : has (image_by r.back P) Empty (r.to q) ≡ true = has-sent r P Empty q full b ∙ v in
           rw (flips_empty (image_by r.back P) (r.to q) vacant) (flat_map-piece (turned (image_by r.back P) (r.to q)) directions there.0 (r.to s) there.1 member)
       | inr v ↦ absurd (Contains-nil s (rw (flips_occupied P q v) at h))
@@ -123,15 +123,15 @@ is_touched r P q k full b l =
     (λ h.
     let t : Contains (r.back (r.to q) ∷ flips (image_by r.to (image_by r.back P)) (r.back (r.to q))) (r.back k) =
     touched-sent (flipped r) (image_by r.back P) (r.to q) k (length-moved_cells r.back P.cells) (r.there.on_board q b)
-        (Contains-from_any eqb-true k (r.to q ∷ flips (image_by r.back P) (r.to q)) h) in
+    (Contains-from_any eqb-true k (r.to q ∷ flips (image_by r.back P) (r.to q)) h) in
     let e : r.back (r.to q) ∷ flips (image_by r.to (image_by r.back P)) (r.back (r.to q)) ≡ q ∷ flips P q =
-        λ i. r.there.comes_back q b i ∷ flips (image_by-back r P full i) (r.there.comes_back q b i) in
+    λ i. r.there.comes_back q b i ∷ flips (image_by-back r P full i) (r.there.comes_back q b i) in
     list_any-from_Contains nat_eq_equiv (r.back k) (q ∷ flips P q) (subst (λ xs. Contains xs (r.back k)) e t))
     (λ h.
     let t : Contains (r.to q ∷ flips (image_by r.back P) (r.to q)) (r.to (r.back k)) =
-        touched-sent r P q (r.back k) full b (Contains-from_any eqb-true (r.back k) (q ∷ flips P q) h) in
+    touched-sent r P q (r.back k) full b (Contains-from_any eqb-true (r.back k) (q ∷ flips P q) h) in
     list_any-from_Contains nat_eq_equiv k (r.to q ∷ flips (image_by r.back P) (r.to q))
-        (subst (Contains (r.to q ∷ flips (image_by r.back P) (r.to q))) (r.here.comes_back k l) t))
+    (subst (Contains (r.to q ∷ flips (image_by r.back P) (r.to q))) (r.here.comes_back k l) t))
 
 -- the move on the image leads to the image
 pub play-sent : (r : Renaming) (P : GridView) (q : ℕ) → length P.cells ≡ 64 → q < 64 → play (image_by r.back P) (r.to q) ≡ image_by r.back (play P q)
@@ -142,7 +142,7 @@ play-sent r P q full b =
     same_position (play (image_by r.back P) (r.to q)) (image_by r.back (play P q)) refl
     (same_lists (painted_cells (own P) theirs (moved_cells r.back P.cells)) (moved_cells r.back (painted_cells (own P) ours P.cells))
     (length-painted (own P) theirs (moved_cells r.back P.cells) ∙ length-moved_cells r.back P.cells
-        ∙ sym (length-moved_cells r.back (painted_cells (own P) ours P.cells)))
+    ∙ sym (length-moved_cells r.back (painted_cells (own P) ours P.cells)))
     (λ k d h.
     let l : k < 64 = rw (length-painted, length-moved_cells) at h in
     let inside : k < length (moved_cells r.back P.cells) = rw length-moved_cells l in

@@ -48,7 +48,7 @@ best_of-le r v P full h same =
     let s : (q : ℕ) × Contains (moves P) q = some_move P h in
     let t : (q : ℕ) × Contains (moves P) q × (worth v P q ≡ greatest (map (worth v P) (moves P))) =
     Contains-from_map (worth v P) (moves P) (greatest (map (worth v P) (moves P)))
-        (greatest_reached (map (worth v P) (moves P)) (worth v P s.0) (Contains-map (worth v P) (moves P) s.0 s.1)) in
+    (greatest_reached (map (worth v P) (moves P)) (worth v P s.0) (Contains-map (worth v P) (moves P) s.0 s.1)) in
     let b : t.0 < 64 = square_below t.0 (move_on_board P t.0 t.1) in
     let e : worth v (image_by r.back P) (r.to t.0) ≡ greatest (map (worth v P) (moves P)) = worth-sent r v P t.0 full b same ∙ t.2 in
     subst (λ z. z ≤ℤ greatest (map (worth v (image_by r.back P)) (moves (image_by r.back P)))) e
@@ -155,9 +155,9 @@ pub answer-image_by_moves : (g : Scoring) (r : Renaming) (P : GridView) → leng
 unfolding answer mask_of
 answer-image_by_moves g r P full h =
     let m : mask_of (best_moves g (image_by r.back P)) ≡ mask_of (map r.to (best_moves g P)) =
-        sum_by-best_moves g r P (λ q. 2 ^ q) full ∙ sym (sum_by-map (λ q. 2 ^ q) r.to (best_moves g P)) in
+    sum_by-best_moves g r P (λ q. 2 ^ q) full ∙ sym (sum_by-map (λ q. 2 ^ q) r.to (best_moves g P)) in
     let b : best g (image_by r.back P) ≡ Moves (mask_of (map r.to (best_moves g P))) =
-        best_is_moves g (image_by r.back P) (can_move-image_by r P full ∙ h) ∙ ap Moves m in
+    best_is_moves g (image_by r.back P) (can_move-image_by r P full ∙ h) ∙ ap Moves m in
     λ i. record { score = value-image_by g r P full i; best = b i }
 
 pub answer-image_by_none : (g : Scoring) (r : Renaming) (P : GridView) → length P.cells ≡ 64 → can_move P ≡ false → answer g (image_by r.back P) ≡ answer g P

@@ -52,7 +52,7 @@ pub first_mask_worse : (g : Scoring) (P : GridView) (n : ℕ) → n < 64 → is_
 unfolding first_mask
 first_mask_worse g P n h m b =
     let rest : filter (is_best g P) (first_moves P n) ++ cond (is_best g P n) (n ∷ []) [] ≡ filter (is_best g P) (first_moves P n) =
-        rw b (append-nil (filter (is_best g P) (first_moves P n))) in
+    rw b (append-nil (filter (is_best g P) (first_moves P n))) in
     ap mask_of (filter_step g P n h m ∙ rest)
 
 pub first_mask_all : (g : Scoring) (P : GridView) (n : ℕ) → 64 ≤ n → first_mask g P n ≡ mask_of (best_moves g P)

@@ -36,7 +36,7 @@ set-painted c qs s xs =
     (λ k d h.
     let within : k < length xs = simp (length-set, length-painted) at h in
     let right : get_or (painted_cells c (qs ++ s ∷ []) xs) k d ≡ cond (list_any (nat_eq k) (qs ++ s ∷ [])) c (get_or xs k d) =
-        get_or-painted c (qs ++ s ∷ []) xs k d within in
+    get_or-painted c (qs ++ s ∷ []) xs k d within in
     let left : get_or (painted_cells c qs xs) k d ≡ cond (list_any (nat_eq k) qs) c (get_or xs k d) = get_or-painted c qs xs k d within in
     let tests : list_any (nat_eq k) (qs ++ s ∷ []) ≡ (list_any (nat_eq k) qs || (nat_eq k s || false)) = list_any-append (nat_eq k) qs (s ∷ []) in
     let placed : s < length (painted_cells c qs xs) → get_or (set (painted_cells c qs xs) s c) s d ≡ c = get_or-set_same (painted_cells c qs xs) s c d in

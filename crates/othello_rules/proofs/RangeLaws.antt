@@ -83,8 +83,8 @@ value_at-IsScore g (suc n) P h =
           elim (cases_Bool (can_move (pass P))) [
             | inl d ↦
                 rw (b, d, value_at)
-                    (neg-IsScore (best_worth (value_at g n) (pass P))
-                    (best_of-IsScore (value_at g n) (pass P) d (λ q. value_at-IsScore g n (play (pass P) q) (rw length-play h))))
+                (neg-IsScore (best_worth (value_at g n) (pass P))
+                (best_of-IsScore (value_at g n) (pass P) d (λ q. value_at-IsScore g n (play (pass P) q) (rw length-play h))))
             | inr d ↦ rw (b, d, value_at) (final-IsScore g P h)
           ]
     ]

@@ -42,16 +42,16 @@ Keeps-from_tests to back h k = record {
   comes_back = λ q b. eqb-true (back (to q)) q (at q b).1;
   rays =
       λ q d b c. found q d
-          (member-list_any (λ e. same_list (ray e (to q)) (map to (ray d q))) directions (list_all-member (ray_fits to q) directions d (at q b).2 c));
+      (member-list_any (λ e. same_list (ray e (to q)) (map to (ray d q))) directions (list_all-member (ray_fits to q) directions d (at q b).2 c));
   sums = λ f. sum_by-reordered f (map to squares) squares k;
 }
   where
     at : (q : ℕ) → q < 64 → (ltb (to q) 64 ≡ true) × (eqb (back (to q)) q ≡ true) × (list_all (ray_fits to q) directions ≡ true)
     at q b =
         let one : (ltb (to q) 64 ≡ true) × ((eqb (back (to q)) q && list_all (ray_fits to q) directions) ≡ true) =
-            and_parts (ltb (to q) 64) (eqb (back (to q)) q && list_all (ray_fits to q) directions) (agree_below_at (fits to back) (λ q. true) 64 q h b) in
+        and_parts (ltb (to q) 64) (eqb (back (to q)) q && list_all (ray_fits to q) directions) (agree_below_at (fits to back) (λ q. true) 64 q h b) in
         let two : (eqb (back (to q)) q ≡ true) × (list_all (ray_fits to q) directions ≡ true) =
-            and_parts (eqb (back (to q)) q) (list_all (ray_fits to q) directions) one.1 in
+        and_parts (eqb (back (to q)) q) (list_all (ray_fits to q) directions) one.1 in
         (one.0, two.0, two.1)
 
     found : (q : ℕ) (d : Direction) → (e : Direction) × Contains directions e × (same_list (ray e (to q)) (map to (ray d q)) ≡ true)
@@ -65,7 +65,7 @@ ray_on_board q d s b c m =
     ltb-true s 64
     (list_all-member (λ s. ltb s 64) (ray d q) s
     (list_all-member (λ d. list_all (λ s. ltb s 64) (ray d q)) directions d
-        (agree_below_at (λ q. list_all (λ d. list_all (λ s. ltb s 64) (ray d q)) directions) (λ q. true) 64 q refl b) c)
+    (agree_below_at (λ q. list_all (λ d. list_all (λ s. ltb s 64) (ray d q)) directions) (λ q. true) 64 q refl b) c)
     m)
 
 -- the cells of an image
@@ -86,7 +86,7 @@ pub image_by-image_by : (f g h : ℕ → ℕ) (P : GridView) → ((q : ℕ) → 
 image_by-image_by f g h P within same =
     same_position (image_by f (image_by g P)) (image_by h P) refl
     (same_lists (moved_cells f (moved_cells g P.cells)) (moved_cells h P.cells)
-        (length-moved_cells f (moved_cells g P.cells) ∙ sym (length-moved_cells h P.cells))
+    (length-moved_cells f (moved_cells g P.cells) ∙ sym (length-moved_cells h P.cells))
     (λ k d b.
     let l : k < 64 = rw length-moved_cells at b in
     get_or-moved_cells f (moved_cells g P.cells) k d l

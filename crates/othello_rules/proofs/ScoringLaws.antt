@@ -138,5 +138,5 @@ best_under_sign g P q h =
     let move : Contains (moves P) q = Contains-from_filter (is_best g P) (moves P) q h in
     let equal : worth (value g) P q ≡ value g P = (Decides-int_eq (worth (value g) P q) (value g P)).0 (passes_in_filter (is_best g P) (moves P) q h) in
     let signs : worth (value Sign) P q ≡ value Sign P =
-        sym (signum-worth (value g) (value Sign) P q (signum-value g (play P q))) ∙ ap int_signum equal ∙ signum-value g P in
+    sym (signum-worth (value g) (value Sign) P q (signum-value g (play P q))) ∙ ap int_signum equal ∙ signum-value g P in
     Contains-filter (is_best Sign P) (moves P) q move (is_best_yes Sign P q signs)

@@ -15,21 +15,21 @@ pub loop-square-preserved : goal.loop-square-preserved
 loop-square-preserved c =
     let item : ℕ = get_or c.all.result c.loop-square.square-index c.square-item.result in
     let at : item ≡ c.loop-square.square-index =
-        item_of_squares c.all.result c.loop-square.square-index c.square-item.result c.all.ensures c.loop-square-test.true in
+    item_of_squares c.all.result c.loop-square.square-index c.square-item.result c.all.ensures c.loop-square-test.true in
     let test : in_mask c.args.mask c.loop-square.square-index ≡ c.has_square.result = ap (in_mask c.args.mask) (sym at) ∙ sym c.has_square.ensures in
     elim c.if-has_square.branch [
       | then-has_square w ↦
           record {
             items =
                 rw (w.squares-is, w.push.ensures.items, at, c.loop-square.invariant.items)
-                    (sym (first_squares_yes (in_mask c.args.mask) c.loop-square.square-index c.loop-square-test.true (test ∙ w.if-has_square.true)));
+                (sym (first_squares_yes (in_mask c.args.mask) c.loop-square.square-index c.loop-square-test.true (test ∙ w.if-has_square.true)));
             len = rw w.squares-is (omega (arith, w.push.ensures.len));
           }
       | else-has_square w ↦
           record {
             items =
                 rw (w.squares-is, c.loop-square.invariant.items)
-                    (sym (first_squares_no (in_mask c.args.mask) c.loop-square.square-index c.loop-square-test.true (test ∙ w.if-has_square.false)));
+                (sym (first_squares_no (in_mask c.args.mask) c.loop-square.square-index c.loop-square-test.true (test ∙ w.if-has_square.false)));
             len = rw w.squares-is (omega arith);
           }
     ]

@@ -18,7 +18,7 @@ pub loop-square-preserved : goal.loop-square-preserved
 loop-square-preserved c =
     let item : ℕ = get_or c.all.result c.loop-square.square-index c.square-item.result in
     let at : item ≡ c.loop-square.square-index =
-        item_of_squares c.all.result c.loop-square.square-index c.square-item.result c.all.ensures c.loop-square-test.true in
+    item_of_squares c.all.result c.loop-square.square-index c.square-item.result c.all.ensures c.loop-square-test.true in
     elim c.match-play.branch [
       | in-Ok+then-worth-score w ↦
           let legal : is_move c.args.self.now c.loop-square.square-index ≡ true =
@@ -26,17 +26,17 @@ loop-square-preserved c =
           let next_is : w.in-Ok.next ≡ play c.args.self.now c.loop-square.square-index = w.in-Ok.ensures.ok ∙ ap (play c.args.self.now) at in
           let kept_reply : to_z w8 (of_z w8 w.plain_value-reply.result) ≡ w.plain_value-reply.result = omega (arith, ints) in
           let worth_is : w.negate-worth.result ≡ worth (value c.args.scoring) c.args.self.now c.loop-square.square-index =
-              w.negate-worth.ensures.value ∙ ap neg_ℤ (kept_reply ∙ w.plain_value-reply.ensures.value ∙ ap (value c.args.scoring) next_is) in
+          w.negate-worth.ensures.value ∙ ap neg_ℤ (kept_reply ∙ w.plain_value-reply.ensures.value ∙ ap (value c.args.scoring) next_is) in
           let same : w.negate-worth.result ≡ c.args.score = omega (arith, ints) in
           let best : is_best c.args.scoring c.args.self.now c.loop-square.square-index ≡ true =
-              is_best_yes c.args.scoring c.args.self.now c.loop-square.square-index (sym worth_is ∙ same ∙ c.requires) in
+          is_best_yes c.args.scoring c.args.self.now c.loop-square.square-index (sym worth_is ∙ same ∙ c.requires) in
           let bit : 1 * 2 ^ w.number.result % 2 ^ 64 ≡ 2 ^ c.loop-square.square-index =
-              ap (λ n. 1 * 2 ^ n % 2 ^ 64) (w.number.ensures.value ∙ at) ∙ one_shl c.loop-square.square-index 64 c.loop-square-test.true in
+          ap (λ n. 1 * 2 ^ n % 2 ^ 64) (w.number.ensures.value ∙ at) ∙ one_shl c.loop-square.square-index 64 c.loop-square-test.true in
           let mask_is : c.match-play.mask ≡ c.loop-square.mask + 2 ^ c.loop-square.square-index = w.mask-is ∙ ap (λ n. c.loop-square.mask + n) bit in
           record {
             value =
                 mask_is ∙ ap (λ n. n + 2 ^ c.loop-square.square-index) c.loop-square.invariant.value
-                    ∙ sym (first_mask_best c.args.scoring c.args.self.now c.loop-square.square-index c.loop-square-test.true legal best);
+                ∙ sym (first_mask_best c.args.scoring c.args.self.now c.loop-square.square-index c.loop-square-test.true legal best);
             below = omega (arith, mask_is, pow-add 2 c.loop-square.square-index 1);
           }
       | in-Ok+else-worth-score w ↦
@@ -45,14 +45,14 @@ loop-square-preserved c =
           let next_is : w.in-Ok.next ≡ play c.args.self.now c.loop-square.square-index = w.in-Ok.ensures.ok ∙ ap (play c.args.self.now) at in
           let kept_reply : to_z w8 (of_z w8 w.plain_value-reply.result) ≡ w.plain_value-reply.result = omega (arith, ints) in
           let worth_is : w.negate-worth.result ≡ worth (value c.args.scoring) c.args.self.now c.loop-square.square-index =
-              w.negate-worth.ensures.value ∙ ap neg_ℤ (kept_reply ∙ w.plain_value-reply.ensures.value ∙ ap (value c.args.scoring) next_is) in
+          w.negate-worth.ensures.value ∙ ap neg_ℤ (kept_reply ∙ w.plain_value-reply.ensures.value ∙ ap (value c.args.scoring) next_is) in
           let apart : w.negate-worth.result ≡ c.args.score → ⊥ = λ e. w.if-worth-score.false (ap (of_z w8) e) in
           let worse : is_best c.args.scoring c.args.self.now c.loop-square.square-index ≡ false =
           is_best_no c.args.scoring c.args.self.now c.loop-square.square-index (λ e. apart (worth_is ∙ e ∙ sym c.requires)) in
           record {
             value =
                 w.mask-is ∙ c.loop-square.invariant.value
-                    ∙ sym (first_mask_worse c.args.scoring c.args.self.now c.loop-square.square-index c.loop-square-test.true legal worse);
+                ∙ sym (first_mask_worse c.args.scoring c.args.self.now c.loop-square.square-index c.loop-square-test.true legal worse);
             below = omega (arith, pow-add 2 c.loop-square.square-index 1);
           }
       | in_default w ↦
@@ -63,7 +63,7 @@ loop-square-preserved c =
           record {
             value =
                 w.mask-is ∙ c.loop-square.invariant.value
-                    ∙ sym (first_mask_no c.args.scoring c.args.self.now c.loop-square.square-index c.loop-square-test.true illegal);
+                ∙ sym (first_mask_no c.args.scoring c.args.self.now c.loop-square.square-index c.loop-square-test.true illegal);
             below = omega (arith, pow-add 2 c.loop-square.square-index 1);
           }
     ]

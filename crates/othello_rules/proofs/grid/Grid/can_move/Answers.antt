@@ -15,7 +15,7 @@ pub loop-square-preserved : goal.loop-square-preserved
 loop-square-preserved c =
     let item : ℕ = get_or c.all.result c.loop-square.square-index c.square-item.result in
     let at : item ≡ c.loop-square.square-index =
-        item_of_squares c.all.result c.loop-square.square-index c.square-item.result c.all.ensures c.loop-square-test.true in
+    item_of_squares c.all.result c.loop-square.square-index c.square-item.result c.all.ensures c.loop-square-test.true in
     below_more _ _ c.loop-square.invariant
     (false_from_ne_true (is_move c.args.self.now c.loop-square.square-index) (λ t.
     let m : Contains (moves c.args.self.now) item = rw at (Contains-moves c.args.self.now c.loop-square.square-index c.loop-square-test.true t) in

@@ -11,13 +11,16 @@ pub loop-direction-preserved : goal.loop-direction-preserved
 unfolding directions
 loop-direction-preserved c =
     let h : c.push_turned.new.out.items ≡ c.loop-direction.out.items
-        ++ turned c.args.self.now c.args.square (get_or directions c.loop-direction.direction-index (towards Back Back)) =
-        c.push_turned.ensures.items in
+    ++ turned c.args.self.now c.args.square (get_or directions c.loop-direction.direction-index (towards Back Back)) =
+    c.push_turned.ensures.items in
     let in_list : c.loop-direction.direction-index < length directions = c.loop-direction-test.true in
     record {
       items =
-          rw (h, c.loop-direction.invariant.items,
-              flat_map-take_more (turned c.args.self.now c.args.square) directions c.loop-direction.direction-index (towards Back Back) in_list) refl;
+          rw (
+            h,
+            c.loop-direction.invariant.items,
+            flat_map-take_more (turned c.args.self.now c.args.square) directions c.loop-direction.direction-index (towards Back Back) in_list,
+          ) refl;
       len = omega arith;
     }
 
@@ -25,7 +28,7 @@ pub returns-after-loop-direction-clause-value : goal.returns-after-loop-directio
 unfolding directions
 returns-after-loop-direction-clause-value c =
     let whole : take c.loop-direction.direction-index directions ≡ directions =
-        take_all c.loop-direction.direction-index directions c.loop-direction-test.false in
+    take_all c.loop-direction.direction-index directions c.loop-direction-test.false in
     c.loop-direction.invariant.items ∙ rw (whole, flips_empty c.args.self.now c.args.square cc) refl
 
 pub returns-else-has-clause-value : goal.returns-else-has-clause-value

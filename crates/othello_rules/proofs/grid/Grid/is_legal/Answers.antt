@@ -6,5 +6,5 @@ use Rattle.othello_rules.proofs.grid.Grid.is_legal.Goals as goal
 pub returns-clause-value : goal.returns-clause-value
 returns-clause-value c =
     let m : is_move c.args.self.now c.args.square ≡ not c.is_empty.result =
-        is_move-is_empty c.args.self.now c.args.square c.flips.result.items c.is_empty.result c.flips.ensures.value c.is_empty.ensures in
+    is_move-is_empty c.args.self.now c.args.square c.flips.result.items c.is_empty.result c.flips.ensures.value c.is_empty.ensures in
     (λ t. Contains-moves c.args.self.now c.args.square c.flips.ensures.on_board (m ∙ t), λ h. sym m ∙ is_move-from_Contains c.args.self.now c.args.square h)

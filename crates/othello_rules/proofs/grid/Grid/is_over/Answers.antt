@@ -9,7 +9,7 @@ pub returns-then-not-can_move : goal.returns-then-not-can_move
 returns-then-not-can_move c =
     let stuck : can_move c.args.self.now ≡ false = sym c.can_move.ensures ∙ c.if-not-can_move.true in
     let other_stuck : c.can_move-then-not-can_move.result ≡ can_move (pass c.args.self.now) =
-        c.can_move-then-not-can_move.ensures ∙ ap can_move c.pass.ensures in (
+    c.can_move-then-not-can_move.ensures ∙ ap can_move c.pass.ensures in (
       λ t. (moves_none c.args.self.now stuck, moves_none (pass c.args.self.now) (sym other_stuck ∙ not-true c.can_move-then-not-can_move.result t)),
       λ h. ap not (other_stuck ∙ can_move-moves_none (pass c.args.self.now) h.1),
     )

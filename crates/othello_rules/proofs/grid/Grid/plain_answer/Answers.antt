@@ -13,12 +13,12 @@ best_is c =
           w.best-is ∙ ap Moves w.best_mask-mask.ensures ∙ sym (best_is_moves c.args.scoring c.args.self.now (sym c.can_move.ensures ∙ w.if-can_move.true))
       | else-can_move+then-can_move-2 w ↦
           w.best-is
-              ∙ sym (best_is_pass c.args.scoring c.args.self.now (sym c.can_move.ensures ∙ w.if-can_move.false)
-              (ap can_move (sym w.pass.ensures) ∙ sym w.can_move-else-can_move.ensures ∙ w.if-can_move-2.true))
+          ∙ sym (best_is_pass c.args.scoring c.args.self.now (sym c.can_move.ensures ∙ w.if-can_move.false)
+          (ap can_move (sym w.pass.ensures) ∙ sym w.can_move-else-can_move.ensures ∙ w.if-can_move-2.true))
       | else-can_move+else-can_move-2 w ↦
           w.best-is
-              ∙ sym (best_is_over c.args.scoring c.args.self.now (sym c.can_move.ensures ∙ w.if-can_move.false)
-              (ap can_move (sym w.pass.ensures) ∙ sym w.can_move-else-can_move.ensures ∙ w.if-can_move-2.false))
+          ∙ sym (best_is_over c.args.scoring c.args.self.now (sym c.can_move.ensures ∙ w.if-can_move.false)
+          (ap can_move (sym w.pass.ensures) ∙ sym w.can_move-else-can_move.ensures ∙ w.if-can_move-2.false))
     ]
 
 pub invariant_of-result : goal.invariant_of-result

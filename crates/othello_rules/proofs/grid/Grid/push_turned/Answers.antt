@@ -9,7 +9,7 @@ loop-step-preserved c =
     record {
       items =
           rw (c.push.ensures.items, c.loop-step.invariant.items, c.step.ensures.value, take-ray_more c.args.direction c.args.from c.loop-step.step in_ray)
-              (append_assoc c.args.out.now.items (take c.loop-step.step (ray c.args.direction c.args.from))
-              (square_after c.args.direction c.args.from (c.loop-step.step + 1) ∷ []));
+          (append_assoc c.args.out.now.items (take c.loop-step.step (ray c.args.direction c.args.from))
+          (square_after c.args.direction c.args.from (c.loop-step.step + 1) ∷ []));
       len = omega arith;
     }
