@@ -35,7 +35,7 @@ pub reaches : (h b : Direction) → b ≡ opposite h → (own opp inner : ℕ) �
     → (can b q && chain 6 (can b) (back b) (in_mask own) (in_mask inner) (back b q)) ≡ is_nonempty (turned_on (in_mask own) (in_mask opp) (line h q))
 reaches h b e own opp inner apart is_inner q l =
     ahead (can b) (inside b) (back b) (beside h) (fits_to h b e) (in_mask own) (in_mask opp) (in_mask inner) is_inner
-        (empty_meet own opp apart) q l ∙ ap (λ xs. is_nonempty (turned_on (in_mask own) (in_mask opp) xs)) (sym (line-is_walk h q l))
+    (empty_meet own opp apart) q l ∙ ap (λ xs. is_nonempty (turned_on (in_mask own) (in_mask opp) xs)) (sym (line-is_walk h q l))
 
 regroup : (a b c d e f g h : Bool) → (((((((a || b) || c) || d) || e) || f) || g) || h) ≡ (a || (b || (c || (d || (e || (f || (g || (h || false))))))))
 regroup true b c d e f g h = refl

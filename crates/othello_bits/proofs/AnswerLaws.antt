@@ -44,18 +44,18 @@ best-is g p =
       | inr some ↦
           best_is_moves g P (can_go p some) ∙ ap Moves (best_mask g p)
           ∙ sym (cond-false (eqb (moves_of p) 0) (cond (eqb (moves_of (pass_of p)) 0) Over Pass)
-              (Moves (mask_where (is_best_move g p))) (ne_eqb (moves_of p) 0 some))
+          (Moves (mask_where (is_best_move g p))) (ne_eqb (moves_of p) 0 some))
       | inl none ↦
           elim (cases_eq (moves_of (pass_of p)) 0) [
             | inr reply ↦
                 best_is_pass g P (cannot_move p none) (can_reply p reply)
                 ∙ sym (cond-true (eqb (moves_of p) 0) (cond (eqb (moves_of (pass_of p)) 0) Over Pass)
-                    (Moves (mask_where (is_best_move g p))) (eq-eqb (moves_of p) 0 none)
+                (Moves (mask_where (is_best_move g p))) (eq-eqb (moves_of p) 0 none)
                 ∙ cond-false (eqb (moves_of (pass_of p)) 0) Over Pass (ne_eqb (moves_of (pass_of p)) 0 reply))
             | inl over ↦
                 best_is_over g P (cannot_move p none) (cannot_reply p over)
                 ∙ sym (cond-true (eqb (moves_of p) 0) (cond (eqb (moves_of (pass_of p)) 0) Over Pass)
-                    (Moves (mask_where (is_best_move g p))) (eq-eqb (moves_of p) 0 none)
+                (Moves (mask_where (is_best_move g p))) (eq-eqb (moves_of p) 0 none)
                 ∙ cond-true (eqb (moves_of (pass_of p)) 0) Over Pass (eq-eqb (moves_of (pass_of p)) 0 over))
           ]
     ]

@@ -60,14 +60,14 @@ pub canonical-least : (P : GridView) (t : Sym) → pair_of (discs_of (canonical 
 canonical-least P t =
     let best = first_best P in
     let no : ltb (image_pair P (get_or symmetries (place t) t)) (image_pair P (get_or symmetries (place (first_symmetry P)) t)) ≡ false =
-        best.1 (place t) t (place_below t) in
+    best.1 (place t) t (place_below t) in
     ltb-false (image_pair P t) (image_pair P (first_symmetry P)) (rw (at_place t t, at_place (first_symmetry P) t) at no)
 
 pub canonical-first : (P : GridView) (t : Sym) → place t < place (first_symmetry P) → pair_of (discs_of (canonical P)) < image_pair P t
 canonical-first P t h =
     let best = first_best P in
     let less : ltb (image_pair P (get_or symmetries (place (first_symmetry P)) t)) (image_pair P (get_or symmetries (place t) t)) ≡ true =
-        best.2 (place t) t h in
+    best.2 (place t) t h in
     ltb-true (image_pair P (first_symmetry P)) (image_pair P t) (rw (at_place t t, at_place (first_symmetry P) t) at less)
 
 -- and a symmetry of which this holds is the first
@@ -86,7 +86,7 @@ is_first_symmetry P s least before =
           (rw (at_place one.0 d, at_place s d) (lt-ltb (image_pair P s) (image_pair P one.0) (before one.0 (rw one.1 h)))),
     ) in
     let same : place (first_symmetry P) ≡ place s =
-        IsFirstBest-unique (IsStrictWeakOrder-by_number (image_pair P)) symmetries 8 (place (first_symmetry P)) (place s) Identity (first_best P) mine in
+    IsFirstBest-unique (IsStrictWeakOrder-by_number (image_pair P)) symmetries 8 (place (first_symmetry P)) (place s) Identity (first_best P) mine in
     sym (at_place (first_symmetry P) Identity) ∙ ap (λ k. get_or symmetries k Identity) same ∙ at_place s Identity
 
 -- all images of a position have one canonical position
@@ -106,4 +106,4 @@ canonical-image t P full =
     let back : pair_of (discs_of (canonical (image t P))) ≤ pair_of (discs_of (canonical P)) =
     subst (λ Q. pair_of (discs_of (canonical (image t P))) ≤ pair_of (discs_of (canonical Q))) (image-back t P full) (no_more (inverse t) (image t P)) in
     same_from_pair (canonical (image t P)) (canonical P) (length-image (first_symmetry (image t P)) (image t P))
-        (length-image (first_symmetry P) P) refl (le_antisymm back (no_more t P))
+    (length-image (first_symmetry P) P) refl (le_antisymm back (no_more t P))

@@ -29,7 +29,7 @@ unfolding cells_of
 swapped-position p =
     let each : (λ i. swap_cell (cell_at side.Black p i)) ≡ cell_at side.White p = λ k i. swap-cell (in_mask p.own i) (in_mask p.opp i) k in
     let cells : map swap_cell (map (cell_at side.Black p) squares) ≡ map (cell_at side.White p) squares =
-        map_twice swap_cell (cell_at side.Black p) squares ∙ ap (λ (f : ℕ → Cell). map f squares) each in
+    map_twice swap_cell (cell_at side.Black p) squares ∙ ap (λ (f : ℕ → Cell). map f squares) each in
     λ k. record { cells = cells k; mover = side.White }
 
 pub as_black : {X : Type 0} (f : GridView → X) → ((P : GridView) → f (colour_swap P) ≡ f P) → (s : Side) (p : PosView)

@@ -38,14 +38,14 @@ less_one zero x (suc i) b z =
     let odd : x % 2 ≡ 1 = sym (bit_at_lowest x) ∙ eqb-true (bit_at x 0) 1 b in
     let e : (x - 1) / 2 ≡ x / 2 = omega arith in
     ap (λ n. eqb n 1) (bit_at-suc (x - 1) i ∙ ap (λ y. bit_at y i) e ∙ sym (bit_at-suc x i))
-        ∙ rw (le-ltb (suc i) 0 (omega arith), lt-ltb 0 (suc i) (omega arith)) (sym (and-true (eqb (bit_at x (suc i)) 1)))
+    ∙ rw (le-ltb (suc i) 0 (omega arith), lt-ltb 0 (suc i) (omega arith)) (sym (and-true (eqb (bit_at x (suc i)) 1)))
 less_one (suc t) x zero b z =
     let even : x % 2 ≡ 0 = even_from x (z 0 (omega arith)) in
     let some : 0 < x =
-        elim (cases_lt 0 x) [
-          | inl l ↦ l
-          | inr l ↦ let none : x ≡ 0 = omega arith in absurd (false≢true (sym (in_mask-zero (suc t)) ∙ ap (λ n. eqb (bit_at n (suc t)) 1) (sym none) ∙ b))
-        ] in
+    elim (cases_lt 0 x) [
+      | inl l ↦ l
+      | inr l ↦ let none : x ≡ 0 = omega arith in absurd (false≢true (sym (in_mask-zero (suc t)) ∙ ap (λ n. eqb (bit_at n (suc t)) 1) (sym none) ∙ b))
+    ] in
     let e : (x - 1) % 2 ≡ 1 = omega arith in
     ap (λ n. eqb n 1) (bit_at_lowest (x - 1) ∙ e) ∙ rw (lt-ltb 0 (suc t) (omega arith))
 less_one (suc t) x (suc i) b z =
@@ -151,7 +151,7 @@ module _ (own opp ray : ℕ) (hopp : opp < 2 ^ 64) (hray : ray < 2 ^ 64) (met : 
         is_end t b n i (inl l) =
             let fits : lower < 2 ^ 64 = omega arith in
             rw (in_mask-and (bit_and own (rest opp ray)) (bit_not w64 lower) i, in_mask-and own (rest opp ray) i, in_mask-not lower i fits l, lower_is t b n i)
-                (placed t b n i (cases_eq t i))
+            (placed t b n i (cases_eq t i))
         is_end t b n i (inr g) =
             let l = below_top (rest opp ray) t (rest_fits opp ray) b in
             in_mask-above lowest_end i (end_fits (bit_not w64 lower)) g ∙ sym (rw (ne_eqb t i (λ e. absurd (omega arith))) (and-false (in_mask own t)))
@@ -163,7 +163,7 @@ module _ (own opp ray : ℕ) (hopp : opp < 2 ^ 64) (hray : ray < 2 ^ 64) (met : 
         let o = own_end own t lowest_end (end_fits (bit_not w64 lower)) f.3 h in
         in_mask-and ray (lowest_end - 1) i ∙ ap (λ b. in_mask ray i && b) (less_end own t lowest_end f.3 o i)
         ∙ sym (turned_before ltb one_way_up own opp ray hopp hray met ray_is t f.1 (λ j l. f.2 j (ltb-true j t l)) i
-            ∙ ap (λ c. c && (in_mask ray i && ltb i t)) o)
+        ∙ ap (λ c. c && (in_mask ray i && ltb i t)) o)
 
     ahead_open : lowest_end ≡ 0 → (i : ℕ) → in_mask 0 i ≡ turns own opp met i
     ahead_open h i = in_mask-zero i ∙ sym (elim (cases_lt 0 (rest opp ray)) [
@@ -174,7 +174,7 @@ module _ (own opp ray : ℕ) (hopp : opp < 2 ^ 64) (hray : ray < 2 ^ 64) (met : 
           let f = lowest some in
           let t = f.0 in
           turned_before ltb one_way_up own opp ray hopp hray met ray_is t f.1 (λ j l. f.2 j (ltb-true j t l)) i
-              ∙ ap (λ c. c && (in_mask ray i && ltb i t)) (not_own own t lowest_end f.3 h)
+          ∙ ap (λ c. c && (in_mask ray i && ltb i t)) (not_own own t lowest_end f.3 h)
     ])
 
     -- an end less one, or nothing where there is no end
@@ -251,7 +251,7 @@ module _ (own opp ray : ℕ) (hopp : opp < 2 ^ 64) (hray : ray < 2 ^ 64) (met : 
       let f = top_of (rest opp ray) (rest_fits opp ray) in
       let t = f.0 in
       let n : (j : ℕ) → t < j → in_mask (rest opp ray) j ≡ false =
-          λ j l. (or_parts (in_mask (rest opp ray) j) (eqb 0 j) (sym (is_with_first (rest opp ray) j) ∙ f.3 j l)).0 in
+      λ j l. (or_parts (in_mask (rest opp ray) j) (eqb 0 j) (sym (is_with_first (rest opp ray) j) ∙ f.3 j l)).0 in
       let s = some_square (rest opp ray) (rest_fits opp ray) (λ z. absurd (omega arith)) in
       let b : in_mask (rest opp ray) t ≡ true = elim (or_cases (in_mask (rest opp ray) t) (eqb 0 t) (sym (is_with_first (rest opp ray) t) ∙ f.2)) [
         | inl e ↦ e

@@ -52,10 +52,10 @@ module _ (can : ℕ → Bool) (back : ℕ → ℕ) (S P : ℕ → Bool) where
   unfolding chain
   six_is_chain i =
       doubling (P i) (can i) (S (back i)) (P (back i)) (can (back i)) (S (back (back i))) (P (back (back i)))
-          (can (back (back i))) (S (back (back (back i)))) (P (back (back (back i)))) (can (back (back (back i))))
-          (S (back (back (back (back i))))) (P (back (back (back (back i))))) (can (back (back (back (back i)))))
-          (S (back (back (back (back (back i)))))) (P (back (back (back (back (back i))))))
-          (can (back (back (back (back (back i)))))) (S (back (back (back (back (back (back i)))))))
+      (can (back (back i))) (S (back (back (back i)))) (P (back (back (back i)))) (can (back (back (back i))))
+      (S (back (back (back (back i))))) (P (back (back (back (back i))))) (can (back (back (back (back i)))))
+      (S (back (back (back (back (back i)))))) (P (back (back (back (back (back i))))))
+      (can (back (back (back (back (back i)))))) (S (back (back (back (back (back (back i)))))))
 
 -- the fill from its parts
 module _ (can : ℕ → Bool) (back : ℕ → ℕ) (from within s1 s2 s3 s4 s5 s6 s7 : ℕ)
@@ -84,10 +84,25 @@ module _ (can : ℕ → Bool) (back : ℕ → ℕ) (from within s1 s2 s3 s4 s5 s
 
     is_four : (i : ℕ) → in_mask b4 i ≡ four can back (in_mask from) (in_mask within) i
     is_four i =
-        cc (in_mask-or b2 (bit_and (bit_and within s3) s5) i, is_two i, in_mask-and (bit_and within s3) s5 i,
-            is_pairs i, e5 i, e4 (back i), is_two (back (back i)))
+        cc (
+          in_mask-or b2 (bit_and (bit_and within s3) s5) i,
+          is_two i,
+          in_mask-and (bit_and within s3) s5 i,
+          is_pairs i,
+          e5 i,
+          e4 (back i),
+          is_two (back (back i)),
+        )
 
     pub filled : (i : ℕ) → in_mask (bit_or b4 (bit_and (bit_and within s3) s7)) i ≡ chain 6 can back (in_mask from) (in_mask within) i
     filled i =
-        cc (in_mask-or b4 (bit_and (bit_and within s3) s7) i, is_four i, in_mask-and (bit_and within s3) s7 i,
-            is_pairs i, e7 i, e6 (back i), is_four (back (back i)), six_is_chain can back (in_mask from) (in_mask within) i)
+        cc (
+          in_mask-or b4 (bit_and (bit_and within s3) s7) i,
+          is_four i,
+          in_mask-and (bit_and within s3) s7 i,
+          is_pairs i,
+          e7 i,
+          e6 (back i),
+          is_four (back (back i)),
+          six_is_chain can back (in_mask from) (in_mask within) i,
+        )

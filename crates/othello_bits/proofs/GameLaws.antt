@@ -38,7 +38,7 @@ moves-discs_of : (P : GridView) → length P.cells ≡ 64 → moves_of (discs_of
 unfolding moves_of rules.moves
 moves-discs_of P whole =
     let each : rules.is_move (position_of Black (discs_of P)) ≡ rules.is_move P =
-        λ k q. (is_move-either Black P.mover (discs_of P) q ∙ ap (λ Q. rules.is_move Q q) (position_of-discs_of P whole)) k in
+    λ k q. (is_move-either Black P.mover (discs_of P) q ∙ ap (λ Q. rules.is_move Q q) (position_of-discs_of P whole)) k in
     ap mask_where each
 
 whole_pass : (p : PosView) → length (rules.pass (position_of Black p)).cells ≡ 64
@@ -101,8 +101,8 @@ pub value_reached : (g : Scoring) (p : PosView) → (moves_of p ≡ 0 → ⊥) �
 unfolding value_of
 value_reached g p n =
     let r : (q : ℕ) × Contains (rules.moves (position_of Black p)) q
-        × (neg_ℤ (worth.value g (rules.play (position_of Black p) q)) ≡ worth.value g (position_of Black p)) =
-        bounds.value_reached g (position_of Black p) (can_go p n) in (
+    × (neg_ℤ (worth.value g (rules.play (position_of Black p) q)) ≡ worth.value g (position_of Black p)) =
+    bounds.value_reached g (position_of Black p) (can_go p n) in (
       r.0,
       IsMove-from p r.0 (moves.square_below r.0 (moves.move_on_board (position_of Black p) r.0 r.1))
           (moves.is_move-from_Contains (position_of Black p) r.0 r.1),
@@ -119,7 +119,7 @@ pub empties-move : (p : PosView) (q : ℕ) → IsMove p q → empties_of (play_o
 unfolding empties_of play_of
 empties-move p q m =
     let e : empties_of (play_of p q) ≡ worth.empties (rules.play (position_of Black p) q) =
-        empties-discs_of (rules.play (position_of Black p) q) (whole_play p q) in
+    empties-discs_of (rules.play (position_of Black p) q) (whole_play p q) in
     ap (λ n. n + 1) e ∙ counts.empties-play (position_of Black p) q (contained p q m)
 
 pub empties_positive : (p : PosView) (q : ℕ) → IsMove p q → 0 < empties_of p

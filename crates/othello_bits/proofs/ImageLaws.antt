@@ -42,9 +42,9 @@ answer-image g s P full =
     elim (cases_Bool (worth.can_move P)) [
       | inl h ↦
           let e : mask_image s (mask_of (worth.best_moves g P)) ≡ mask_of (map (target s) (worth.best_moves g P)) =
-              image_of_squares s (worth.best_moves g P) (squares_of-best g P) in
+          image_of_squares s (worth.best_moves g P) (squares_of-best g P) in
           let b : best_image s (worth.best g P) ≡ Moves (mask_of (map (target s) (worth.best_moves g P))) =
-              ap (best_image s) (best_is_moves g P h) ∙ ap Moves e in
+          ap (best_image s) (best_is_moves g P h) ∙ ap Moves e in
           answer-image_by_moves g (renaming s) P full h ∙ (λ k. record { score = worth.value g P; best = sym b k })
       | inr h ↦
           let b : best_image s (worth.best g P) ≡ worth.best g P =
@@ -59,7 +59,7 @@ pub value_of-image_of : (g : Scoring) (s : Sym) (p : PosView) → value_of g (im
 unfolding image_of value_of
 value_of-image_of g s p =
     value-discs_of g (image s (position_of Black p)) (length-image s (position_of Black p))
-        ∙ value-image_by g (renaming s) (position_of Black p) (length-cells_of Black p)
+    ∙ value-image_by g (renaming s) (position_of Black p) (length-cells_of Black p)
 
 pub answer_of-image_of : (g : Scoring) (s : Sym) (p : PosView)
     → answer_of g (image_of s p) ≡ record { score = value_of g p; best = best_image s (answer_of g p).best }
@@ -93,8 +93,10 @@ answer_of-back g p =
     let s : Sym = first_symmetry P in
     let here : worth.answer g P ≡ record { score = worth.value g (image s P); best = best_image (inverse s) (worth.answer g (image s P)).best } =
     ap (worth.answer g) (sym (image-back s P (length-cells_of Black p))) ∙ answer-image g (inverse s) (image s P) (length-image s P) in
-    here ∙ (λ k. record { score = sym (value-discs_of g (image s P) (length-image s P)) k;
-        best = best_image (inverse s) (sym (answer-discs_of g (image s P) (length-image s P)) k).best })
+    here ∙ (λ k. record {
+      score = sym (value-discs_of g (image s P) (length-image s P)) k;
+      best = best_image (inverse s) (sym (answer-discs_of g (image s P) (length-image s P)) k).best;
+    })
 
 pub cell-placed : (s : Sym) (P : GridView) (q : ℕ) → q < 64 → get_or (image s P).cells (target s q) Empty ≡ get_or P.cells q Empty
 cell-placed s P q h =

@@ -100,7 +100,7 @@ module _ (own opp : ℕ → Bool) where
         | inr m ↦ rw (turned_none i met m) refl
       ] in
       both_below 64 (λ i. mem i (turned_on own opp met)) (λ i. list_any (λ m. mem i (turned_on own opp m)) ls) apart
-          ∙ (λ k. count_turned met p.0 k + count_lines ls r.1 k)
+      ∙ (λ k. count_turned met p.0 k + count_lines ls r.1 k)
 
 negated_by : (a b : Bool) → (a || b) ≡ true → (a && b) ≡ false → b ≡ not a
 negated_by true true f e = absurd (false≢true (sym e))
@@ -115,7 +115,7 @@ module _ (own opp q : ℕ) (apart : bit_and own opp ≡ 0) (filled : (i : ℕ) �
   is_opposite x t =
       let p = and_parts (ltb x 64) (not (eqb x q)) t in
       negated_by (in_mask own x) (in_mask opp x)
-          (filled x (ltb-true x 64 p.0) (λ e. false≢true (sym (not-true (eqb x q) p.1) ∙ eq-eqb x q e))) (empty_meet own opp apart x)
+      (filled x (ltb-true x 64 p.0) (λ e. false≢true (sym (not-true (eqb x q) p.1) ∙ eq-eqb x q e))) (empty_meet own opp apart x)
 
   closes-same : (xs : List ℕ) → list_all (off q) xs ≡ true → closes (in_mask own) (in_mask opp) xs ≡ closes (in_mask own) (λ i. not (in_mask own i)) xs
   unfolding closes

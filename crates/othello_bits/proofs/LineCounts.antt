@@ -117,7 +117,7 @@ module _ (m : ℕ) (h g : Direction) (q own : ℕ) (fits : own < 2 ^ 64) (free :
   both : (i : ℕ) → i < 64 → (in_mask own i && in_mask m i) ≡ (in_mask own i && mem i (squares_by h g q))
   both i l =
       let e : (in_mask m i && not (eqb i q)) ≡ mem i (squares_by h g q) =
-          agree_below_at (λ i. in_mask m i && not (eqb i q)) (λ i. mem i (squares_by h g q)) 64 i s l in
+      agree_below_at (λ i. in_mask m i && not (eqb i q)) (λ i. mem i (squares_by h g q)) 64 i s l in
       elim (cases_eq i q) [
         | inl z ↦ let f : in_mask own i ≡ false = ap (in_mask own) z ∙ free in rw f refl
         | inr n ↦ let f : mem i (squares_by h g q) ≡ in_mask m i = sym e ∙ rw (ne_eqb i q n) (and-true (in_mask m i)) in rw f refl

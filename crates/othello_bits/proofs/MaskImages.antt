@@ -59,7 +59,7 @@ pub image-position_of : (s : Sym) (m : Side) (p : PosView) → image s (position
 image-position_of s m p =
     same_position (image s (position_of m p)) (position_of m (both_images s p)) refl
     (same_lists (moved_cells (target (inverse s)) (cells_of m p)) (cells_of m (both_images s p))
-        (length-moved_cells (target (inverse s)) (cells_of m p) ∙ sym (length-cells_of m (both_images s p)))
+    (length-moved_cells (target (inverse s)) (cells_of m p) ∙ sym (length-cells_of m (both_images s p)))
     (λ k d h.
     let l : k < 64 = rw length-moved_cells at h in
     get_or-moved_cells (target (inverse s)) (cells_of m p) k d l

@@ -98,7 +98,7 @@ none-is s p m is each = (
   λ e.
       zero_from_none m (rw is (moves_of_lt p))
       (λ q h. each q h ∙ false_from_ne_true (rules.is_move (position_of s p) q)
-          (λ b. Contains-nil q (subst (λ qs. Contains qs q) e (Contains-moves (position_of s p) q h b)))),
+      (λ b. Contains-nil q (subst (λ qs. Contains qs q) e (Contains-moves (position_of s p) q h b)))),
 )
 
 module _ (p passed : PosView) (a b : ℕ) (here : a ≡ moves_of p) (there : b ≡ moves_of passed)
@@ -141,7 +141,7 @@ module _ (own opp flips q : ℕ) (masks : AreMasks own opp) (hflips : flips < 2 
   unfolding flips_of
   turns i l =
       ap (λ m. in_mask m i) turned ∙ in_mask-where (λ i. mem i (rules.flips (position_of Black (discs own opp)) q)) i l
-          ∙ sym (is_turned-meaning Black (discs own opp) fine q i on_board_then)
+      ∙ sym (is_turned-meaning Black (discs own opp) fine q i on_board_then)
 
   own_is : (i : ℕ) → i < 64 → in_mask own_then i ≡ own_after (in_mask own) (in_mask opp) q i
   own_is i h = after_own own opp flips q masks.1 masks.2 hflips on_board_then i h ∙ ap (λ b. in_mask opp i && not b) (turns i h)

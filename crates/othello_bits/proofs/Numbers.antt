@@ -56,7 +56,7 @@ in_mask-number (suc n) f i h =
       | inl e ↦
           let z : i - n ≡ 0 = omega arith in
           ap (λ x. eqb x 1) (bit_at_cat_high (cond (f n) 1 0) n (number_below n f) i (number_lt n f) (omega arith) ∙ ap (bit_at (cond (f n) 1 0)) z)
-              ∙ bit_test (f n) ∙ ap f (sym e)
+          ∙ bit_test (f n) ∙ ap f (sym e)
       | inr o ↦
           let l : i < n = omega arith in
           ap (λ x. eqb x 1) (bit_at_cat_low (cond (f n) 1 0) n (number_below n f) i l) ∙ in_mask-number n f i l

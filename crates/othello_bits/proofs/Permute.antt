@@ -53,8 +53,13 @@ pub exchange_at : (b m k i : ℕ) → i < 64 → exchanges m k i ≡ true
     → in_mask (bit_or (bit_and (b / 2 ^ k) m) (bit_and b m * 2 ^ k % 2 ^ 64)) i ≡ in_mask b (exchange_source m k i)
 unfolding exchange_source exchanges
 exchange_at b m k i h e =
-    rw (in_mask-or (bit_and (b / 2 ^ k) m) (bit_and b m * 2 ^ k % 2 ^ 64) i, in_mask-and (b / 2 ^ k) m i,
-        in_mask-shr b k i, in_mask-shl_low (bit_and b m) k i h, in_mask-and b m (i - k))
+    rw (
+      in_mask-or (bit_and (b / 2 ^ k) m) (bit_and b m * 2 ^ k % 2 ^ 64) i,
+      in_mask-and (b / 2 ^ k) m i,
+      in_mask-shr b k i,
+      in_mask-shl_low (bit_and b m) k i h,
+      in_mask-and b m (i - k),
+    )
     (exchange_bit b k i (in_mask m i) (leb k i) (in_mask m (i - k)) e)
 
 -- the step by differences
@@ -122,8 +127,13 @@ pub swap_at : (b m k i : ℕ) → i < 64 → swaps m k i ≡ true
     → in_mask (bit_xor (bit_xor b (difference b m k)) (difference b m k * 2 ^ k % 2 ^ 64)) i ≡ in_mask b (swap_source m k i)
 unfolding swap_source swaps
 swap_at b m k i h e =
-    rw (in_mask-xor (bit_xor b (difference b m k)) (difference b m k * 2 ^ k % 2 ^ 64) i,
-        in_mask-xor b (difference b m k) i, in_mask-shl_low (difference b m k) k i h, difference_at b m k i, difference_at b m k (i - k))
+    rw (
+      in_mask-xor (bit_xor b (difference b m k)) (difference b m k * 2 ^ k % 2 ^ 64) i,
+      in_mask-xor b (difference b m k) i,
+      in_mask-shl_low (difference b m k) k i h,
+      difference_at b m k i,
+      difference_at b m k (i - k),
+    )
     (swap_bit (in_mask b) k i (in_mask m i) (leb k i) (in_mask m (i - k)) refl e)
 
 -- three steps

@@ -123,9 +123,9 @@ pub discs_of-position_of : (s : Side) (p : PosView) → AreApart p → discs_of 
 unfolding discs_of
 discs_of-position_of s p fine =
     let a : p.own ≡ mask_where (rules.has (position_of s p) (disc s)) =
-        is_where p.own (rules.has (position_of s p) (disc s)) fine.own_fits (λ i h. sym (has_own s p i fine)) in
+    is_where p.own (rules.has (position_of s p) (disc s)) fine.own_fits (λ i h. sym (has_own s p i fine)) in
     let b : p.opp ≡ mask_where (rules.has (position_of s p) (disc (other s))) =
-        is_where p.opp (rules.has (position_of s p) (disc (other s))) fine.opp_fits (λ i h. sym (has_opposing s p i fine)) in
+    is_where p.opp (rules.has (position_of s p) (disc (other s))) fine.opp_fits (λ i h. sym (has_opposing s p i fine)) in
     λ k. discs (sym a k) (sym b k)
 
 -- the position that the masks of a position mean
@@ -143,9 +143,9 @@ cells_again P i d whole h =
     let within : i < length P.cells = rw whole h in
     let there : slice_get P.cells i ≡ Some (get_or P.cells i d) = slice_get-get_or P.cells i d within in
     let a : in_mask (mask_where (rules.has P (disc P.mover))) i ≡ same_cell (disc P.mover) (get_or P.cells i d) =
-        in_mask-where (rules.has P (disc P.mover)) i h ∙ ap (is_some_cell (disc P.mover)) there in
+    in_mask-where (rules.has P (disc P.mover)) i h ∙ ap (is_some_cell (disc P.mover)) there in
     let b : in_mask (mask_where (rules.has P (disc (other P.mover)))) i ≡ same_cell (disc (other P.mover)) (get_or P.cells i d) =
-        in_mask-where (rules.has P (disc (other P.mover))) i h ∙ ap (is_some_cell (disc (other P.mover))) there in
+    in_mask-where (rules.has P (disc (other P.mover))) i h ∙ ap (is_some_cell (disc (other P.mover))) there in
     (λ k. cond (a k) (disc P.mover) (cond (b k) (disc (other P.mover)) cell.Empty)) ∙ cell_again P.mover (get_or P.cells i d)
 
 pub position_of-discs_of : (P : GridView) → length P.cells ≡ 64 → position_of P.mover (discs_of P) ≡ P

@@ -132,8 +132,8 @@ module _ (before : ℕ → ℕ → Bool) (one_way : IsOneWay before) (own opp ra
     turned_before t b n i =
         let on_ray = and_parts (in_mask ray t) (not (in_mask opp t)) (sym (is_rest t) ∙ b) in
         let e =
-            ends before one_way (in_mask own) (in_mask opp) t (not-true (in_mask opp t) on_ray.1) met ray_is.0
-                (sym (is_ray t) ∙ on_ray.0) (λ j l m. met_opposing j (n j l) m) in
+        ends before one_way (in_mask own) (in_mask opp) t (not-true (in_mask opp t) on_ray.1) met ray_is.0
+        (sym (is_ray t) ∙ on_ray.0) (λ j l m. met_opposing j (n j l) m) in
         rw (e.0, is_ray i) (by (in_mask own t) (e.1 i))
       where
         by : (c : Bool) → mem i (run (in_mask opp) met) ≡ (mem i met && before i t)

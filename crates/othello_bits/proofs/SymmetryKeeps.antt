@@ -73,5 +73,5 @@ image-image s t =
       c.0,
       λ P. image_by-image_by (target (inverse s)) (target (inverse t)) (target (inverse c.0)) P (kept_back s).on_board
           (λ q b. eqb-true (target (inverse t) (target (inverse s) q)) (target (inverse c.0) q)
-              (agree_below_at (λ q. eqb (target (inverse t) (target (inverse s) q)) (target (inverse c.0) q)) (λ q. true) 64 q c.2 b)),
+          (agree_below_at (λ q. eqb (target (inverse t) (target (inverse s) q)) (target (inverse c.0) q)) (λ q. true) 64 q c.2 b)),
     )

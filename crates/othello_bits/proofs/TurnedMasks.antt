@@ -59,7 +59,7 @@ module _ (own opp flips q : ℕ) (hown : own < 2 ^ 64) (hopp : opp < 2 ^ 64) (hf
       → bit_and (bit_and opp (bit_not w64 flips)) (bit_or own (bit_or (1 * 2 ^ q % 2 ^ 64) flips)) ≡ 0
   after_apart apart free =
       zero_from_none _
-          (omega (arith, and_le_l (bit_and opp (bit_not w64 flips)) (bit_or own (bit_or (1 * 2 ^ q % 2 ^ 64) flips)), and_le_l opp (bit_not w64 flips)))
+      (omega (arith, and_le_l (bit_and opp (bit_not w64 flips)) (bit_or own (bit_or (1 * 2 ^ q % 2 ^ 64) flips)), and_le_l opp (bit_not w64 flips)))
       (λ i l. rw (in_mask-and (bit_and opp (bit_not w64 flips)) (bit_or own (bit_or (1 * 2 ^ q % 2 ^ 64) flips)) i, after_own i l, after_opp i)
       (keeps_apart (in_mask own i) (in_mask opp i) (in_mask flips i) (eqb i q) (apart i) (λ e. ap (in_mask opp) (eqb-true i q e) ∙ free)))
 
@@ -72,8 +72,8 @@ pub free_count : (own opp : ℕ) → own < 2 ^ 64 → opp < 2 ^ 64
 free_count own opp hown hopp =
     let l = or_lt 64 own opp hown hopp in
     let e =
-        is_number (bit_not w64 (bit_or own opp)) (λ i. not (in_mask own i || in_mask opp i)) (omega arith)
-            (λ i h. in_mask-not (bit_or own opp) i l h ∙ ap not (in_mask-or own opp i)) in
+    is_number (bit_not w64 (bit_or own opp)) (λ i. not (in_mask own i || in_mask opp i)) (omega arith)
+    (λ i h. in_mask-not (bit_or own opp) i l h ∙ ap not (in_mask-or own opp i)) in
     ap ones e ∙ ones_number 64 (λ i. not (in_mask own i || in_mask opp i)) ∙ sym (count-squares (λ i. not (in_mask own i || in_mask opp i)))
 
 partition_below : (n : ℕ) (f g : ℕ → Bool) → ((i : ℕ) → (f i && g i) ≡ false) → count_below n f + count_below n g + count_below n (λ i. not (f i || g i)) ≡ n

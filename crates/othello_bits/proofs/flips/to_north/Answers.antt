@@ -13,5 +13,12 @@ returns c = λ i.
     let s = south v l in
     let e = south_east v l in
     three c.flips_turned_over.result c.flips_turned_over-2.result c.flips_turned_over-3.result i
-    ∙ rw (c.flips_turned_over.ensures (line SouthWest v) w i, c.flips_turned_over-2.ensures (line South v) s i,
-        c.flips_turned_over-3.ensures (line SouthEast v) e i, north_west q c.requires, north q c.requires, north_east q c.requires, c.mirror_square.ensures)
+    ∙ rw (
+      c.flips_turned_over.ensures (line SouthWest v) w i,
+      c.flips_turned_over-2.ensures (line South v) s i,
+      c.flips_turned_over-3.ensures (line SouthEast v) e i,
+      north_west q c.requires,
+      north q c.requires,
+      north_east q c.requires,
+      c.mirror_square.ensures,
+    )

@@ -11,4 +11,4 @@ returns c = λ i.
     let s = south q c.requires in
     let e = south_east q c.requires in
     three c.flips_ahead.result c.flips_ahead-2.result c.flips_ahead-3.result i
-        ∙ rw (c.flips_ahead.ensures (line SouthWest q) w i, c.flips_ahead-2.ensures (line South q) s i, c.flips_ahead-3.ensures (line SouthEast q) e i)
+    ∙ rw (c.flips_ahead.ensures (line SouthWest q) w i, c.flips_ahead-2.ensures (line South q) s i, c.flips_ahead-3.ensures (line SouthEast q) e i)

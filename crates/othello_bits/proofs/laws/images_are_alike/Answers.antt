@@ -14,9 +14,10 @@ returns c = record {
   played = λ s P q full h. play-sent (renaming s) P q full h;
   value = λ g s P full. value-image_by g (renaming s) P full;
   best =
-      λ g s P q full h.
-          (λ m. subst (Contains (best_moves g P)) ((kept s).comes_back q h) (best_moves-sent_back g (renaming s) P (target s q) full m),
-          best_moves-sent g (renaming s) P q full);
+      λ g s P q full h. (
+        λ m. subst (Contains (best_moves g P)) ((kept s).comes_back q h) (best_moves-sent_back g (renaming s) P (target s q) full m),
+        best_moves-sent g (renaming s) P q full,
+      );
   answer = λ g s P full. answer-image g s P full;
   value_of = value_of-image_of;
   answer_of = answer_of-image_of;

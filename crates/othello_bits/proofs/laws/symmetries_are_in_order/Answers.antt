@@ -16,14 +16,14 @@ returns c = record {
   exchanged = λ c r h k. omega arith;
   half =
       λ q l. eqb-true (target HalfTurn q) (target FlipRows (target FlipColumns q))
-          (agree_below_at (λ q. eqb (target HalfTurn q) (target FlipRows (target FlipColumns q))) (λ i. true) 64 q refl l);
+      (agree_below_at (λ q. eqb (target HalfTurn q) (target FlipRows (target FlipColumns q))) (λ i. true) 64 q refl l);
   right =
       λ q l. eqb-true (target TurnRight q) (target FlipColumns (target Transpose q))
-          (agree_below_at (λ q. eqb (target TurnRight q) (target FlipColumns (target Transpose q))) (λ i. true) 64 q refl l);
+      (agree_below_at (λ q. eqb (target TurnRight q) (target FlipColumns (target Transpose q))) (λ i. true) 64 q refl l);
   left =
       λ q l. eqb-true (target TurnLeft q) (target FlipRows (target Transpose q))
-          (agree_below_at (λ q. eqb (target TurnLeft q) (target FlipRows (target Transpose q))) (λ i. true) 64 q refl l);
+      (agree_below_at (λ q. eqb (target TurnLeft q) (target FlipRows (target Transpose q))) (λ i. true) 64 q refl l);
   anti =
       λ q l. eqb-true (target AntiTranspose q) (target HalfTurn (target Transpose q))
-          (agree_below_at (λ q. eqb (target AntiTranspose q) (target HalfTurn (target Transpose q))) (λ i. true) 64 q refl l);
+      (agree_below_at (λ q. eqb (target AntiTranspose q) (target HalfTurn (target Transpose q))) (λ i. true) 64 q refl l);
 }

@@ -36,7 +36,7 @@ pub returns-then-own-opp-ne0 : goal.returns-then-own-opp-ne0
 returns-then-own-opp-ne0 c = λ i.
     let q = c.args.square in
     let taken : (in_mask c.args.own q || in_mask c.args.opp q) ≡ true =
-        sym (in_mask-or c.args.own c.args.opp q) ∙ hit (bit_or c.args.own c.args.opp) q c.requires.on_board c.if-own-opp-ne0.true in
+    sym (in_mask-or c.args.own c.args.opp q) ∙ hit (bit_or c.args.own c.args.opp) q c.requires.on_board c.if-own-opp-ne0.true in
     in_mask-zero i ∙ rw taken
 
 pub returns : goal.returns

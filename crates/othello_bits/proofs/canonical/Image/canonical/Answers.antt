@@ -13,7 +13,7 @@ returns c =
     let right : IsLeast a b 4 6 c.lesser-right.result = merge a b 4 5 6 _ _ _ (one a b Transpose) (one a b TurnRight) c.lesser-right.ensures in
     let left : IsLeast a b 6 8 c.lesser-left.result = merge a b 6 7 8 _ _ _ (one a b TurnLeft) (one a b AntiTranspose) c.lesser-left.ensures in
     let all : IsLeast a b 0 8 c.least-3.result =
-        merge a b 0 4 8 _ _ _ (merge a b 0 2 4 _ _ _ straight turned c.least.ensures) (merge a b 4 6 8 _ _ _ right left c.least-2.ensures) c.least-3.ensures in
+    merge a b 0 4 8 _ _ _ (merge a b 0 2 4 _ _ _ straight turned c.least.ensures) (merge a b 4 6 8 _ _ _ right left c.least-2.ensures) c.least-3.ensures in
     record {
       leads = all.leads;
       least = λ s. all.least s (omega arith) (place_below s);

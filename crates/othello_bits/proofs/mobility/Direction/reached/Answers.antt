@@ -7,4 +7,4 @@ pub returns : goal.returns
 returns c = λ q l.
     let b = c.opposite-back.result in
     c.shifted.ensures q ∙ ap (λ x. can b q && x) (c.fill.ensures (back b q))
-        ∙ reaches c.args.self b c.opposite-back.ensures c.args.own c.args.opp c.inner.result c.requires c.inner.ensures q l
+    ∙ reaches c.args.self b c.opposite-back.ensures c.args.own c.args.opp c.inner.result c.requires c.inner.ensures q l

@@ -25,7 +25,7 @@ count_flips-requires-clause-filled c = λ q l n.
       | inr f ↦
           let here : rules.has (position_of Black (discs own opp)) Empty q ≡ true = has_empty Black (discs own opp) q l ∙ ap not f in
           let there : rules.has (position_of Black c.args.self) Empty q ≡ true =
-              ap (λ (d : PosView). rules.has (position_of Black d) Empty q) (sym c.self.view_is) ∙ here in
+          ap (λ (d : PosView). rules.has (position_of Black d) Empty q) (sym c.self.view_is) ∙ here in
           absurd (n (c.requires.last q there ∙ sym c.number.ensures.value))
     ]
 

@@ -19,16 +19,21 @@ score-requires c =
     let own = c.self.inside.own in
     let opp = c.self.inside.opp in
     let free : c.empties.result ≡ count_by (λ i. not (in_mask own i || in_mask opp i)) squares =
-        c.empties.ensures.squares Black ∙ ap (λ p. rules.count_of (position_of Black p) Empty) (sym c.self.view_is) ∙ count-empty Black (discs own opp) in
-    omega (arith, ones_count own c.self.invariant.1, ones_count opp c.self.invariant.2, free,
-        partition (in_mask own) (in_mask opp) (empty_meet own opp c.self.invariant.0))
+    c.empties.ensures.squares Black ∙ ap (λ p. rules.count_of (position_of Black p) Empty) (sym c.self.view_is) ∙ count-empty Black (discs own opp) in
+    omega (
+      arith,
+      ones_count own c.self.invariant.1,
+      ones_count opp c.self.invariant.2,
+      free,
+      partition (in_mask own) (in_mask opp) (empty_meet own opp c.self.invariant.0),
+    )
 
 pub returns-clause-meaning : goal.returns-clause-meaning
 returns-clause-meaning c =
     let own = c.self.inside.own in
     let opp = c.self.inside.opp in
     let free =
-        c.empties.ensures.squares Black ∙ ap (λ p. rules.count_of (position_of Black p) Empty) (sym c.self.view_is) ∙ count-empty Black (discs own opp) in
+    c.empties.ensures.squares Black ∙ ap (λ p. rules.count_of (position_of Black p) Empty) (sym c.self.view_is) ∙ count-empty Black (discs own opp) in
     let kept : to_z w8 (of_z w8 c.score.result) ≡ c.score.result = omega (arith, ints) in
     rw (← c.self.view_is) (λ s.
     kept

@@ -27,7 +27,7 @@ returns-clause-occupied c =
     (λ taken.
     zero_from_none c.flips.result c.flips.type_inv
     (λ i h. c.flips.ensures i
-        ∙ ap (λ b. not b && list_any (λ met. mem i (turned_on (in_mask c.self.inside.own) (in_mask c.self.inside.opp) met)) (lines c.number.result)) taken))
+    ∙ ap (λ b. not b && list_any (λ met. mem i (turned_on (in_mask c.self.inside.own) (in_mask c.self.inside.opp) met)) (lines c.number.result)) taken))
 
 pub returns-clause-value : goal.returns-clause-value
 unfolding flips_of

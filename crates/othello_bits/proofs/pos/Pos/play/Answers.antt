@@ -14,9 +14,10 @@ returns-then-flips-eq0-clause-legal c = λ s. (
 )
 
 pub returns-then-flips-eq0-clause-when : goal.returns-then-flips-eq0-clause-when
-returns-then-flips-eq0-clause-when c =
-    (λ e. absurd (false≢true e),
-        λ m. absurd (no_move c.args.self c.args.square c.flips-flips.result c.flips-flips.type_inv c.flips-flips.ensures.squares c.if-flips-eq0.true m))
+returns-then-flips-eq0-clause-when c = (
+  λ e. absurd (false≢true e),
+  λ m. absurd (no_move c.args.self c.args.square c.flips-flips.result c.flips-flips.type_inv c.flips-flips.ensures.squares c.if-flips-eq0.true m),
+)
 
 pub after-requires-clause-legal : goal.after-requires-clause-legal
 after-requires-clause-legal c = a_move c.args.self c.args.square c.flips-flips.result c.flips-flips.type_inv c.flips-flips.ensures.squares c.if-flips-eq0.false

@@ -7,12 +7,12 @@ use Rattle.othello_bits.proofs.sym.Sym.permuted.Goals as goal
 pub returns-in-HalfTurn : goal.returns-in-HalfTurn
 returns-in-HalfTurn c = rw c.in-HalfTurn.is
     (by_two c.args.board _ _ (target FlipColumns) (target FlipRows)
-        (target HalfTurn) c.mirror_columns-in-HalfTurn.ensures c.mirror_rows-in-HalfTurn.ensures refl)
+    (target HalfTurn) c.mirror_columns-in-HalfTurn.ensures c.mirror_rows-in-HalfTurn.ensures refl)
 
 pub returns-in-TurnRight : goal.returns-in-TurnRight
 returns-in-TurnRight c = rw c.in-TurnRight.is
     (by_two c.args.board _ _ (target Transpose) (target FlipColumns)
-        (target TurnLeft) c.transpose-in-TurnRight.ensures c.mirror_columns-in-TurnRight.ensures refl)
+    (target TurnLeft) c.transpose-in-TurnRight.ensures c.mirror_columns-in-TurnRight.ensures refl)
 
 pub returns-in-TurnLeft : goal.returns-in-TurnLeft
 returns-in-TurnLeft c = rw c.in-TurnLeft.is
@@ -22,5 +22,5 @@ pub returns-in-AntiTranspose : goal.returns-in-AntiTranspose
 returns-in-AntiTranspose c = rw c.in-AntiTranspose.is
     (by_two c.args.board _ _ (target TurnLeft) (target FlipRows) (target AntiTranspose)
     (by_two c.args.board _ _ (target Transpose) (target FlipColumns)
-        (target TurnLeft) c.transpose-in-AntiTranspose.ensures c.mirror_columns-in-AntiTranspose.ensures refl)
+    (target TurnLeft) c.transpose-in-AntiTranspose.ensures c.mirror_columns-in-AntiTranspose.ensures refl)
     c.mirror_rows-in-AntiTranspose.ensures refl)
