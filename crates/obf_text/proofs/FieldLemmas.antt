@@ -36,8 +36,13 @@ parts_at : (a b colon : ℕ) (score : List ℕ) (f : Field) (t : Bool) → (colo
     → cond t (field_by (move_of a b) (score_of_text score)) None ≡ Some f → Parts (a ∷ b ∷ colon ∷ score) f
 parts_at a b colon score f true e h =
     let parts = both_from (move_of a b) (score_of_text score) f h in
-    record { move = a ∷ b ∷ []; score = score; whole = ap (λ c. a ∷ b ∷ c ∷ score) (eqb-true colon 58 e);
-        is_move_text = move_from a b f.0 parts.0; is_score_text = score_from score f.1 parts.1 }
+    record {
+      move = a ∷ b ∷ [];
+      score = score;
+      whole = ap (λ c. a ∷ b ∷ c ∷ score) (eqb-true colon 58 e);
+      is_move_text = move_from a b f.0 parts.0;
+      is_score_text = score_from score f.1 parts.1;
+    }
 parts_at a b colon score f false e h = absurd (none-some f h)
 
 parts_from : (text : List ℕ) (f : Field) → field_of_text text ≡ Some f → Parts text f
@@ -76,7 +81,7 @@ field_is piece f s =
     ap (λ t. s.move ++ 58 ∷ t) s.is_score_text.whole ∙ sym (append_assoc s.move (58 ∷ s.is_score_text.sign) s.is_score_text.digits) in
     let last : is_blank (get_or (s.move ++ 58 ∷ s.score) (length (s.move ++ 58 ∷ s.score) - 1) 0) ≡ false =
     ap (λ t. is_blank (get_or t (length t - 1) 0)) whole
-        ∙ ap is_blank (last_is (s.move ++ 58 ∷ s.is_score_text.sign) s.is_score_text.digits number.0) ∙ number.1 in
+    ∙ ap is_blank (last_is (s.move ++ 58 ∷ s.is_score_text.sign) s.is_score_text.digits number.0) ∙ number.1 in
     ap field_of s.whole
     ∙ ap field_of_text (trimmed_is s.before (s.move ++ 58 ∷ s.score) s.after s.before_blank s.after_blank start.0 start.1 last)
     ∙ text_is s.move s.score f s.is_move_text s.is_score_text

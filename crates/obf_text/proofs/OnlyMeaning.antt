@@ -157,7 +157,7 @@ only_spells line entry s =
     let some : 0 < length s.cells = omega arith in
     let fields : entry.listed ≡ fields_of s.rest = lists_only (pieces_of s.rest) entry.listed s.fields in
     let same : Holds entry ≡ Holds (record { position = record { cells = map cell_of s.cells; mover = entry.position.mover }; listed = fields_of s.rest }) =
-        rw (← s.board, ← fields) refl in
+    rw (← s.board, ← fields) refl in
     rw (
       s.whole,
       item_start s.blanks (s.cells ++ (s.gap ++ s.byte ∷ s.rest)) s.blank (cells_stop s.cells (s.gap ++ s.byte ∷ s.rest) s.spelled some),

@@ -46,7 +46,7 @@ blank_back : (fields : List Field) → AreWritable fields → Lists (slice_split
 blank_back [] h = rw fields_none (none_from (32 ∷ []) refl, tt)
 blank_back (f ∷ fields) h =
     let plain : All (λ b. (b == 59) ≡ false) (piece_text f) =
-        (subst (λ t. Lacks 59 t) (append-nil (piece_text f)) (piece_onto 59 f [] h.0 (inr (inr refl)) (lacks_nil 59))).each in
+    (subst (λ t. Lacks 59 t) (append-nil (piece_text f)) (piece_onto 59 f [] h.0 (inr (inr refl)) (lacks_nil 59))).each in
     let cut : slice_split (λ b. b == 59) (fields_text (f ∷ fields) ++ 32 ∷ []) ≡ piece_text f ∷ slice_split (λ b. b == 59) (fields_text fields ++ 32 ∷ []) =
     ap (λ t. slice_split (λ b. b == 59) (t ++ 32 ∷ [])) (fields_cons f fields)
     ∙ ap (slice_split (λ b. b == 59)) (append_assoc (piece_text f) (59 ∷ fields_text fields) (32 ∷ []))
@@ -58,7 +58,7 @@ blank_lacks [] h = rw fields_none (lacks_cons 37 32 [] (omega arith) (lacks_nil 
 blank_lacks (f ∷ fields) h =
     subst (Lacks 37) (sym (ap (λ t. t ++ 32 ∷ []) (fields_cons f fields) ∙ append_assoc (piece_text f) (59 ∷ fields_text fields) (32 ∷ [])))
     (piece_onto 37 f (59 ∷ (fields_text fields ++ 32 ∷ [])) h.0 (inr (inl refl))
-        (lacks_cons 37 59 (fields_text fields ++ 32 ∷ []) (omega arith) (blank_lacks fields h.1)))
+    (lacks_cons 37 59 (fields_text fields ++ 32 ∷ []) (omega arith) (blank_lacks fields h.1)))
 
 -- the bytes before the first `%`
 before_percent : (xs more : List ℕ) → Lacks 37 xs → before_first (λ b. b == 37) (xs ++ 37 ∷ more) ≡ xs
@@ -74,7 +74,7 @@ fields_back : (fields : List Field) (more : List ℕ) → AreWritable fields →
 fields_back fields more h =
     let all = lacks_cons 37 59 (fields_text fields ++ 32 ∷ []) (omega arith) (blank_lacks fields h) in
     let shape : 59 ∷ (fields_text fields ++ 32 ∷ 37 ∷ more) ≡ (59 ∷ (fields_text fields ++ 32 ∷ [])) ++ 37 ∷ more =
-        ap (λ t. 59 ∷ t) (sym (append_assoc (fields_text fields) (32 ∷ []) (37 ∷ more))) in
+    ap (λ t. 59 ∷ t) (sym (append_assoc (fields_text fields) (32 ∷ []) (37 ∷ more))) in
     let front : before_first (λ b. b == 37) (59 ∷ (fields_text fields ++ 32 ∷ 37 ∷ more)) ≡ 59 ∷ (fields_text fields ++ 32 ∷ []) =
     ap (before_first (λ b. b == 37)) shape ∙ before_percent (59 ∷ (fields_text fields ++ 32 ∷ [])) more all in
     subst (λ t. Lists (slice_split (λ b. b == 59) t) fields) (sym front)

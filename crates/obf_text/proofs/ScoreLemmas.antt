@@ -68,12 +68,19 @@ signed_from : (sign digits : List ℕ) (o : Option ℕ) (f : ℕ → ℤ) (z : �
 signed_from sign digits None f z e s h = absurd (none-some z h)
 signed_from sign digits (Some n) f z e s h =
     let read = size_from digits n e in
-    record { sign = sign; digits = digits; size = n; whole = refl; number = read.0; within = read.1;
-        signed = subst (λ y. IsSigned sign n y) (same_Some (f n) z h) (s n) }
+    record {
+      sign = sign;
+      digits = digits;
+      size = n;
+      whole = refl;
+      number = read.0;
+      within = read.1;
+      signed = subst (λ y. IsSigned sign n y) (same_Some (f n) z h) (s n);
+    }
 
 score_from_parts : (sign : ℕ) (digits : List ℕ) (z : ℤ) (plus minus : Bool) → (sign == 43) ≡ plus → (sign == 45) ≡ minus
     → cond plus (option_map pos (magnitude_of digits))
-        (cond minus (option_map (λ n. neg_ℤ (pos n)) (magnitude_of digits)) (option_map pos (magnitude_of (sign ∷ digits)))) ≡ Some z
+    (cond minus (option_map (λ n. neg_ℤ (pos n)) (magnitude_of digits)) (option_map pos (magnitude_of (sign ∷ digits)))) ≡ Some z
     → IsScoreText (sign ∷ digits) z
 score_from_parts sign digits z true minus p m h =
     let is : sign ≡ 43 = eqb-true sign 43 p in

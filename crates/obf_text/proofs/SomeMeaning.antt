@@ -29,37 +29,97 @@ Something line = (meaning : Meaning) × Says line meaning
 part_says : (line blanks front rest : List ℕ) → line ≡ blanks ++ (front ++ rest) → AllPass is_blank blanks → AllPass is_cell front → Stops is_no_cell rest
     → 0 < length (front ++ rest) → is_blank (get_or (front ++ rest) 0 0) ≡ false → get_or (front ++ rest) 0 0 ≢ 37 → length front < 64 → Something line
 part_says line blanks [] [] w h c s some nb nc few = absurd (omega arith)
-part_says line blanks (x ∷ front) [] w h c s some nb nc few =
-    (Faulty (Short (length (x ∷ front))),
-        record { blanks = blanks; cells = x ∷ front; whole = w ∙ ap (λ t. blanks ++ t) (append-nil (x ∷ front));
-        blank = h; spelled = c; some = omega arith; few = few; count = refl })
-part_says line blanks [] (b ∷ more) w h c s some nb nc few =
-    (Faulty (BadCell (length blanks + (0 + 1))),
-        record { blanks = blanks; cells = []; byte = b; more = more; whole = w; blank = h; spelled = c; few = few;
-        bad = not-true _ s; starts = λ z. (nb, nc); place = refl })
-part_says line blanks (x ∷ front) (b ∷ more) w h c s some nb nc few =
-    (Faulty (BadCell (length blanks + (length (x ∷ front) + 1))),
-        record { blanks = blanks; cells = x ∷ front; byte = b; more = more; whole = w; blank = h; spelled = c;
-        few = few; bad = not-true _ s; starts = λ z. absurd (let e : suc (length front) ≡ 0 = z in omega arith); place = refl })
+part_says line blanks (x ∷ front) [] w h c s some nb nc few = (
+  Faulty (Short (length (x ∷ front))),
+  record {
+    blanks = blanks;
+    cells = x ∷ front;
+    whole = w ∙ ap (λ t. blanks ++ t) (append-nil (x ∷ front));
+    blank = h;
+    spelled = c;
+    some = omega arith;
+    few = few;
+    count = refl;
+  },
+)
+part_says line blanks [] (b ∷ more) w h c s some nb nc few = (
+  Faulty (BadCell (length blanks + (0 + 1))),
+  record {
+    blanks = blanks;
+    cells = [];
+    byte = b;
+    more = more;
+    whole = w;
+    blank = h;
+    spelled = c;
+    few = few;
+    bad = not-true _ s;
+    starts = λ z. (nb, nc);
+    place = refl;
+  },
+)
+part_says line blanks (x ∷ front) (b ∷ more) w h c s some nb nc few = (
+  Faulty (BadCell (length blanks + (length (x ∷ front) + 1))),
+  record {
+    blanks = blanks;
+    cells = x ∷ front;
+    byte = b;
+    more = more;
+    whole = w;
+    blank = h;
+    spelled = c;
+    few = few;
+    bad = not-true _ s;
+    starts = λ z. absurd (let e : suc (length front) ≡ 0 = z in omega arith);
+    place = refl;
+  },
+)
 
 -- the bytes from the side's place on
 side_says : (line blanks cells gap : List ℕ) (byte : ℕ) (rest : List ℕ) (mover : Option Side) → side_of byte ≡ mover
     → line ≡ blanks ++ (cells ++ (gap ++ byte ∷ rest)) → AllPass is_blank blanks
     → AllPass is_cell cells → length cells ≡ 64 → AllPass is_blank gap → is_content byte ≡ true → Something line
-side_says line blanks cells gap byte rest None e w h c all g s =
-    (Faulty (BadSide (length blanks + (64 + (length gap + 1)))),
-        record { blanks = blanks; cells = cells; gap = gap; rest = byte ∷ rest; whole = w; blank = h; spelled = c;
-        all = all; gap_blank = g; bad = (not-true _ s, e); place = refl })
-side_says line blanks cells gap byte rest (Some mover) e w h c all g s =
-    (Holds (record { position = record { cells = map cell_of cells; mover = mover }; listed = fields_of rest }),
-        record { blanks = blanks; cells = cells; gap = gap; byte = byte; rest = rest; whole = w; blank = h; spelled = c;
-        all = all; gap_blank = g; board = refl; mover = e; fields = lists_computed (pieces_of rest) })
+side_says line blanks cells gap byte rest None e w h c all g s = (
+  Faulty (BadSide (length blanks + (64 + (length gap + 1)))),
+  record {
+    blanks = blanks;
+    cells = cells;
+    gap = gap;
+    rest = byte ∷ rest;
+    whole = w;
+    blank = h;
+    spelled = c;
+    all = all;
+    gap_blank = g;
+    bad = (not-true _ s, e);
+    place = refl;
+  },
+)
+side_says line blanks cells gap byte rest (Some mover) e w h c all g s = (
+  Holds (record { position = record { cells = map cell_of cells; mover = mover }; listed = fields_of rest }),
+  record {
+    blanks = blanks;
+    cells = cells;
+    gap = gap;
+    byte = byte;
+    rest = rest;
+    whole = w;
+    blank = h;
+    spelled = c;
+    all = all;
+    gap_blank = g;
+    board = refl;
+    mover = e;
+    fields = lists_computed (pieces_of rest);
+  },
+)
 
 gap_says : (line blanks cells gap rest : List ℕ) → line ≡ blanks ++ (cells ++ (gap ++ rest)) → AllPass is_blank blanks
     → AllPass is_cell cells → length cells ≡ 64 → AllPass is_blank gap → Stops is_content rest → Something line
-gap_says line blanks cells gap [] w h c all g s =
-    (Faulty (BadSide (length blanks + (64 + (length gap + 1)))),
-        record { blanks = blanks; cells = cells; gap = gap; rest = []; whole = w; blank = h; spelled = c; all = all; gap_blank = g; bad = tt; place = refl })
+gap_says line blanks cells gap [] w h c all g s = (
+  Faulty (BadSide (length blanks + (64 + (length gap + 1)))),
+  record { blanks = blanks; cells = cells; gap = gap; rest = []; whole = w; blank = h; spelled = c; all = all; gap_blank = g; bad = tt; place = refl },
+)
 gap_says line blanks cells gap (b ∷ more) w h c all g s = side_says line blanks cells gap b more (side_of b) refl w h c all g s
 
 -- a line with 64 cells

@@ -22,9 +22,9 @@ trimmed_is before text after b a first some last =
     let back : suffix_len is_blank (text ++ after) ≡ length (text ++ after) - length text =
     suffix_len_is is_blank (text ++ after) (length text) 0 (omega arith)
     (λ k low high. let at : get_or (text ++ after) k 0 ≡ get_or after (k - length text) 0 = grind (arith, common_steps) in
-        rw at (a (k - length text) 0 (omega arith)))
+    rw at (a (k - length text) 0 (omega arith)))
     (λ lt. let at : get_or (text ++ after) (length text - 1) 0 ≡ get_or text (length text - 1) 0 = get_or-append text after 0 (length text - 1) (omega arith) in
-        rw at last) in
+    rw at last) in
     let kept : length (text ++ after) - suffix_len is_blank (text ++ after) ≡ length text = omega arith in
     ap without_last_blanks front ∙ ap (λ n. take n (text ++ after)) kept ∙ take-append_seam text after
 
@@ -48,7 +48,7 @@ end_blank piece k d lt =
     get_or-reverse piece (length piece - 1 - (n + k)) d (omega arith) in
     let back : length piece - 1 - (length piece - 1 - (n + k)) ≡ n + k = omega arith in
     let passes : is_blank (get_or (reverse piece) (length piece - 1 - (n + k)) d) ≡ true =
-        prefix_len_passes is_blank (reverse piece) (length piece - 1 - (n + k)) d (omega arith) in
+    prefix_len_passes is_blank (reverse piece) (length piece - 1 - (n + k)) d (omega arith) in
     ap is_blank (get_or-drop n piece k d ∙ ap (λ j. get_or piece j d) (sym back) ∙ sym from_end) ∙ passes
 
 abbrev pub dropped_behind : List ℕ → List ℕ

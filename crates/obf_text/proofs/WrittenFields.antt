@@ -85,10 +85,10 @@ move_onto c (At q) tail h mark rest =
     (lacks_cons c _ _ (plain_apart c (49 + q / 8) mark (omega arith, omega arith, omega arith)) rest)
 move_onto c Pass tail h mark rest =
     lacks_cons c _ _ (plain_apart c 80 mark (omega arith, omega arith, omega arith))
-        (lacks_cons c _ _ (plain_apart c 83 mark (omega arith, omega arith, omega arith)) rest)
+    (lacks_cons c _ _ (plain_apart c 83 mark (omega arith, omega arith, omega arith)) rest)
 move_onto c Over tail h mark rest =
     lacks_cons c _ _ (plain_apart c 45 mark (omega arith, omega arith, omega arith))
-        (lacks_cons c _ _ (plain_apart c 45 mark (omega arith, omega arith, omega arith)) rest)
+    (lacks_cons c _ _ (plain_apart c 45 mark (omega arith, omega arith, omega arith)) rest)
 
 digits_onto : (c n : ℕ) (tail : List ℕ) → n ≤ 64 → IsMark c → Lacks c tail → Lacks c ((48 + n / 10) ∷ (48 + n % 10) ∷ tail)
 digits_onto c n tail h mark rest =
@@ -126,7 +126,7 @@ lists_back : (fields : List Field) → AreWritable fields → Lists (slice_split
 lists_back [] h = rw fields_none (empty_is_none, tt)
 lists_back (f ∷ fields) h =
     let plain : All (λ b. (b == 59) ≡ false) (piece_text f) =
-        (subst (λ t. Lacks 59 t) (append-nil (piece_text f)) (piece_onto 59 f [] h.0 (inr (inr refl)) (lacks_nil 59))).each in
+    (subst (λ t. Lacks 59 t) (append-nil (piece_text f)) (piece_onto 59 f [] h.0 (inr (inr refl)) (lacks_nil 59))).each in
     let cut : slice_split (λ b. b == 59) (fields_text (f ∷ fields)) ≡ piece_text f ∷ slice_split (λ b. b == 59) (fields_text fields) =
     ap (slice_split (λ b. b == 59)) (fields_cons f fields) ∙ slice_split_at (λ b. b == 59) (piece_text f) 59 (fields_text fields) plain refl in
     rw cut (inl (piece_back f h.0, lists_back fields h.1))
@@ -136,11 +136,11 @@ pub fields_lack : (c : ℕ) (fields : List Field) → AreWritable fields → (c 
 fields_lack c [] h mark = rw fields_none (lacks_nil c)
 fields_lack c (f ∷ fields) h (inl e) =
     rw (fields_cons f fields)
-        (piece_onto c f (59 ∷ fields_text fields) h.0 (inl e) (lacks_cons c 59 (fields_text fields) (rw e (omega arith)) (fields_lack c fields h.1 (inl e))))
+    (piece_onto c f (59 ∷ fields_text fields) h.0 (inl e) (lacks_cons c 59 (fields_text fields) (rw e (omega arith)) (fields_lack c fields h.1 (inl e))))
 fields_lack c (f ∷ fields) h (inr e) =
     rw (fields_cons f fields)
-        (piece_onto c f (59 ∷ fields_text fields) h.0 (inr (inl e))
-        (lacks_cons c 59 (fields_text fields) (rw e (omega arith)) (fields_lack c fields h.1 (inr e))))
+    (piece_onto c f (59 ∷ fields_text fields) h.0 (inr (inl e))
+    (lacks_cons c 59 (fields_text fields) (rw e (omega arith)) (fields_lack c fields h.1 (inr e))))
 
 whole_before : (xs : List ℕ) → All (λ b. (b == 37) ≡ false) xs → before_first (λ b. b == 37) xs ≡ xs
 whole_before xs h =
@@ -153,7 +153,7 @@ pub all_back : (fields : List Field) → AreWritable fields → Lists (pieces_of
 all_back fields h =
     let plain = (lacks_cons 37 59 (fields_text fields) (omega arith) (fields_lack 37 fields h (inr refl))).each in
     rw (whole_before (59 ∷ fields_text fields) plain)
-        (lists_skip [] (slice_split (λ b. b == 59) (fields_text fields)) fields empty_is_none (lists_back fields h))
+    (lists_skip [] (slice_split (λ b. b == 59) (fields_text fields)) fields empty_is_none (lists_back fields h))
 
 pub score_size : (z : ℤ) → IsScore z → nat_abs z ≤ 64
 score_size (pos n) h = let high = h.high in omega (arith, ints)

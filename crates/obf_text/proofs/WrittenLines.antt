@@ -44,8 +44,8 @@ side_onto side.White tail rest = lacks_cons 10 79 tail (omega arith) rest
 line_lacks : (P : GridView) (A : AnswerView) → IsScore A.score → Lacks 10 (line_text P A)
 line_lacks P A h =
     let fields =
-        lacks_cons 10 59 (fields_text (answer_fields A)) (omega arith)
-            (fields_lack 10 (answer_fields A) (best_writable A.score A.best (score_size A.score h)) (inl refl)) in
+    lacks_cons 10 59 (fields_text (answer_fields A)) (omega arith)
+    (fields_lack 10 (answer_fields A) (best_writable A.score A.best (score_size A.score h)) (inl refl)) in
     rw (line_parts P A) (cells_onto P.cells _ (lacks_cons 10 32 _ (omega arith) (side_onto P.mover _ fields)))
 
 -- a text whose last byte is a semicolon

@@ -12,7 +12,7 @@ loop-listed-preserved g c =
     let small : nat_abs f.1 < 100 = subst (λ e. nat_abs e.1 < 100) (sym c.loop-listed-item.is) (c.requires i f c.loop-listed-test.true) in
     fields_more _ _ _ c.args.fields.now i f _ c.loop-listed-test.true c.loop-listed-item.is c.loop-listed.invariant
     (subst (λ z. Appends (g.W.Write.contents c.loop-listed.writer) (g.W.Write.contents c.write_field.new.writer) (field_text (f.0, z)))
-        (same_score f.1 small) c.in_ok-write_field.ensures)
+    (same_score f.1 small) c.in_ok-write_field.ensures)
 
 pub returns : goal.returns
 returns g c =
