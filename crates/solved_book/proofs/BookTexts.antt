@@ -64,8 +64,8 @@ line_passes n before Skipped given h = tt
 line_passes n before (Faulty f) given h = cc
 line_passes n before (Holds entry) given h =
     let facts =
-        checked_passes n (lists_nothing entry) (is_behind before (discs_of entry.position))
-            (is_canonical_entry entry.position) (discs_of entry.position, claim_of entry.listed) given h in
+    checked_passes n (lists_nothing entry) (is_behind before (discs_of entry.position))
+    (is_canonical_entry entry.position) (discs_of entry.position, claim_of entry.listed) given h in
     let parts = and_parts (is_black_side entry.position.mover) (same_discs (canonical_of (discs_of entry.position)) (discs_of entry.position)) facts.1 in
     record {
       listed = some_from (length entry.listed) facts.0;
@@ -79,7 +79,7 @@ passes_checked n before entry is behind =
     let c : PositionClaim = (discs_of entry.position, claim_of entry.listed) in
     let canonical : is_canonical_entry entry.position ≡ true =
     ap (λ s. is_black_side s && same_discs (canonical_of (discs_of entry.position)) (discs_of entry.position)) is.black
-        ∙ same_to (canonical_of (discs_of entry.position)) (discs_of entry.position) is.canonical in
+    ∙ same_to (canonical_of (discs_of entry.position)) (discs_of entry.position) is.canonical in
     ap (λ b. claim_or_fault n b (is_behind before (discs_of entry.position)) (is_canonical_entry entry.position) c) (none_to (length entry.listed) is.listed)
     ∙ (ap (λ b. claim_or_fault n false b (is_canonical_entry entry.position) c) behind ∙ ap (λ b. claim_or_fault n false true b c) canonical)
 
@@ -105,9 +105,10 @@ follow_more : (before : Option PosView) (p : PosView) (ps : List PosView) → is
 unfolding IsStrictlySortedBy
 follow_more None p ps behind h = h
 follow_more (Some q) p ps behind h =
-    let less : by_masks q p ≡ Less = less_turned p q (gt_is (by_masks p q) behind) in
-    ((less, all_weaker (λ r. by_masks p r ≡ Less) (λ r. by_masks q r ≡ Less) (λ r l. masks_total.trans (masks_at q) (masks_at p) (masks_at r) less l) ps h.0),
-        h)
+    let less : by_masks q p ≡ Less = less_turned p q (gt_is (by_masks p q) behind) in (
+      (less, all_weaker (λ r. by_masks p r ≡ Less) (λ r. by_masks q r ≡ Less) (λ r l. masks_total.trans (masks_at q) (masks_at p) (masks_at r) less l) ps h.0),
+      h,
+    )
 
 follow_behind : (before : Option PosView) (p : PosView) (ps : List PosView) → Follow before (p ∷ ps) → is_behind before p ≡ true
 unfolding IsStrictlySortedBy
@@ -143,7 +144,7 @@ without_fault n before (line ∷ lines) cs h = by (claim_in_line n before (item_
         let split = onto_ok c (claims_from (n + 1) (Some c.0) lines) cs (sym (from_some n before line lines c i) ∙ h) in
         let rest = more (Some c.0) split.0 split.1 in
         let all : Follow before (c.0 ∷ claimed_positions split.0) =
-            follow_more before c.0 (claimed_positions split.0) (line_behind n before (item_of line) c i) rest.1 in
+        follow_more before c.0 (claimed_positions split.0) (line_behind n before (item_of line) c i) rest.1 in
         ((line_passes n before (item_of line) (Some c) i, rest.0), subst (λ ds. Follow before (claimed_positions ds)) (sym split.2) all)
 
 -- lines that pass have no fault where their positions rise

@@ -119,8 +119,8 @@ line_behind n before Skipped c h = cc
 line_behind n before (Faulty f) c h = cc
 line_behind n before (Holds entry) c h =
     let facts =
-        checked_behind n (lists_nothing entry) (is_behind before (discs_of entry.position))
-            (is_canonical_entry entry.position) (discs_of entry.position, claim_of entry.listed) c h in
+    checked_behind n (lists_nothing entry) (is_behind before (discs_of entry.position))
+    (is_canonical_entry entry.position) (discs_of entry.position, claim_of entry.listed) c h in
     ap (λ (x : PositionClaim). is_behind before x.0) (sym facts.1) ∙ facts.0
 
 -- the claims of lines by those of the first line and of the lines behind it
@@ -172,7 +172,7 @@ pub reads_none : (n : ℕ) (before : Option Masks) (es : List (Masks × Claim)) 
 reads_none n before es line left lines all cut e h = record {
   whole =
       ap (claims_after (map position_claim es))
-          (sym (ap (claims_from n (option_map position_at before)) cut ∙ from_none n (option_map position_at before) line lines e)) ∙ h.whole;
+      (sym (ap (claims_from n (option_map position_at before)) cut ∙ from_none n (option_map position_at before) line lines e)) ∙ h.whole;
 }
 
 pub reads_some : (n : ℕ) (before : Option Masks) (es new : List (Masks × Claim)) (m : Masks) (v : Claim) (line : List ℕ)
@@ -184,8 +184,10 @@ reads_some n before es new m v line left lines all cut e more h =
     let rest = claims_from (n + 1) (Some (position_at m)) lines in
     let step : claims_from n (option_map position_at before) left ≡ claims_after ((position_at m, v) ∷ []) rest =
     ap (claims_from n (option_map position_at before)) cut ∙ from_some n (option_map position_at before) line lines (position_at m, v) e in
-    record { whole = ap (λ cs. claims_after cs rest) more
-        ∙ sym (onto_onto (map position_claim es) ((position_at m, v) ∷ []) rest) ∙ ap (claims_after (map position_claim es)) (sym step) ∙ h.whole }
+    record {
+      whole = ap (λ cs. claims_after cs rest) more
+          ∙ sym (onto_onto (map position_claim es) ((position_at m, v) ∷ []) rest) ∙ ap (claims_after (map position_claim es)) (sym step) ∙ h.whole;
+    }
 
 -- the fault that is returned is that of the lines, or `Memory`
 abbrev pub GivesFault : BookFault → Result (List PositionClaim) BookFault → Type 0
@@ -201,7 +203,7 @@ reads_err n before es line left lines f all cut e h = by f e
     fails f e =
         sym h.whole
         ∙ ap (claims_after (map position_claim es))
-            (ap (claims_from n (option_map position_at before)) cut ∙ from_err n (option_map position_at before) line lines f e)
+        (ap (claims_from n (option_map position_at before)) cut ∙ from_err n (option_map position_at before) line lines f e)
 
     by : (f : BookFault) → GivesLine (Err f) (claim_in_line n (option_map position_at before) (item_of line)) → GivesFault f all
     by fault.Memory e = tt
@@ -236,7 +238,7 @@ line_known n before Skipped h = cc
 line_known n before (Faulty f) h = cc
 line_known n before (Holds entry) h =
     checked_known n (lists_nothing entry) (is_behind before (discs_of entry.position))
-        (is_canonical_entry entry.position) (discs_of entry.position, claim_of entry.listed) h
+    (is_canonical_entry entry.position) (discs_of entry.position, claim_of entry.listed) h
 
 pub onto_err : (xs : List PositionClaim) (r : Result (List PositionClaim) BookFault) (f : BookFault) → claims_after xs r ≡ Err f → r ≡ Err f
 onto_err xs (Ok ys) f h = cc
@@ -268,7 +270,7 @@ pub gives_fault : (g : Scoring) (f : BookFault) (cs : List PositionClaim) (n : �
     → GivesAdvice (Err f) (advice g (claims_after cs (claims_from n before lines)))
 gives_fault g fault.Memory cs n before lines e =
     λ h. lines_known n before lines
-        (onto_err cs (claims_from n before lines) fault.Header (advice_err g (claims_after cs (claims_from n before lines)) fault.Header h))
+    (onto_err cs (claims_from n before lines) fault.Header (advice_err g (claims_after cs (claims_from n before lines)) fault.Header h))
 gives_fault g (fault.Line k l) cs n before lines e = ap (advice g) e
 gives_fault g (fault.NoMoves k) cs n before lines e = ap (advice g) e
 gives_fault g (fault.Unsorted k) cs n before lines e = ap (advice g) e

@@ -40,7 +40,7 @@ book_positions_from g es kept = record {
   rising = kept.rising;
   canonical =
       All-map IsCanonical (λ (e : Masks × AnswerView). position_at e.0) es
-          (All-weaker (IsSolvedEntry g) (λ e. IsCanonical (position_at e.0)) (λ e s. s.canonical) es kept.solved);
+      (All-weaker (IsSolvedEntry g) (λ e. IsCanonical (position_at e.0)) (λ e s. s.canonical) es kept.solved);
 }
 
 -- what holds of each entry and of one more holds of each after that one is put in
@@ -59,7 +59,7 @@ solved_insert : (g : Scoring) (k : Masks) (v : AnswerView) (es new : List (Masks
     → AreSolved g es → new ≡ insert_entry masks_cmp es k v → AreSolved g new
 solved_insert g k v es new h a e =
     rw e (All-from_recursion (IsSolvedEntry g) (insert_entry masks_cmp es k v)
-        (insert_all (IsSolvedEntry g) k v h es (recursion_from_All (IsSolvedEntry g) es a)))
+    (insert_all (IsSolvedEntry g) k v h es (recursion_from_All (IsSolvedEntry g) es a)))
 
 -- an entry that is put in keeps the order
 pub all_weaker : (P Q : PosView → Type 0) → ((q : PosView) → P q → Q q) → (qs : List PosView) → AllByRecursion P qs → AllByRecursion Q qs

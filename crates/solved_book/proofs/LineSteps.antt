@@ -58,7 +58,7 @@ first_and_rest a b n line lines h = by (claims_from n (last_position None a.clai
     by (Err f) e = let no : Err f ≡ Ok b = sym (ap (λ r. advice a.scoring (claims_after a.claims r)) e) ∙ h in cc
     by (Ok cs) e =
         let made : Ok (let c : ClaimsView = record { scoring = a.scoring; claims = a.claims ++ cs } in c) ≡ Ok b =
-            sym (ap (λ r. advice a.scoring (claims_after a.claims r)) e) ∙ h in
+        sym (ap (λ r. advice a.scoring (claims_after a.claims r)) e) ∙ h in
         let same : (let c : ClaimsView = record { scoring = a.scoring; claims = a.claims ++ cs } in c) ≡ b = cc in
         let rest = claims_from (n + 1) (last_position (last_position None a.claims) cs) lines in
         ap (λ r. advice a.scoring (claims_after a.claims r)) (lines_after (line ∷ []) lines n (last_position None a.claims) cs e)
@@ -85,7 +85,7 @@ fault_of_line a n line rest f none h = by (claims_from n (last_position None a.c
     by (Err k) e =
         ap (more_lines a n) (line_lines line rest none)
         ∙ (ap (λ r. advice a.scoring (claims_after a.claims r))
-            (fault_before (strip_carriage_return line ∷ []) (lines_of rest) n (last_position None a.claims) k e)
+        (fault_before (strip_carriage_return line ∷ []) (lines_of rest) n (last_position None a.claims) k e)
         ∙ (sym (ap (λ r. advice a.scoring (claims_after a.claims r)) e) ∙ alone))
 
 pub no_more : (a : ClaimsView) (n : ℕ) → more_claims a n [] ≡ Ok a
@@ -152,7 +152,7 @@ fault_in_front a n sure rest b f none stays =
     let before = last_position None a.claims in
     ap (more_lines a n) line.2
     ∙ ap (λ r. advice a.scoring (claims_after a.claims r))
-        (from_err n before (sure ++ line.0) line.1 (fault.Line n f) (ap (claim_in_line n before) (stays line.0)))
+    (from_err n before (sure ++ line.0) line.1 (fault.Line n f) (ap (claim_in_line n before) (stays line.0)))
 
 -- ---- a header by its front
 
@@ -164,7 +164,7 @@ long_name Sign name long e = let l = ap length e in omega (arith, l)
 unnamed : (name : List ℕ) → 6 < length name → scoring_named name ≡ None
 unnamed name long =
     let off : (g : Scoring) → bytes_eq (scoring_name g) name ≡ false =
-        λ g. false_from_ne_true _ (λ e. long_name g name long ((bytes_eq-Decides (scoring_name g) name).0 e)) in
+    λ g. false_from_ne_true _ (λ e. long_name g name long ((bytes_eq-Decides (scoring_name g) name).0 e)) in
     rw (off Winner, off Discs, off Sign) refl
 
 -- the scoring that a line names which is longer than a header, by its front: the test for a header

@@ -64,7 +64,7 @@ squares_back : (score : ℤ) (m : ℕ) → m < 2 ^ 64 → listed_squares score (
 unfolding listed_squares
 squares_back score m h =
     sym (is_where m (λ q. list_any (field_lists_square score q) (map (at score) (squares_of m))) h
-        (λ q l. sym (lists_same score q (squares_of m) ∙ square_in_mask m q l)))
+    (λ q l. sym (lists_same score q (squares_of m) ∙ square_in_mask m q l)))
 
 -- ---- the score
 
@@ -101,7 +101,7 @@ moves_by : (score : ℤ) (m : ℕ) → 0 < m → m < 2 ^ 64 → listed_best scor
 moves_by score m some h =
     ap (λ squares. best_by squares (list_any (field_lists_pass score) (map (at score) (squares_of m)))) (squares_back score m h)
     ∙ ap (λ b. cond b (cond (list_any (field_lists_pass score) (map (at score) (squares_of m))) best.Pass best.Over) (best.Moves m))
-        (ne_eqb m 0 (λ e. absurd (omega arith)))
+    (ne_eqb m 0 (λ e. absurd (omega arith)))
 
 moves_back : (score : ℤ) (m : ℕ) (qs : List ℕ) → squares_of m ≡ qs → 0 < m → m < 2 ^ 64 → IsListed score (best.Moves m) (map (at score) (squares_of m))
 unfolding greatest
@@ -112,7 +112,7 @@ moves_back score m (q ∷ qs) e some h = record {
   some = ap (λ t. nat_eq (length (map (at score) t)) 0) e ∙ ne_eqb (suc (length (map (at score) qs))) 0 (λ z. absurd (omega arith));
   claim =
       claim_from score (best.Moves m) (map (at score) (squares_of m))
-          (ap (λ t. greatest_listed (map (at score) t)) e ∙ scores_back score qs) (moves_by score m some h);
+      (ap (λ t. greatest_listed (map (at score) t)) e ∙ scores_back score qs) (moves_by score m some h);
 }
 
 no_squares : (score : ℤ) (fields : List Field) → ((q : ℕ) → list_any (field_lists_square score q) fields ≡ false) → listed_squares score fields ≡ 0

@@ -40,4 +40,4 @@ pub lists_all : (score : ℤ) (fields : List Field) (i mask : ℕ) → length fi
 unfolding listed_squares
 lists_all score fields i mask past held =
     is_where mask (λ q. list_any (field_lists_square score q) fields) held.fits
-        (λ q h. held.each q h ∙ ap (list_any (field_lists_square score q)) (take_all i fields past))
+    (λ q h. held.each q h ∙ ap (list_any (field_lists_square score q)) (take_all i fields past))

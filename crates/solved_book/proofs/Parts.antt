@@ -47,7 +47,7 @@ pub lines_parts : (front rest : List ℕ) → lines_of (front ++ 10 ∷ rest) �
 lines_parts front rest =
     let part = has_first_part is_feed rest in
     let kept : without_empty_last (slice_split is_feed front ++ slice_split is_feed rest)
-        ≡ slice_split is_feed front ++ without_empty_last (slice_split is_feed rest) =
+    ≡ slice_split is_feed front ++ without_empty_last (slice_split is_feed rest) =
     rw part.2 (last_kept (slice_split is_feed front) part.0 part.1) in
     ap (λ parts. map strip_carriage_return (without_empty_last parts)) (split_parts front rest)
     ∙ (ap (map strip_carriage_return) kept ∙ map-append strip_carriage_return (slice_split is_feed front) (without_empty_last (slice_split is_feed rest)))
@@ -77,7 +77,7 @@ fault_under (Some g) front rest f h = by (claims_from 1 None front) refl
 pub fault_of_part : (front rest : List ℕ) (f : BookFault) → claims_of (front ++ 10 ∷ []) ≡ Err f → claims_of (front ++ 10 ∷ rest) ≡ Err f
 fault_of_part front rest f h =
     both_parts front rest ∙ fault_under (scoring_of_lines (ended_lines front)) (ended_lines front) (lines_of rest) f
-        (sym (ap advice_of (front_lines front)) ∙ h)
+    (sym (ap advice_of (front_lines front)) ∙ h)
 
 pub claims_of_parts : (front rest : List ℕ) (a : ClaimsView) → claims_of (front ++ 10 ∷ []) ≡ Ok a
     → claims_of (front ++ 10 ∷ rest) ≡ more_claims a (1 + length (lines_of (front ++ 10 ∷ []))) rest
@@ -88,4 +88,4 @@ claims_of_parts front rest a h =
     ∙ (ap (λ o. advice_under o (lines ++ lines_of rest)) (scoring_under (scoring_of_lines lines) lines a first)
     ∙ (ap (advice a.scoring) (lines_after lines (lines_of rest) 1 None a.claims (under_ok (scoring_of_lines lines) lines a first))
     ∙ ap (λ ls. advice a.scoring (claims_after a.claims (claims_from (1 + length ls) (last_position None a.claims) (lines_of rest))))
-        (sym (front_lines front))))
+    (sym (front_lines front))))

@@ -73,7 +73,7 @@ answer_narrow : (g : Scoring) (p : PosView) → IsNarrow (answer_of g p).best
 unfolding best_answer
 answer_narrow g p =
     subst IsNarrow (ap (λ (r : AnswerView). r.best) (sym (answer-is g p)))
-        (narrow_by (nat_eq (moves_of p) 0) (nat_eq (moves_of (pass_of p)) 0) (is_best_move g p))
+    (narrow_by (nat_eq (moves_of p) 0) (nat_eq (moves_of (pass_of p)) 0) (is_best_move g p))
 
 -- ---- a line
 
@@ -154,7 +154,7 @@ claims_back g ps h =
     ap (λ lines. advice_under (scoring_of_lines lines) lines) (header_line g rest)
     ∙ ap (λ o. advice_under o (header g ∷ lines_of rest)) (header_scoring g)
     ∙ ap (advice g)
-        (from_none 1 None (header g) (lines_of rest) skipped ∙ lines_back g 2 None ps h.rising (recursion_from_All IsCanonical ps h.canonical) (first ps))
+    (from_none 1 None (header g) (lines_of rest) skipped ∙ lines_back g 2 None ps h.rising (recursion_from_All IsCanonical ps h.canonical) (first ps))
   where
     first : (ps : List PosView) → IsFirstAfter None ps
     first [] = tt

@@ -19,4 +19,4 @@ returns g c =
     let text : line_with_end c.to_grid.result c.args.answer.now ≡ book_line c.args.scoring (position_at c.args.masks) =
     ap₂ line_with_end (c.to_grid.ensures ∙ ap (position_of Black) c.in-Some.ensures.value) c.requires.exact in
     subst (λ t. OnOk c.write_line.result (Appends (g.W.Write.contents c.args.writer.now) (g.W.Write.contents c.write_line.new.writer) t))
-        text c.write_line.ensures
+    text c.write_line.ensures

@@ -26,7 +26,7 @@ returns-clause-new c =
     let p = c.args.solved.now.position in
     let at : position_at c.masks_of.result ≡ canonical_of p = c.masks_of.ensures ∙ c.canonical-position.ensures.value ∙ ap canonical_of c.pos.ensures in
     subst (λ (b : BookView). (IsTrue c.is_none.result → Contains b.positions (canonical_of p) → ⊥)
-        × ((Contains b.positions (canonical_of p) → ⊥) → IsTrue c.is_none.result)) c.self.view_is
+    × ((Contains b.positions (canonical_of p) → ⊥) → IsTrue c.is_none.result)) c.self.view_is
     (new_when c.self.inside.answers (canonical_of p) c.masks_of.result c.in_ok-known.known c.is_none.result c.is_none.ensures at c.in_ok-known.ensures.old)
 
 pub returns-clause-holds : goal.returns-clause-holds
@@ -34,7 +34,7 @@ returns-clause-holds c =
     let p = c.args.solved.now.position in
     let at : position_at c.masks_of.result ≡ canonical_of p = c.masks_of.ensures ∙ c.canonical-position.ensures.value ∙ ap canonical_of c.pos.ensures in
     subst (λ (b : BookView). (q : PosView) → Contains (positions_in c.insert.new.self.entries) q ↔ ((q ≡ canonical_of p) ⊎ Contains b.positions q))
-        c.self.view_is
+    c.self.view_is
     (held_then c.self.inside.answers c.insert.new.self (canonical_of p) c.masks_of.result c.canonical_answer-answer.result at c.in_ok-known.ensures.updates)
 
 pub returns-in_err-known-clause-err : goal.returns-in_err-known-clause-err

@@ -37,10 +37,10 @@ pub returns-clause-text : goal.returns-clause-text
 returns-clause-text g c =
     let none : c.loop-masks.masks-iterator ≡ [] = search rules in
     subst (λ (b : BookView). Appends (g.W.Write.contents c.args.writer.now) (g.W.Write.contents c.loop-masks.writer) (book_text b.scoring b.positions))
-        c.self.view_is
+    c.self.view_is
     (completes_end _ _ _ (rw none at c.loop-masks.invariant.text))
 
 pub returns-clause-positions : goal.returns-clause-positions
 returns-clause-positions g c =
     subst (λ (b : BookView). AreBookPositions b.positions) c.self.view_is
-        (book_positions_from c.self.inside.scoring c.self.inside.answers.entries c.self.invariant)
+    (book_positions_from c.self.inside.scoring c.self.inside.answers.entries c.self.invariant)

@@ -21,7 +21,7 @@ loop-line-init c =
     record {
       reads =
           rw same (reads_start c.args.number c.last_masks-before.result kept c.args.self.claims
-              (lines_of c.args.text.now) (ap (λ (a : ClaimsView). a.claims) c.self.view_is) c.last_masks-before.ensures);
+          (lines_of c.args.text.now) (ap (λ (a : ClaimsView). a.claims) c.self.view_is) c.last_masks-before.ensures);
       last = c.last_masks-before.ensures;
       rising = c.self.invariant;
       room = rw same (omega arith);
@@ -73,8 +73,8 @@ returns-in_err-masks c =
     let lines = lines_of c.args.text.now in
     let cut : c.loop-line.line-iterator ≡ c.in-Some.line.now ∷ c.next.new.self = search rules in
     let fault =
-        reads_err c.loop-line.number c.loop-line.before c.loop-line.claims.entries c.in-Some.line.now
-            c.loop-line.line-iterator c.next.new.self c.in_err-masks.field-0.0
+    reads_err c.loop-line.number c.loop-line.before c.loop-line.claims.entries c.in-Some.line.now
+    c.loop-line.line-iterator c.next.new.self c.in_err-masks.field-0.0
     (claims_after a.claims (claims_from c.args.number last lines)) cut c.in_err-masks.ensures c.loop-line.invariant.reads in
     rw (p.1, p.2) (gives_fault a.scoring c.in_err-masks.field-0.0 a.claims c.args.number last lines fault)
 
