@@ -32,7 +32,7 @@ pub small_at : (files : List File) (i : ℕ) (d : File) → first_large (texts_o
 small_at files i d none lt =
     let e = first_map files ∙ none in
     let past : length files ≤ position_or_len (λ f. is_large f.items) files =
-        ltb-false _ _ (cond_none (nat_lt (position_or_len (λ f. is_large f.items) files) (length files)) (position_or_len (λ f. is_large f.items) files) e) in
+    ltb-false _ _ (cond_none (nat_lt (position_or_len (λ f. is_large f.items) files) (length files)) (position_or_len (λ f. is_large f.items) files) e) in
     ltb-false _ _ (fails_before_first (λ f. is_large f.items) files i d (omega arith))
 
 -- ---- what is refused
@@ -46,8 +46,8 @@ refusal_cases texts = go (nat_lt MOST_FILES (length texts)) refl
         → ((MOST_FILES < length texts)
         × (cond (nat_lt MOST_FILES (length texts)) (Some TooManyFiles) (option_map FileTooLarge (first_large texts)) ≡ Some TooManyFiles))
         ⊎ ((length texts ≤ MOST_FILES)
-            × (cond (nat_lt MOST_FILES (length texts)) (Some TooManyFiles) (option_map FileTooLarge (first_large texts))
-            ≡ option_map FileTooLarge (first_large texts)))
+        × (cond (nat_lt MOST_FILES (length texts)) (Some TooManyFiles) (option_map FileTooLarge (first_large texts))
+        ≡ option_map FileTooLarge (first_large texts)))
     go true e = inl (ltb-true _ _ e, rw e refl)
     go false e = inr (ltb-false _ _ e, rw e refl)
 
