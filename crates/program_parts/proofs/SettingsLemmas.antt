@@ -82,7 +82,7 @@ scoring_given c m names p ready leaves named at one =
     }) in
     let among : list_any (λ name. bytes_eq name read.0) (map scoring_name all_scorings) ≡ true =
     ap (list_any (λ name. bytes_eq name read.0)) (sym named)
-        ∙ sym (list_any-map (λ name. bytes_eq name read.0) (λ (name : Bor Text). name.now) names.now) ∙ read.3 in
+    ∙ sym (list_any-map (λ name. bytes_eq name read.0) (λ (name : Bor Text). name.now) names.now) ∙ read.3 in
     let g = named_scoring all_scorings read.0 among in
     (g.0, sym (first_value-rows (found_of m) (codes "scoring")) ∙ read.1 ∙ ap Some (sym g.1))
 
@@ -96,7 +96,7 @@ pub settings_given : (c : Command) (m : ArgMatches) (names : NameList) → IsPar
     → (s : SettingsView) × IsWithinLimits s × HasSettings s (rows_of (found_of m))
 settings_given c m names p leaves named rules =
     let max_empties =
-        number_within c m 0 (codes "max-empties") MOST_EMPTIES default_empties p rules.ready leaves rules.max_empties rules.one_max_empties refl in
+    number_within c m 0 (codes "max-empties") MOST_EMPTIES default_empties p rules.ready leaves rules.max_empties rules.one_max_empties refl in
     let workers = number_within c m 1 (codes "workers") MOST_WORKERS default_workers p rules.ready leaves rules.workers rules.one_workers refl in
     let table = number_within c m 2 (codes "table") MOST_ENTRIES default_entries p rules.ready leaves rules.table rules.one_table refl in
     let scoring = scoring_given c m names p rules.ready leaves named rules.scoring rules.one_scoring in
