@@ -27,7 +27,7 @@ module _ (g : Scoring) (by : Criteria) (entry : Entry) (p : PosView) (whole : le
   within few =
       let c = count in
       false_from_ne_true (nat_lt by.limit (empties entry.position))
-          (λ t. let more : by.limit < empties entry.position = ltb-true by.limit (empties entry.position) t in omega (arith, c))
+      (λ t. let more : by.limit < empties entry.position = ltb-true by.limit (empties entry.position) t in omega (arith, c))
 
   beyond : (empties_of p ≤ by.limit → ⊥) → nat_lt by.limit (empties entry.position) ≡ true
   beyond many =
@@ -45,7 +45,7 @@ module _ (g : Scoring) (by : Criteria) (entry : Entry) (p : PosView) (whole : le
   pub entry_task : (t : TaskView) → empties_of p ≤ by.limit → t ≡ record { position = p; scoring = g } → Some t ≡ task_of g by.limit (Holds entry)
   entry_task t few is =
       let same : t ≡ record { position = discs_of entry.position; scoring = g } =
-          is ∙ ap (λ d. let r : TaskView = record { position = d; scoring = g } in r) e in
+      is ∙ ap (λ d. let r : TaskView = record { position = d; scoring = g } in r) e in
       rw (within few, same) refl
 
   -- with too many it is refused
