@@ -86,7 +86,7 @@ lists_set c s state new ids ids' at kept here there s' k =
     elim (cases_eq s' s) [
       | inl e ↦
           let now : stage_at (set c s new) s' k ≡ slice_get new.stages k =
-              ap (λ n. stage_at (set c s new) n k) e ∙ ap (stage_of_job k) (slice_get-set_same c s new (slice_get_within c s state at)) in
+          ap (λ n. stage_at (set c s new) n k) e ∙ ap (stage_of_job k) (slice_get-set_same c s new (slice_get_within c s state at)) in
           let before : stage_at c s k ≡ slice_get state.stages k = ap (stage_of_job k) at in
           let old = kept s k in
           let step = here k in
@@ -128,7 +128,7 @@ keeps c ids taken room s state new b at same is_state = record {
   content = content_set c s new (slice_get_within c s state at) b.content is_state;
   lists =
       lists_set c s state new ids ids at b.lists
-          (λ k. ap (λ (l : List Stage). id_count s k ids + bit (is_waiting (slice_get l k))) (sym same)) (λ s' k ne. refl);
+      (λ k. ap (λ (l : List Stage). id_count s k ids + bit (is_waiting (slice_get l k))) (sym same)) (λ s' k ne. refl);
   counts = omega (arith, b.counts, taken-set c s state new at, ap (λ (l : List Stage). count_by is_taken l) same);
   has_room = b.has_room;
 }
@@ -146,9 +146,15 @@ lists_restaged c s k state old new ids ids' at was kept here there =
       | inl e ↦
           let before : slice_get state.stages k' ≡ Some old = ap (slice_get state.stages) e ∙ was in
           let now : slice_get (set state.stages k new) k' ≡ Some new =
-              ap (slice_get (set state.stages k new)) e ∙ slice_get-set_same state.stages k new (slice_get_within state.stages k old was) in
-          omega (arith, here, ap (λ o. bit (is_waiting o)) before, ap (λ o. bit (is_waiting o)) now,
-              ap (λ n. id_count s n ids) e, ap (λ n. id_count s n ids') e)
+          ap (slice_get (set state.stages k new)) e ∙ slice_get-set_same state.stages k new (slice_get_within state.stages k old was) in
+          omega (
+            arith,
+            here,
+            ap (λ o. bit (is_waiting o)) before,
+            ap (λ o. bit (is_waiting o)) now,
+            ap (λ n. id_count s n ids) e,
+            ap (λ n. id_count s n ids') e,
+          )
       | inr ne ↦ omega (arith, there s k' (inr ne), ap (λ o. bit (is_waiting o)) (slice_get-set_other state.stages k k' new ne))
     ])
     (λ s' k' ne. there s' k' (inl ne))
@@ -166,7 +172,7 @@ state_restaged state k old new h was undone fits = record {
   solved = λ k' a at. elim (cases_eq k' k) [
     | inl e ↦
         let now : Some new ≡ Some (Finished a) =
-            sym (slice_get-set_same state.stages k new (slice_get_within state.stages k old was)) ∙ (ap (slice_get (set state.stages k new)) (sym e) ∙ at) in
+        sym (slice_get-set_same state.stages k new (slice_get_within state.stages k old was)) ∙ (ap (slice_get (set state.stages k new)) (sym e) ∙ at) in
         let P : Option TaskView → Type 0 = λ o. o ≡ Some a in
         subst P (ap (slice_get state.tasks) (sym e)) (fits a (same_Some new (Finished a) now))
     | inr ne ↦ h.solved k' a (sym (slice_get-set_other state.stages k k' new ne) ∙ at)
@@ -191,11 +197,11 @@ takes c id ids ids' taken room state b moved at was = record {
   few = omega (arith, b.few, length-set c id.sender (with_stage id.number Taken state));
   content =
       content_set c id.sender (with_stage id.number Taken state) (slice_get_within c id.sender state at) b.content
-          (state_restaged state id.number Waiting Taken (b.content id.sender state at) was refl (λ a e. cc));
+      (state_restaged state id.number Waiting Taken (b.content id.sender state at) was refl (λ a e. cc));
   lists =
       lists_restaged c id.sender id.number state Waiting Taken ids ids' at was b.lists
-          (omega (arith, bit_same id, id_count-popped id.sender id.number id ids ids' moved))
-          (λ s k ne. omega (arith, bit_other id s k ne, id_count-popped s k id ids ids' moved));
+      (omega (arith, bit_same id, id_count-popped id.sender id.number id ids ids' moved))
+      (λ s k ne. omega (arith, bit_other id s k ne, id_count-popped s k id ids ids' moved));
   counts = omega (arith, b.counts, taken_restaged c id.sender id.number state Waiting Taken at was);
   has_room = omega (arith, b.has_room, length_permutation ids (id ∷ ids') moved);
 }
@@ -210,11 +216,11 @@ gives_back c id ids ids' taken room room' state b moved more at was =
       few = omega (arith, b.few, length-set c id.sender (with_stage id.number Waiting state));
       content =
           content_set c id.sender (with_stage id.number Waiting state) (slice_get_within c id.sender state at) b.content
-              (state_restaged state id.number Taken Waiting (b.content id.sender state at) was refl (λ a e. cc));
+          (state_restaged state id.number Taken Waiting (b.content id.sender state at) was refl (λ a e. cc));
       lists =
           lists_restaged c id.sender id.number state Taken Waiting ids ids' at was b.lists
-              (omega (arith, bit_same id, id_count-pushed id.sender id.number id ids ids' moved))
-              (λ s k ne. omega (arith, bit_other id s k ne, id_count-pushed s k id ids ids' moved));
+          (omega (arith, bit_same id, id_count-pushed id.sender id.number id ids ids' moved))
+          (λ s k ne. omega (arith, bit_other id s k ne, id_count-pushed s k id ids ids' moved));
       counts = omega (arith, b.counts, taken_restaged c id.sender id.number state Taken Waiting at was);
       has_room = omega (arith, b.has_room, some, more, length_permutation (id ∷ ids) ids' moved);
     }
@@ -231,7 +237,7 @@ finishes c s k a ids taken room state b at was fits =
       few = omega (arith, b.few, length-set c s (with_stage k (Finished a) state));
       content =
           content_set c s (with_stage k (Finished a) state) (slice_get_within c s state at) b.content
-              (state_restaged state k Taken (Finished a) (b.content s state at) was refl (λ a' e. fits ∙ ap Some (same_finished a a' e)));
+          (state_restaged state k Taken (Finished a) (b.content s state at) was refl (λ a' e. fits ∙ ap Some (same_finished a a' e)));
       lists = lists_restaged c s k state Taken (Finished a) ids ids at was b.lists refl (λ s' k' ne. refl);
       counts = omega (arith, b.counts, taken_restaged c s k state Taken (Finished a) at was);
       has_room = omega (arith, b.has_room);
@@ -271,7 +277,7 @@ pub delivers : (c : BoardView) (ids : List JobId) (taken room s : ℕ) (state : 
     → IsBoard (set c s (state_after_handed state (deliver_reply_of state))) ids taken room
 delivers c ids taken room s state b at =
     keeps c ids taken room s state (state_after_handed state (deliver_reply_of state)) b at
-        (handed_same_stages state (deliver_reply_of state)) (handed_is_state state (slice_get state.stages state.handed) refl (b.content s state at))
+    (handed_same_stages state (deliver_reply_of state)) (handed_is_state state (slice_get state.stages state.handed) refl (b.content s state at))
 
 pub delivered : (c : BoardView) (s : ℕ) (state : SenderView) (r : Handed) → slice_get c s ≡ Some state
     → set c s (state_after_handed state r) ≡ after_deliver c s r
@@ -322,7 +328,7 @@ pub first_waits : (c : BoardView) (id : JobId) (ids ids' : List JobId) (taken ro
     → IsPermutation ids (id ∷ ids') → stage_at c id.sender id.number ≡ Some Waiting
 first_waits c id ids ids' taken room b moved =
     waiting_from (stage_at c id.sender id.number)
-        (omega (arith, b.lists id.sender id.number, bit_same id, id_count-popped id.sender id.number id ids ids' moved))
+    (omega (arith, b.lists id.sender id.number, bit_same id, id_count-popped id.sender id.number id ids ids' moved))
 
 pub first_state : (c : BoardView) (id : JobId) (ids ids' : List JobId) (taken room : ℕ) → IsBoard c ids taken room
     → IsPermutation ids (id ∷ ids') → (state : SenderView) × (slice_get c id.sender ≡ Some state) × (slice_get state.stages id.number ≡ Some Waiting)
@@ -384,11 +390,17 @@ submits c s t ids ids' taken room room' state b at few moved enough =
             | inl e ↦
                 let before : slice_get state.stages k ≡ None = ap (slice_get state.stages) e ∙ none in
                 let now : slice_get (state.stages ++ Waiting ∷ []) k ≡ Some Waiting = slice_get-push_same state.stages Waiting k (e ∙ sym h.stages) in
-                omega (arith, id_count-pushed s k id ids ids' moved, bit_same id, ap (λ n. bit (is_id_of s n id)) e,
-                    ap (λ o. bit (is_waiting o)) before, ap (λ o. bit (is_waiting o)) now)
+                omega (
+                  arith,
+                  id_count-pushed s k id ids ids' moved,
+                  bit_same id,
+                  ap (λ n. bit (is_id_of s n id)) e,
+                  ap (λ o. bit (is_waiting o)) before,
+                  ap (λ o. bit (is_waiting o)) now,
+                )
             | inr ne ↦
                 let now : slice_get (state.stages ++ Waiting ∷ []) k ≡ slice_get state.stages k =
-                    slice_get-push_other state.stages Waiting k (λ e. ne (e ∙ h.stages)) in
+                slice_get-push_other state.stages Waiting k (λ e. ne (e ∙ h.stages)) in
                 omega (arith, id_count-pushed s k id ids ids' moved, bit_other id s k (inr ne), ap (λ o. bit (is_waiting o)) now)
           ])
           (λ s' k ne. omega (arith, id_count-pushed s' k id ids ids' moved, bit_other id s' k (inl ne)));
@@ -413,7 +425,7 @@ submit_lawful c s state r at none ok =
 pub not_refused : (state : SenderView) → state.closed ≡ false → length state.tasks < 65535 → submit_refusal (Some state) ≡ None
 not_refused state open_ few =
     ap (λ b. cond b (Some fault.Closed) (cond (ltb 65534 (length state.tasks)) (Some fault.Full) None)) open_
-        ∙ ap (λ b. cond b (Some fault.Full) None) (le-ltb 65534 (length state.tasks) (omega arith))
+    ∙ ap (λ b. cond b (Some fault.Full) None) (le-ltb 65534 (length state.tasks) (omega arith))
 
 few_if : (b full : Bool) → cond b (Some fault.Closed) (cond full (Some fault.Full) None) ≡ None → full ≡ false
 few_if true full e = cc
@@ -467,12 +479,12 @@ new_board n room h = record {
   few = omega (arith, h, length-replicate n empty_state);
   content =
       λ s state at.
-          let P : SenderView → Type 0 = IsSender in
-          subst P (replicated n empty_state s state at)
-              (record { stages = refl; most = omega arith; handed = omega arith; finished = λ k lt. absurd (omega arith); solved = λ k a e. cc });
+      let P : SenderView → Type 0 = IsSender in
+      subst P (replicated n empty_state s state at)
+      (record { stages = refl; most = omega arith; handed = omega arith; finished = λ k lt. absurd (omega arith); solved = λ k a e. cc });
   lists =
       λ s k. sym (ap bit
-          (unqueued k (slice_get (empty_content n) s) (λ state at. ap (λ (l : SenderView). l.stages) (sym (replicated n empty_state s state at)))));
+      (unqueued k (slice_get (empty_content n) s) (λ state at. ap (λ (l : SenderView). l.stages) (sym (replicated n empty_state s state at)))));
   counts = sym (sum_by-replicate taken_in n empty_state ∙ omega arith);
   has_room = omega arith;
 }
@@ -490,7 +502,7 @@ pub done_none_waits : (c : BoardView) (ids : List JobId) (taken room : ℕ) → 
 done_none_waits c [] taken room b done = refl
 done_none_waits c (id ∷ ids) taken room b done =
     let found : (state : SenderView) × (slice_get c id.sender ≡ Some state) × (slice_get state.stages id.number ≡ Some Waiting) =
-        first_state c id (id ∷ ids) ids taken room b (IsPermutation-refl (id ∷ ids)) in
+    first_state c id (id ∷ ids) ids taken room b (IsPermutation-refl (id ∷ ids)) in
     absurd (false≢true ((done id.sender found.0 found.1).1 id.number Waiting found.2))
 
 pub done_none_taken : (c : BoardView) (ids : List JobId) (taken room : ℕ) → IsBoard c ids taken room → AllDone c → taken ≡ 0
@@ -500,8 +512,14 @@ few_counted : (c : BoardView) → IsBoardView c → taken_count c ≤ length c *
 few_counted [] all = omega arith
 few_counted (state ∷ c) all =
     let h = all 0 state refl in
-    omega (arith, sum_by-cons taken_in state c, count_by-le-length is_taken state.stages, h.stages, h.most,
-        few_counted c (λ s state' at. all (suc s) state' at))
+    omega (
+      arith,
+      sum_by-cons taken_in state c,
+      count_by-le-length is_taken state.stages,
+      h.stages,
+      h.most,
+      few_counted c (λ s state' at. all (suc s) state' at),
+    )
 
 pub few_taken : (c : BoardView) (ids : List JobId) (taken room : ℕ) → IsBoard c ids taken room → taken ≤ 64 * 65535
 few_taken c ids taken room b = omega (arith, b.few, b.counts, few_counted c b.content)

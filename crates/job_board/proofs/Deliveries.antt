@@ -37,7 +37,7 @@ one_in_order : (c : BoardView) (s : ℕ) (state : SenderView) (st : Step) (r : R
 one_in_order c s state (step.Deliver s') (reply.Handed (handed.Next d)) more at h law =
     one_if (s' == s) (state.tasks ++ more) state.handed d (λ is.
     let e : handed.Next d ≡ deliver_reply_at state (slice_get state.stages state.handed) =
-        law ∙ ap deliver_reply_in (ap (slice_get c) (eqb-true s' s is) ∙ at) in
+    law ∙ ap deliver_reply_in (ap (slice_get c) (eqb-true s' s is) ∙ at) in
     let facts = next_facts state d (slice_get state.stages state.handed) e in
     (facts.0, slice_get-append state.tasks more state.handed d.solved (h.solved state.handed d.solved facts.1)))
 one_in_order c s state _ _ more at h law = tt
@@ -58,9 +58,9 @@ rest_in_order c s state (st ∷ ss) [] at h law = absurd law
 rest_in_order c s state (st ∷ ss) (r ∷ rs) at h law =
     let new : SenderView = state_step s state st r in
     let rest : InOrder (new.tasks ++ accepted_tasks s ss rs) new.handed (deliveries_to s ss rs) =
-        rest_in_order (after c st r) s new ss rs (state_after c s state st r at) (state_kept c s state st r at h law.0) law.1 in
+    rest_in_order (after c st r) s new ss rs (state_after c s state st r at) (state_kept c s state st r at h law.0) law.1 in
     let tasks : new.tasks ++ accepted_tasks s ss rs ≡ state.tasks ++ (tasks_by s st r ++ accepted_tasks s ss rs) =
-        ap (λ l. l ++ accepted_tasks s ss rs) (tasks_step s state st r) ∙ append_assoc state.tasks (tasks_by s st r) (accepted_tasks s ss rs) in
+    ap (λ l. l ++ accepted_tasks s ss rs) (tasks_step s state st r) ∙ append_assoc state.tasks (tasks_by s st r) (accepted_tasks s ss rs) in
     let P : List TaskView → Type 0 = λ l. InOrder l new.handed (deliveries_to s ss rs) in
     let Q : ℕ → Type 0 = λ n. InOrder (state.tasks ++ (tasks_by s st r ++ accepted_tasks s ss rs)) n (deliveries_to s ss rs) in
     InOrder-append (state.tasks ++ (tasks_by s st r ++ accepted_tasks s ss rs)) state.handed (deliveries_by s st r) (deliveries_to s ss rs)
@@ -89,7 +89,7 @@ tasks_all s state [] (r ∷ rs) = sym (append-nil state.tasks)
 tasks_all s state (st ∷ ss) [] = sym (append-nil state.tasks)
 tasks_all s state (st ∷ ss) (r ∷ rs) =
     tasks_all s (state_step s state st r) ss rs
-        ∙ (ap (λ l. l ++ accepted_tasks s ss rs) (tasks_step s state st r) ∙ append_assoc state.tasks (tasks_by s st r) (accepted_tasks s ss rs))
+    ∙ (ap (λ l. l ++ accepted_tasks s ss rs) (tasks_step s state st r) ∙ append_assoc state.tasks (tasks_by s st r) (accepted_tasks s ss rs))
 
 pub handed_all : (s : ℕ) (state : SenderView) (ss : List Step) (rs : List Reply)
     → (state_all s state ss rs).handed ≡ state.handed + length (deliveries_to s ss rs)
@@ -117,7 +117,7 @@ pub drained_all : (n s : ℕ) (ss : List Step) (rs : List Reply) → s < n
 drained_all n s ss rs lt e =
     let state : SenderView = state_all s empty_state ss rs in
     let at : slice_get (after_all (empty_content n) ss rs) s ≡ Some state =
-        state_after_all (empty_content n) s empty_state ss rs (slice_get-replicate n s empty_state lt) in
+    state_after_all (empty_content n) s empty_state ss rs (slice_get-replicate n s empty_state lt) in
     let facts = drained_stage state (slice_get state.stages state.handed) (e ∙ ap deliver_reply_in at) in
     omega (arith, eqb-true state.handed (length state.tasks) facts.1, handed_all s empty_state ss rs, ap length (tasks_all s empty_state ss rs))
 

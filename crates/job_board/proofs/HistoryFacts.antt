@@ -143,17 +143,17 @@ restaged_if id s k new state within =
             | inl same ↦
                 ap (λ n. or_waiting (slice_get (set state.stages id.number new) n)) (sym same)
                 ∙ (ap or_waiting (slice_get-set_same state.stages id.number new (within e))
-                    ∙ sym (ap (λ b. cond (b && (id.number == k)) new (or_waiting (slice_get state.stages k))) here
-                    ∙ ap (λ b. cond b new (or_waiting (slice_get state.stages k))) (eq-eqb id.number k same)))
+                ∙ sym (ap (λ b. cond (b && (id.number == k)) new (or_waiting (slice_get state.stages k))) here
+                ∙ ap (λ b. cond b new (or_waiting (slice_get state.stages k))) (eq-eqb id.number k same)))
             | inr ne ↦
                 ap or_waiting (slice_get-set_other state.stages id.number k new (λ x. ne (sym x)))
-                    ∙ sym (ap (λ b. cond (b && (id.number == k)) new (or_waiting (slice_get state.stages k))) here
-                    ∙ ap (λ b. cond b new (or_waiting (slice_get state.stages k))) (ne_eqb id.number k ne))
+                ∙ sym (ap (λ b. cond (b && (id.number == k)) new (or_waiting (slice_get state.stages k))) here
+                ∙ ap (λ b. cond b new (or_waiting (slice_get state.stages k))) (ne_eqb id.number k ne))
           ])
       | inr ne ↦
           let there : (id.sender == s) ≡ false = ne_eqb id.sender s ne in
           ap (λ b. or_waiting (slice_get (cond b (with_stage id.number new state) state).stages k)) there
-              ∙ sym (ap (λ b. cond (b && (id.number == k)) new (or_waiting (slice_get state.stages k))) there)
+          ∙ sym (ap (λ b. cond (b && (id.number == k)) new (or_waiting (slice_get state.stages k))) there)
     ]
 
 -- the stage to which a lawful step brings a job
@@ -162,15 +162,15 @@ stage_next : (c : BoardView) (s k : ℕ) (state : SenderView) (st : Step) (r : R
 stage_next c s k state (step.Submit s' t) (reply.Submitted (Ok n)) at law = push_if (s' == s) t state k
 stage_next c s k state step.Take (reply.Took (Some job)) at law =
     restaged_if job.id s k Taken state
-        (λ e. slice_get_within state.stages job.id.number Waiting (sym (ap (stage_of_job job.id.number) (ap (slice_get c) e ∙ at)) ∙ law.0))
+    (λ e. slice_get_within state.stages job.id.number Waiting (sym (ap (stage_of_job job.id.number) (ap (slice_get c) e ∙ at)) ∙ law.0))
 stage_next c s k state (step.Finish id a) (reply.Finished (Ok u)) at law =
     restaged_if id s k (Finished a) state
-        (λ e. slice_get_within state.stages id.number Taken
-        (finish_ok (slice_get state.stages id.number) (slice_get state.tasks id.number) a u (finish_from c id a (Ok u) state (ap (slice_get c) e ∙ at) law)).0)
+    (λ e. slice_get_within state.stages id.number Taken
+    (finish_ok (slice_get state.stages id.number) (slice_get state.tasks id.number) a u (finish_from c id a (Ok u) state (ap (slice_get c) e ∙ at) law)).0)
 stage_next c s k state (step.GiveBack id) (reply.GaveBack (Ok u)) at law =
     restaged_if id s k Waiting state
-        (λ e. slice_get_within state.stages id.number Taken
-        (give_back_ok (slice_get state.stages id.number) u (law ∙ ap (λ o. give_back_reply_at (stage_of_job id.number o)) (ap (slice_get c) e ∙ at))))
+    (λ e. slice_get_within state.stages id.number Taken
+    (give_back_ok (slice_get state.stages id.number) u (law ∙ ap (λ o. give_back_reply_at (stage_of_job id.number o)) (ap (slice_get c) e ∙ at))))
 stage_next c s k state (step.Deliver s') (reply.Handed (handed.Next d)) at law =
     cond_same (λ l. or_waiting (slice_get l.stages k)) (s' == s) (with_one_handed state) state refl
 stage_next c s k state (step.Close s') (reply.Closed r) at law = cond_same (λ l. or_waiting (slice_get l.stages k)) (s' == s) (closed_state state) state refl
@@ -212,7 +212,7 @@ content_of n s ss rs state law at =
     let first : slice_get (empty_content n) s ≡ Some empty_state = slice_get-replicate n s empty_state lt in
     let P : SenderView → Type 0 = IsStateOf s ss rs in
     subst P (same_Some (state_all s empty_state ss rs) state (sym (state_after_all (empty_content n) s empty_state ss rs first) ∙ at))
-        (state_of_all s (empty_content n) ss rs first law)
+    (state_of_all s (empty_content n) ss rs first law)
 
 -- a lawful history leaves a view that a board may have
 pub content_kept : (n : ℕ) (ss : List Step) (rs : List Reply) → AreLawful (empty_content n) ss rs → IsBoardView (after_all (empty_content n) ss rs)
@@ -227,7 +227,7 @@ no_more : (tasks more : List TaskView) (ds : List Delivery) → more ≡ [] → 
 no_more tasks more [] e h = refl
 no_more tasks more (d ∷ ds) e h =
     let past : slice_get (tasks ++ more) (length tasks) ≡ None =
-        slice_get_past (tasks ++ more) (length tasks) (omega (arith, length-append tasks more, ap length e)) in
+    slice_get_past (tasks ++ more) (length tasks) (omega (arith, length-append tasks more, ap length e)) in
     let no : Some d.solved ≡ None = sym h.1 ∙ past in
     cc
 
@@ -246,9 +246,11 @@ drained_stays n s ss ss' rs rs' lt law e more =
     let h : IsSender state = kept_all (empty_content n) s empty_state ss rs (slice_get-replicate n s empty_state lt) empty_is_state law in
     let facts = drained_stage state (slice_get state.stages state.handed) (e ∙ ap deliver_reply_in at) in
     let none : accepted_tasks s ss' rs' ≡ [] = accepted_closed c s state ss' rs' at facts.0 more in
-    let P : ℕ → Type 0 = λ first. InOrder (state.tasks ++ accepted_tasks s ss' rs') first (deliveries_to s ss' rs') in
-    (none, no_more state.tasks (accepted_tasks s ss' rs') (deliveries_to s ss' rs') none
-        (subst P (eqb-true state.handed (length state.tasks) facts.1) (rest_in_order c s state ss' rs' at h more)))
+    let P : ℕ → Type 0 = λ first. InOrder (state.tasks ++ accepted_tasks s ss' rs') first (deliveries_to s ss' rs') in (
+      none,
+      no_more state.tasks (accepted_tasks s ss' rs') (deliveries_to s ss' rs') none
+          (subst P (eqb-true state.handed (length state.tasks) facts.1) (rest_in_order c s state ss' rs' at h more)),
+    )
 
 -- no task of a sender is accepted after its close
 pub closed_stays : (n s : ℕ) (ss ss' : List Step) (rs rs' : List Reply) → s < n → AreLawful (empty_content n) ss rs → is_closed s ss rs ≡ true
@@ -256,4 +258,4 @@ pub closed_stays : (n s : ℕ) (ss ss' : List Step) (rs rs' : List Reply) → s 
 closed_stays n s ss ss' rs rs' lt law e more =
     let at = state_there n s ss rs lt in
     accepted_closed (after_all (empty_content n) ss rs) s (state_all s empty_state ss rs) ss' rs' at
-        (closed_all (empty_content n) s empty_state ss rs (slice_get-replicate n s empty_state lt) law ∙ e) more
+    (closed_all (empty_content n) s empty_state ss rs (slice_get-replicate n s empty_state lt) law ∙ e) more

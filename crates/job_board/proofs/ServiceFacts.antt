@@ -50,8 +50,8 @@ known_from old (Sent t ∷ es) new leads =
     ∙ same_state old.sender ((old.sent ++ t ∷ []) ++ sent_tasks es) (old.sent ++ t ∷ sent_tasks es) _ _ (append_assoc old.sent (t ∷ []) (sent_tasks es)) refl
 known_from old (Returned (Next d) ∷ es) new leads =
     known_from leads.0 es new leads.2
-        ∙ (ap (λ me. known_after me es) leads.1.1
-        ∙ same_state old.sender _ _ (old.received + 1 + length (received_answers es)) (old.received + length (d ∷ received_answers es)) refl (omega arith))
+    ∙ (ap (λ me. known_after me es) leads.1.1
+    ∙ same_state old.sender _ _ (old.received + 1 + length (received_answers es)) (old.received + length (d ∷ received_answers es)) refl (omega arith))
 known_from old (Returned (Work job) ∷ es) new leads = known_from leads.0 es new leads.2 ∙ ap (λ me. known_after me es) leads.1
 known_from old (Returned Drained ∷ es) new leads = known_from leads.0 es new leads.2 ∙ ap (λ me. known_after me es) leads.1.0
 
@@ -73,8 +73,8 @@ answers_from before (t ∷ tasks) first (d ∷ ds) is order same =
     let here : d.solved ≡ t = same_Some d.solved t (sym order.1 ∙ slice_get-mid before t tasks first is) in
     let P : List TaskView → Type 0 = λ all. InOrder all (first + 1) ds in
     let rest =
-        answers_from (before ++ t ∷ []) tasks (first + 1) ds (omega (arith, length_push before t))
-            (subst P (sym (append_assoc before (t ∷ []) tasks)) order.2) (omega arith) in
+    answers_from (before ++ t ∷ []) tasks (first + 1) ds (omega (arith, length_push before t))
+    (subst P (sym (append_assoc before (t ∷ []) tasks)) order.2) (omega arith) in
     ap (λ a. a ∷ map (λ (d : Delivery). d.solved) ds) here ∙ ap (λ as'. t ∷ as') rest
 
 pub received_in_order : (s : ℕ) (es : List Event) (me : ClientView) → Leads (new_client s) es me → InOrder (sent_tasks es) 0 (received_answers es)

@@ -45,8 +45,8 @@ change_state c s' s f state at =
       | inl e ↦
           let at' : slice_get c s' ≡ Some state = ap (slice_get c) e ∙ at in
           ap (λ l. slice_get l s) (change_at c s' state f at')
-              ∙ (ap (slice_get (set c s' (f state))) (sym e)
-              ∙ (slice_get-set_same c s' (f state) (slice_get_within c s' state at') ∙ ap (λ b. Some (cond b (f state) state)) (sym (eq-eqb s' s e))))
+          ∙ (ap (slice_get (set c s' (f state))) (sym e)
+          ∙ (slice_get-set_same c s' (f state) (slice_get_within c s' state at') ∙ ap (λ b. Some (cond b (f state) state)) (sym (eq-eqb s' s e))))
       | inr ne ↦ change_other c s' s f (slice_get c s') refl (λ e. ne (sym e)) ∙ (at ∙ ap (λ b. Some (cond b (f state) state)) (sym (ne_eqb s' s ne)))
     ]
 
@@ -93,19 +93,19 @@ state_kept c s state (step.Finish id a) (reply.Finished (Ok u)) at h law =
     sender_kept id.sender s state (with_stage id.number (Finished a) state) h
     (λ e.
     let ok =
-        finish_ok (slice_get state.stages id.number) (slice_get state.tasks id.number) a u (finish_from c id a (Ok u) state (ap (slice_get c) e ∙ at) law) in
+    finish_ok (slice_get state.stages id.number) (slice_get state.tasks id.number) a u (finish_from c id a (Ok u) state (ap (slice_get c) e ∙ at) law) in
     state_restaged state id.number Taken (Finished a) h ok.0 refl (λ a' e'. ok.1 ∙ ap Some (same_finished a a' e')))
 state_kept c s state (step.GiveBack id) (reply.GaveBack (Ok u)) at h law =
     sender_kept id.sender s state (with_stage id.number Waiting state) h
     (λ e. state_restaged state id.number Taken Waiting h
-        (give_back_ok (slice_get state.stages id.number) u (law ∙ ap (λ o. give_back_reply_at (stage_of_job id.number o)) (ap (slice_get c) e ∙ at))) refl
-        (λ a e. cc))
+    (give_back_ok (slice_get state.stages id.number) u (law ∙ ap (λ o. give_back_reply_at (stage_of_job id.number o)) (ap (slice_get c) e ∙ at))) refl
+    (λ a e. cc))
 state_kept c s state (step.Deliver s') (reply.Handed (handed.Next d)) at h law =
     sender_kept s' s state (with_one_handed state) h
     (λ e. state_handed state d h (law ∙ ap deliver_reply_in (ap (slice_get c) e ∙ at)))
 state_kept c s state (step.Close s') (reply.Closed r) at h law =
     sender_kept s' s state (closed_state state) h
-        (λ e. record { stages = h.stages; most = h.most; handed = h.handed; finished = h.finished; solved = h.solved })
+    (λ e. record { stages = h.stages; most = h.most; handed = h.handed; finished = h.finished; solved = h.solved })
 state_kept c s state _ _ at h law = h
 
 pub cond_same : {A : Type 0} (f : SenderView → A) (b : Bool) (x y : SenderView) → f x ≡ f y → f (cond b x y) ≡ f y

@@ -59,24 +59,24 @@ pub submits_run : (c : BoardView) (s : ℕ) (T : List TaskView) (S : List Stage)
     → Runs c (submit_steps s ts) (submit_replies k ts) (set c s (state_of (T ++ ts) (S ++ replicate (length ts) Waiting) h false))
 submits_run c s T S h k [] at is few =
     none c _
-        (sym (ap (λ (l : List TaskView). set c s (state_of l (S ++ []) h false)) (append-nil T)
-        ∙ (ap (λ (l : List Stage). set c s (state_of T l h false)) (append-nil S) ∙ set_same c s (state_of T S h false) at)))
+    (sym (ap (λ (l : List TaskView). set c s (state_of l (S ++ []) h false)) (append-nil T)
+    ∙ (ap (λ (l : List Stage). set c s (state_of T l h false)) (append-nil S) ∙ set_same c s (state_of T S h false) at)))
 submits_run c s T S h k (t ∷ ts) at is few =
     let state : SenderView = state_of T S h false in
     let new : SenderView = state_of (T ++ t ∷ []) (S ++ Waiting ∷ []) h false in
     let d : BoardView = set c s new in
     let law : IsLawful c (step.Submit s t) (reply.Submitted (Ok k)) =
-        submit_lawful c s state (Ok k) at (not_refused state refl (omega arith)) (inl (ap Ok (sym is))) in
+    submit_lawful c s state (Ok k) at (not_refused state refl (omega arith)) (inl (ap Ok (sym is))) in
     let first : Runs c (step.Submit s t ∷ []) (reply.Submitted (Ok k) ∷ []) d =
-        one c d (step.Submit s t) (reply.Submitted (Ok k)) law (change_at c s state (with_task t) at) in
+    one c d (step.Submit s t) (reply.Submitted (Ok k)) law (change_at c s state (with_task t) at) in
     let rest =
-        submits_run d s (T ++ t ∷ []) (S ++ Waiting ∷ []) h (k + 1) ts
-            (slice_get-set_same c s new (slice_get_within c s state at)) (omega (arith, length_push T t)) (omega arith) in
+    submits_run d s (T ++ t ∷ []) (S ++ Waiting ∷ []) h (k + 1) ts
+    (slice_get-set_same c s new (slice_get_within c s state at)) (omega (arith, length_push T t)) (omega arith) in
     ends c _ _ (submit_steps s (t ∷ ts)) (submit_replies k (t ∷ ts))
-        (runs-append c d _ (step.Submit s t ∷ []) (submit_steps s ts) (reply.Submitted (Ok k) ∷ []) (submit_replies (k + 1) ts) first rest)
+    (runs-append c d _ (step.Submit s t ∷ []) (submit_steps s ts) (reply.Submitted (Ok k) ∷ []) (submit_replies (k + 1) ts) first rest)
     (set-set c s new _
-        ∙ (ap (λ (l : List TaskView). set c s (state_of l ((S ++ Waiting ∷ []) ++ replicate (length ts) Waiting) h false)) (append_assoc T (t ∷ []) ts)
-        ∙ ap (λ (l : List Stage). set c s (state_of (T ++ t ∷ ts) l h false)) (append_assoc S (Waiting ∷ []) (replicate (length ts) Waiting))))
+    ∙ (ap (λ (l : List TaskView). set c s (state_of l ((S ++ Waiting ∷ []) ++ replicate (length ts) Waiting) h false)) (append_assoc T (t ∷ []) ts)
+    ∙ ap (λ (l : List Stage). set c s (state_of (T ++ t ∷ ts) l h false)) (append_assoc S (Waiting ∷ []) (replicate (length ts) Waiting))))
 
 -- the view of the board where one stage in the middle of a sender's list changes
 restage : (c : BoardView) (s : ℕ) (T : List TaskView) (P R : List Stage) (h k : ℕ) (old new : Stage)
@@ -93,7 +93,7 @@ stage_run : (c : BoardView) (s : ℕ) (T : List TaskView) (P R : List Stage) (h 
 stage_run c s T P R h k Waiting at is fits =
     let taken : slice_get (P ++ Taken ∷ R) k ≡ Some Taken = slice_get-mid P Taken R k is in
     one c _ (step.GiveBack (job_id s k)) (reply.GaveBack (Ok tt))
-        (sym (ap (λ o. give_back_reply_at (stage_of_job k o)) at ∙ ap give_back_reply_at taken)) (restage c s T P R h k Taken Waiting at is)
+    (sym (ap (λ o. give_back_reply_at (stage_of_job k o)) at ∙ ap give_back_reply_at taken)) (restage c s T P R h k Taken Waiting at is)
 stage_run c s T P R h k Taken at is fits = none c _ (sym (set_same c s (state_of T (P ++ Taken ∷ R) h false) at))
 stage_run c s T P' R h k (Finished a) at is fits =
     let taken : slice_get (P' ++ Taken ∷ R) k ≡ Some Taken = slice_get-mid P' Taken R k is in
@@ -126,11 +126,11 @@ jobs_run c s T Tp (t ∷ ts) P (st ∷ sts) h k at split tk pk same fits =
     (stage_run c1 s T P R h k st (slice_get-set_same c s (state_of T (P ++ Taken ∷ R) h false) lt) pk (λ a e. here ∙ fits 0 a (ap Some e)))
     (set-set c s (state_of T (P ++ Taken ∷ R) h false) (state_of T (P ++ st ∷ R) h false)) in
     let at2 : slice_get c2 s ≡ Some (state_of T ((P ++ st ∷ []) ++ R) h false) =
-        slice_get-set_same c s (state_of T (P ++ st ∷ R) h false) lt
-            ∙ ap (λ (l : List Stage). Some (state_of T l h false)) (sym (append_assoc P (st ∷ []) R)) in
+    slice_get-set_same c s (state_of T (P ++ st ∷ R) h false) lt
+    ∙ ap (λ (l : List Stage). Some (state_of T l h false)) (sym (append_assoc P (st ∷ []) R)) in
     let rest : Runs c2 (job_steps s (k + 1) ts sts) (job_replies s (k + 1) ts sts) (set c2 s (state_of T ((P ++ st ∷ []) ++ sts) h false)) =
     jobs_run c2 s T (Tp ++ t ∷ []) ts (P ++ st ∷ []) sts h (k + 1) at2 (split ∙ sym (append_assoc Tp (t ∷ []) ts))
-        (omega (arith, length_push Tp t)) (omega (arith, length_push P st)) (omega arith) (λ i a e. fits (suc i) a e) in
+    (omega (arith, length_push Tp t)) (omega (arith, length_push P st)) (omega arith) (λ i a e. fits (suc i) a e) in
     ends c _ _ (job_steps s k (t ∷ ts) (st ∷ sts)) (job_replies s k (t ∷ ts) (st ∷ sts))
     (runs-append c c1 _ (step.Take ∷ []) _ _ _ take (runs-append c1 c2 _ (stage_steps (job_id s k) st) _ (stage_replies st) _ settle rest))
     (set-set c s (state_of T (P ++ st ∷ R) h false) _ ∙ ap (λ (l : List Stage). set c s (state_of T l h false)) (append_assoc P (st ∷ []) sts))
@@ -152,15 +152,15 @@ deliver_run c s T S Sp (Finished a ∷ sts) k (suc n) at split pk done =
     let there : slice_get S k ≡ Some (Finished a) = ap (λ (l : List Stage). slice_get l k) split ∙ slice_get-mid Sp (Finished a) sts k pk in
     let first : Runs c (step.Deliver s ∷ []) (reply.Handed (handed.Next (record { number = k; solved = a })) ∷ []) d =
     one c d (step.Deliver s) (reply.Handed (handed.Next (record { number = k; solved = a })))
-        (sym (ap deliver_reply_in at ∙ ap (deliver_reply_at state) there)) (change_at c s state with_one_handed at) in
+    (sym (ap deliver_reply_in at ∙ ap (deliver_reply_at state) there)) (change_at c s state with_one_handed at) in
     let rest : Runs d (deliver_steps s n) (deliver_replies (k + 1) n sts) (set d s (state_of T S (k + 1 + n) false)) =
     deliver_run d s T S (Sp ++ Finished a ∷ []) sts (k + 1) n
-        (slice_get-set_same c s new (slice_get_within c s state at))
-        (split ∙ sym (append_assoc Sp (Finished a ∷ []) sts)) (omega (arith, length_push Sp (Finished a))) (λ i lt. done (suc i) (omega arith)) in
+    (slice_get-set_same c s new (slice_get_within c s state at))
+    (split ∙ sym (append_assoc Sp (Finished a ∷ []) sts)) (omega (arith, length_push Sp (Finished a))) (λ i lt. done (suc i) (omega arith)) in
     let count : k + 1 + n ≡ k + suc n = omega arith in
     ends c _ _ (deliver_steps s (suc n)) (deliver_replies k (suc n) (Finished a ∷ sts))
     (runs-append c d _ (step.Deliver s ∷ []) (deliver_steps s n)
-        (reply.Handed (handed.Next (record { number = k; solved = a })) ∷ []) (deliver_replies (k + 1) n sts) first rest)
+    (reply.Handed (handed.Next (record { number = k; solved = a })) ∷ []) (deliver_replies (k + 1) n sts) first rest)
     (set-set c s new _ ∙ ap (λ (m : ℕ). set c s (state_of T S m false)) count)
 
 close_run : (c : BoardView) (s : ℕ) (T : List TaskView) (S : List Stage) (h : ℕ) (b : Bool) → slice_get c s ≡ Some (state_of T S h false)
@@ -184,18 +184,18 @@ state_run c s state at is =
     let at1 : slice_get c1 s ≡ Some l1 = slice_get-set_same c s l1 lt in
     let lt1 : s < length c1 = slice_get_within c1 s l1 at1 in
     let at1' : slice_get c1 s ≡ Some (state_of T ([] ++ replicate (length S) Waiting) 0 false) =
-        at1 ∙ ap (λ (n : ℕ). Some (state_of T (replicate n Waiting) 0 false)) (sym is.stages) in
+    at1 ∙ ap (λ (n : ℕ). Some (state_of T (replicate n Waiting) 0 false)) (sym is.stages) in
     let r2 : Runs c1 (job_steps s 0 T S) (job_replies s 0 T S) (set c s l2) =
     ends c1 _ _ (job_steps s 0 T S) (job_replies s 0 T S) (jobs_run c1 s T [] T [] S 0 0 at1' refl refl refl is.stages is.solved) (set-set c s l1 l2) in
     let at2 : slice_get (set c s l2) s ≡ Some l2 = slice_get-set_same c s l2 lt in
     let r3 : Runs (set c s l2) (deliver_steps s state.handed) (deliver_replies 0 state.handed S) (set c s l3) =
     ends (set c s l2) _ _ (deliver_steps s state.handed) (deliver_replies 0 state.handed S)
-        (deliver_run (set c s l2) s T S [] S 0 state.handed at2 refl refl is.finished)
+    (deliver_run (set c s l2) s T S [] S 0 state.handed at2 refl refl is.finished)
     (set-set c s l2 _ ∙ ap (λ (m : ℕ). set c s (state_of T S m false)) (zero-add state.handed)) in
     let at3 : slice_get (set c s l3) s ≡ Some l3 = slice_get-set_same c s l3 lt in
     let r4 : Runs (set c s l3) (close_steps s state.closed) (close_replies state.closed) (set c s state) =
     ends (set c s l3) _ _ (close_steps s state.closed) (close_replies state.closed)
-        (close_run (set c s l3) s T S state.handed state.closed at3) (set-set c s l3 state) in
+    (close_run (set c s l3) s T S state.handed state.closed at3) (set-set c s l3 state) in
     runs-append c c1 _ _ _ _ _ r1 (runs-append c1 (set c s l2) _ _ _ _ _ r2 (runs-append (set c s l2) (set c s l3) _ _ _ _ _ r3 r4))
 
 -- the trace of a view is lawful, and leaves the view
@@ -206,13 +206,13 @@ trace_run D (state ∷ c) s is all =
     let R : BoardView = replicate (length c) empty_state in
     let first : Runs (D ++ empty_state ∷ R) (state_steps s state) (state_replies s state) (D ++ state ∷ R) =
     ends (D ++ empty_state ∷ R) _ _ (state_steps s state) (state_replies s state)
-        (state_run (D ++ empty_state ∷ R) s state (slice_get-mid D empty_state R s is) (all 0 state refl)) (set_at D empty_state R state s is) in
+    (state_run (D ++ empty_state ∷ R) s state (slice_get-mid D empty_state R s is) (all 0 state refl)) (set_at D empty_state R state s is) in
     let rest : Runs ((D ++ state ∷ []) ++ R) (trace_steps (s + 1) c) (trace_replies (s + 1) c) ((D ++ state ∷ []) ++ c) =
     trace_run (D ++ state ∷ []) c (s + 1) (omega (arith, length_push D state)) (λ i l at. all (suc i) l at) in
     let P : BoardView → Type 0 = λ x. Runs x (trace_steps (s + 1) c) (trace_replies (s + 1) c) (D ++ state ∷ c) in
     runs-append (D ++ empty_state ∷ R) (D ++ state ∷ R) (D ++ state ∷ c) _ _ _ _ first
     (subst P (append_assoc D (state ∷ []) R)
-        (ends ((D ++ state ∷ []) ++ R) _ _ (trace_steps (s + 1) c) (trace_replies (s + 1) c) rest (append_assoc D (state ∷ []) c)))
+    (ends ((D ++ state ∷ []) ++ R) _ _ (trace_steps (s + 1) c) (trace_replies (s + 1) c) rest (append_assoc D (state ∷ []) c)))
 
 pub trace_lawful : (c : BoardView) → IsBoardView c → AreLawful (empty_content (length c)) (trace_steps 0 c) (trace_replies 0 c)
 trace_lawful c all = (trace_run [] c 0 refl all).lawful

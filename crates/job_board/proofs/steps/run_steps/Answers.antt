@@ -23,7 +23,7 @@ loop-step-preserved c =
     let inv = c.loop-step.invariant in
     let ss = take c.loop-step.step-index c.args.steps.now in
     let e : take (c.loop-step.step-index + 1) c.args.steps.now ≡ ss ++ c.step-item.result ∷ [] =
-        take_more c.args.steps.now c.loop-step.step-index c.step-item.result c.loop-step-test.true ∙ ap (λ x. ss ++ x ∷ []) (sym c.step-item.is) in
+    take_more c.args.steps.now c.loop-step.step-index c.step-item.result c.loop-step-test.true ∙ ap (λ x. ss ++ x ∷ []) (sym c.step-item.is) in
     let P : BoardView → Type 0 = λ b. IsLawful b c.step-item.result c.match-step.reply in
     let one = step_holds c in
     record {
@@ -31,9 +31,9 @@ loop-step-preserved c =
       count = omega (arith, inv.count, c.push_reserved.ensures.len);
       lawful =
           rw (e, c.push_reserved.ensures.items)
-              (AreLawful-push c.args.board.now ss c.loop-step.replies.items c.step-item.result c.match-step.reply inv.lawful (subst P inv.content one.0));
+          (AreLawful-push c.args.board.now ss c.loop-step.replies.items c.step-item.result c.match-step.reply inv.lawful (subst P inv.content one.0));
       content =
           rw (e, c.push_reserved.ensures.items)
-              (one.1 ∙ (ap (λ b. after b c.step-item.result c.match-step.reply) inv.content
-              ∙ sym (after_all-push c.args.board.now ss c.loop-step.replies.items c.step-item.result c.match-step.reply inv.lawful)));
+          (one.1 ∙ (ap (λ b. after b c.step-item.result c.match-step.reply) inv.content
+          ∙ sym (after_all-push c.args.board.now ss c.loop-step.replies.items c.step-item.result c.match-step.reply inv.lawful)));
     }

@@ -9,8 +9,11 @@ returns-then-self-gt0 c = (
   λ no. absurd (false≢true no),
   λ done.
       let d : AllDone c.self.inside.senders.items = rw c.self.view_is done in
-      absurd (omega (arith, c.if-self-gt0.true,
-          done_none_taken c.self.inside.senders.items c.self.inside.waiting.jobs c.self.inside.taken c.self.inside.waiting.room c.self.invariant d)),
+      absurd (omega (
+        arith,
+        c.if-self-gt0.true,
+        done_none_taken c.self.inside.senders.items c.self.inside.waiting.jobs c.self.inside.taken c.self.inside.waiting.room c.self.invariant d,
+      )),
 )
 
 pub returns-then-not-is_empty : goal.returns-then-not-is_empty
@@ -19,8 +22,8 @@ returns-then-not-is_empty c = (
   λ done.
       let d : AllDone c.self.inside.senders.items = rw c.self.view_is done in
       absurd (false≢true
-          (c.if-not-is_empty.ensures.1
-          (done_none_waits c.self.inside.senders.items c.self.inside.waiting.jobs c.self.inside.taken c.self.inside.waiting.room c.self.invariant d))),
+      (c.if-not-is_empty.ensures.1
+      (done_none_waits c.self.inside.senders.items c.self.inside.waiting.jobs c.self.inside.taken c.self.inside.waiting.room c.self.invariant d))),
 )
 
 pub returns : goal.returns
