@@ -1,5 +1,6 @@
 -- The first 20 bytes of a file, or more, tell whether its first line is the header of a book.
-use Rattle.std.proofs.Common.{◌≡◌, ◌==◌, ◌↔◌, ℕ, zero, suc, ◌+◌, ◌-◌, ◌≤◌, Bool, true, false, cond, List, [], ◌∷◌, map, take, length, refl, ap, sym, subst, ◌∙◌, arith, lit≤}
+use Rattle.std.proofs.Common.{◌≡◌, ◌==◌, ◌↔◌, ℕ, zero, suc, ◌+◌, ◌-◌, ◌≤◌, Bool, true, false, cond, List, [], ◌∷◌, map}
+use Rattle.std.proofs.Common.{take, length, refl, ap, sym, subst, ◌∙◌, arith, lit≤}
 use Rattle.std.specs.Prelude.{IfSome, None, Option, Some, nat_lt, slice_index}
 use Rattle.std.specs.List.{onto_first, slice_split}
 use Rattle.std.specs.Str.Lines.{strip_carriage_return}
@@ -34,9 +35,14 @@ first_line : (b : ℕ) (bs : List ℕ) → (more : List (List ℕ)) × (lines_of
 first_line b bs =
     let rest = first_part bs in
     let line = kept b (before_feed bs) rest.0 in
-    elim (b == 10) as (λ t. (more : List (List ℕ)) × (map strip_carriage_return (without_empty_last (cond t ([] ∷ parts bs) (onto_first b (parts bs)))) ≡ strip_carriage_return (cond t [] (b ∷ before_feed bs)) ∷ more)) [
-      | true ↦ (map strip_carriage_return (without_empty_last (before_feed bs ∷ rest.0)), ap (λ ps. map strip_carriage_return (without_empty_last ([] ∷ ps))) rest.1)
-      | false ↦ (map strip_carriage_return line.0, ap (λ ps. map strip_carriage_return (without_empty_last (onto_first b ps))) rest.1 ∙ ap (map strip_carriage_return) line.1)
+    elim (b == 10) as (λ t. (more : List (List ℕ))
+        × (map strip_carriage_return (without_empty_last (cond t ([] ∷ parts bs) (onto_first b (parts bs))))
+        ≡ strip_carriage_return (cond t [] (b ∷ before_feed bs)) ∷ more)) [
+      | true ↦
+          (map strip_carriage_return (without_empty_last (before_feed bs ∷ rest.0)), ap (λ ps. map strip_carriage_return (without_empty_last ([] ∷ ps))) rest.1)
+      | false ↦
+          (map strip_carriage_return line.0,
+              ap (λ ps. map strip_carriage_return (without_empty_last (onto_first b ps))) rest.1 ∙ ap (map strip_carriage_return) line.1)
     ]
 
 front_before : (k : ℕ) (text : List ℕ) → before_feed (take k text) ≡ take k (before_feed text)
@@ -93,7 +99,8 @@ front_gives_way (suc n) enough (b ∷ bs) =
       λ h. let head = subst GivesWay whole.1 h in subst GivesWay (sym cut) (head.0, (cut_line (suc n) enough head.0 line).1 head.1),
     )
 
-pub of_front : (room : ℕ) → 20 ≤ room → (front text : List ℕ) (F : Type 0) → front ≡ take room text → F ↔ GivesWay (lines_of front) → F ↔ GivesWay (lines_of text)
+pub of_front : (room : ℕ) → 20 ≤ room → (front text : List ℕ) (F : Type 0) → front ≡ take room text
+    → F ↔ GivesWay (lines_of front) → F ↔ GivesWay (lines_of text)
 of_front room enough front text F e is =
     let same = subst (λ xs. F ↔ GivesWay (lines_of xs)) e is in
     let both = front_gives_way room enough text in

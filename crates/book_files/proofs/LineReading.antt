@@ -1,5 +1,7 @@
 -- The lines of a book that are read, against the text of which they are lines.
-use Rattle.std.proofs.Common.{◌≡◌, ◌≢◌, ◌==◌, ◌⊎◌, ℕ, suc, zero, ◌+◌, ◌-◌, ◌<◌, ◌≤◌, Bool, true, false, cond, List, [], ◌∷◌, ◌++◌, length, take, refl, ap, subst, sym, ◌∙◌, Option, Some, None, arith, append_assoc, get_or, inl, inr, take_all}
+use Rattle.std.proofs.Common.{◌≡◌, ◌≢◌, ◌==◌, ◌⊎◌, ℕ, suc, zero, ◌+◌, ◌-◌, ◌<◌, ◌≤◌, Bool, true, false, cond, List, []}
+use Rattle.std.proofs.Common.{◌∷◌, ◌++◌, length, take, refl, ap, subst, sym, ◌∙◌, Option, Some, None, arith}
+use Rattle.std.proofs.Common.{append_assoc, get_or, inl, inr, take_all}
 use Rattle.std.specs.Prelude.{Ok, Err, IfSome, option_map}
 use Rattle.std.specs.Option.{OnSome}
 use Rattle.std.specs.Io.{IsEmptyOrEndsWith, StopsAt}
@@ -63,7 +65,8 @@ ends (b ∷ bs) = by (b == 10) refl (ends bs)
 ended_text : (text front : List ℕ) → take_through 10 text ≡ front ++ 10 ∷ [] → text ≡ front ++ 10 ∷ drop_through 10 text
 ended_text text front e = both_parts text ∙ (ap (λ xs. xs ++ drop_through 10 text) e ∙ append_assoc front (10 ∷ []) (drop_through 10 text))
 
-pub further : (a b : ClaimsView) (n : ℕ) (text : List ℕ) → more_claims a n (take_through 10 text) ≡ Ok b → more_claims a n text ≡ more_claims b (n + 1) (drop_through 10 text)
+pub further : (a b : ClaimsView) (n : ℕ) (text : List ℕ) → more_claims a n (take_through 10 text) ≡ Ok b
+    → more_claims a n text ≡ more_claims b (n + 1) (drop_through 10 text)
 further a b n text h = by (ends text)
   where
     by : Ended text ⊎ Last text → more_claims a n text ≡ more_claims b (n + 1) (drop_through 10 text)
@@ -82,7 +85,8 @@ pub unread : (a : ClaimsView) (n : ℕ) (text : List ℕ) → GivesAdvice (Err f
 unread a n text = gives_fault a.scoring fault.Memory a.claims n (last_position None a.claims) (lines_of text) tt
 
 -- the fault of the first line is that of the text
-pub gives_first : (a : ClaimsView) (n : ℕ) (text : List ℕ) (f : BookFault) → GivesAdvice (Err f) (more_claims a n (take_through 10 text)) → GivesAdvice (Err f) (more_claims a n text)
+pub gives_first : (a : ClaimsView) (n : ℕ) (text : List ℕ) (f : BookFault)
+    → GivesAdvice (Err f) (more_claims a n (take_through 10 text)) → GivesAdvice (Err f) (more_claims a n text)
 gives_first a n text fault.Memory g = unread a n text
 gives_first a n text (fault.Line k l) g = faulty a n text (fault.Line k l) g
 gives_first a n text (fault.NoMoves k) g = faulty a n text (fault.NoMoves k) g
@@ -93,7 +97,8 @@ gives_first a n text fault.Header g = faulty a n text fault.Header g
 -- ---- a line that is read in parts
 
 -- parts without a line feed, and then the part that ends the line
-pub read_whole : (a b c : Option (List ℕ)) (done part : List ℕ) → Consumes a b done → NoFeeds done → Consumes b c part → StopsAt part 10 → IsEmptyOrEndsWith part 10
+pub read_whole : (a b c : Option (List ℕ)) (done part : List ℕ) → Consumes a b done → NoFeeds done → Consumes b c part
+    → StopsAt part 10 → IsEmptyOrEndsWith part 10
     → (length part ≡ 0 → OnSome b (IsAtEnd c)) → IfSome a (λ text. IsFrontOf text true (done ++ part) c)
 read_whole None b c done part p all q stops last none = tt
 read_whole (Some text) b c done part p all q stops last none =
@@ -106,7 +111,8 @@ read_whole (Some text) b c done part p all q stops last none =
     }
 
 -- parts without a line feed that are a long front
-pub read_long : (a b c : Option (List ℕ)) (done part : List ℕ) → Consumes a b done → NoFeeds done → Consumes b c part → NoFeeds part → 65536 ≤ length (done ++ part)
+pub read_long : (a b c : Option (List ℕ)) (done part : List ℕ) → Consumes a b done → NoFeeds done → Consumes b c part
+    → NoFeeds part → 65536 ≤ length (done ++ part)
     → IfSome a (λ text. IsFrontOf text false (done ++ part) c)
 read_long None b c done part p all q more long = tt
 read_long (Some text) b c done part p all q more long = record {
@@ -117,7 +123,8 @@ read_long (Some text) b c done part p all q more long = record {
 }
 
 -- a front, and then the rest of its line
-pub read_on : (text line more : List ℕ) (b c : Option (List ℕ)) → IsFrontOf text false line b → IfSome b (λ rest. more ≡ line ++ take_through 10 rest) → DropsThrough b c 10 → IsFrontOf text true more c
+pub read_on : (text line more : List ℕ) (b c : Option (List ℕ)) → IsFrontOf text false line b
+    → IfSome b (λ rest. more ≡ line ++ take_through 10 rest) → DropsThrough b c 10 → IsFrontOf text true more c
 read_on text line more None c is e d = absurd (is.front refl)
 read_on text line more (Some rest) c is e d =
     let none = is.unended refl in
@@ -137,14 +144,16 @@ less_one : (line : List ℕ) → 0 < length line → line ≡ take (length line 
 less_one line some = sym (take_all (length line - 1 + 1) line (omega arith)) ∙ take_more line (length line - 1) 0 (omega arith)
 
 -- the fault of a front is that of the text
-pub front_faulty : (text line : List ℕ) (b : Option (List ℕ)) (f : LineFault) (last : ℕ) (front : List ℕ) → IsFrontOf text false line b → line ≡ front ++ last ∷ []
+pub front_faulty : (text line : List ℕ) (b : Option (List ℕ)) (f : LineFault) (last : ℕ) (front : List ℕ)
+    → IsFrontOf text false line b → line ≡ front ++ last ∷ []
     → ((more : List ℕ) → item_of (front ++ more) ≡ Faulty f) → (a : ClaimsView) (n : ℕ) → more_claims a n text ≡ Err (fault.Line n f)
 front_faulty text line None f last front is e stays a n = absurd (is.front refl)
 front_faulty text line (Some rest) f last front is e stays a n =
     ap (more_claims a n) (is.front refl ∙ ap (λ xs. xs ++ rest) e) ∙ fault_in_front a n front rest last f (subst NoFeeds e (is.unended refl)) stays
 
 -- what was read of the first line names the scoring of the text
-pub same_scoring : (text : List ℕ) (whole : Bool) (line : List ℕ) (b : Option (List ℕ)) → IsFrontOf text whole line b → scoring_of_lines (lines_of line) ≡ scoring_of_lines (lines_of text)
+pub same_scoring : (text : List ℕ) (whole : Bool) (line : List ℕ) (b : Option (List ℕ)) → IsFrontOf text whole line b
+    → scoring_of_lines (lines_of line) ≡ scoring_of_lines (lines_of text)
 same_scoring text true line b is = by (ends text)
   where
     by : Ended text ⊎ Last text → scoring_of_lines (lines_of line) ≡ scoring_of_lines (lines_of text)
@@ -197,7 +206,8 @@ goes_on text a b n left line rest whole next after so_far is given front =
       front = subst (λ o. IfSome o (λ xs. IsFrontOf xs whole next after)) first.1 front;
     }
 
-pub at_end : (text : List ℕ) (a : ClaimsView) (n : ℕ) (left line : List ℕ) (rest : Option (List ℕ)) → claims_of text ≡ more_claims a n left → IsFrontOf left true line rest → length line ≡ 0
+pub at_end : (text : List ℕ) (a : ClaimsView) (n : ℕ) (left line : List ℕ) (rest : Option (List ℕ))
+    → claims_of text ≡ more_claims a n left → IsFrontOf left true line rest → length line ≡ 0
     → claims_of text ≡ Ok a
 at_end text a n left line rest so_far is none =
     so_far ∙ (ap (more_claims a n) (take_through-nil 10 left (sym (ap length (is.first refl).0) ∙ none)) ∙ no_more a n)

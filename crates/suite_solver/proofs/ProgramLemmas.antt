@@ -37,7 +37,8 @@ error_late (Err error) P h = λ silent. absurd (h silent)
 three_not_one : (error : SolveError) → solve_status_of error ≡ 3 → solve_status_of error ≡ 1 → ⊥
 three_not_one error three one = let e = sym three ∙ one in omega (arith, e)
 
-pub not_refused : (r : Result (Unit {0}) SolveError) (P : Type 0) → IfErr r (λ error. solve_status_of error ≡ 3) → IfErr r (λ error. solve_status_of error ≡ 1 → P)
+pub not_refused : (r : Result (Unit {0}) SolveError) (P : Type 0) → IfErr r (λ error. solve_status_of error ≡ 3)
+    → IfErr r (λ error. solve_status_of error ≡ 1 → P)
 not_refused (Ok nothing) P h = tt
 not_refused (Err error) P h = λ one. absurd (three_not_one error h one)
 
