@@ -36,13 +36,14 @@ first_line b bs =
     let rest = first_part bs in
     let line = kept b (before_feed bs) rest.0 in
     elim (b == 10) as (λ t. (more : List (List ℕ))
-        × (map strip_carriage_return (without_empty_last (cond t ([] ∷ parts bs) (onto_first b (parts bs))))
-        ≡ strip_carriage_return (cond t [] (b ∷ before_feed bs)) ∷ more)) [
+    × (map strip_carriage_return (without_empty_last (cond t ([] ∷ parts bs) (onto_first b (parts bs))))
+    ≡ strip_carriage_return (cond t [] (b ∷ before_feed bs)) ∷ more)) [
       | true ↦
           (map strip_carriage_return (without_empty_last (before_feed bs ∷ rest.0)), ap (λ ps. map strip_carriage_return (without_empty_last ([] ∷ ps))) rest.1)
-      | false ↦
-          (map strip_carriage_return line.0,
-              ap (λ ps. map strip_carriage_return (without_empty_last (onto_first b ps))) rest.1 ∙ ap (map strip_carriage_return) line.1)
+      | false ↦ (
+        map strip_carriage_return line.0,
+        ap (λ ps. map strip_carriage_return (without_empty_last (onto_first b ps))) rest.1 ∙ ap (map strip_carriage_return) line.1,
+      )
     ]
 
 front_before : (k : ℕ) (text : List ℕ) → before_feed (take k text) ≡ take k (before_feed text)

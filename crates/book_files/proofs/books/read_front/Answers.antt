@@ -32,4 +32,4 @@ returns-then-len-ge-FRONT g c =
     let long : 65536 ≤ length c.read_some.new.line.items = search rules in
     subst (λ line. IfSome (g.R.Read.remaining c.args.reader.now) (λ text. IsFrontOf text false line after)) (sym step.grows)
     (read_long _ _ _ _ step.part c.loop.invariant.0 c.loop.invariant.1 step.lost (step.unended c.if-branch.false)
-        (subst (λ line. 65536 ≤ length line) step.grows long))
+    (subst (λ line. 65536 ≤ length line) step.grows long))

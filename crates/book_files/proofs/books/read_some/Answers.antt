@@ -30,8 +30,8 @@ returns g c =
     let filled = subst (FillKeeps _ (g.R.Read.remaining rested) (g.R.BufRead.consumable_len rested)) c.in-Ok.is c.fill_buf.follows.holds-at-none in
     let same : c.if-end-eq0.reader ≡ rested = search rules in
     let drops =
-        subst (λ r. DropsConsumable (g.R.Read.remaining r) (g.R.Read.remaining c.consume.new.self) (g.R.BufRead.consumable_len r) end.result)
-            same c.consume.ensures.bytes in
+    subst (λ r. DropsConsumable (g.R.Read.remaining r) (g.R.Read.remaining c.consume.new.self) (g.R.BufRead.consumable_len r) end.result)
+    same c.consume.ensures.bytes in
     let moved = Consumes_shown _ _ _ _ shown end.result end.ensures.within c.in-Ok.ensures.front c.in-Ok.ensures.end filled.0 filled.1 drops in
     let long = length-take-le end.result shown end.ensures.within in
     record {
@@ -43,7 +43,7 @@ returns g c =
         | then-end-eq0 w ↦ absurd (false≢true (sym goes ∙ (w.whole-is ∙ eq-eqb _ _ w.if-end-eq0.true)))
         | else-end-eq0 w ↦ subst (λ k. All (λ x. x ≢ 10) (take k shown)) (omega (arith, w.if-end-eq0.false))
             (All-more (λ x. x ≢ 10) _ (end.result - 1) 0
-                (omega (arith, w.if-end-eq0.false, end.ensures.within)) end.ensures.before (λ e. false≢true (sym goes ∙ (w.whole-is ∙ eq-eqb _ _ e))))
+            (omega (arith, w.if-end-eq0.false, end.ensures.within)) end.ensures.before (λ e. false≢true (sym goes ∙ (w.whole-is ∙ eq-eqb _ _ e))))
       ];
       ended = λ done some. elim c.if-end-eq0.branch [
         | then-end-eq0 w ↦ absurd (omega arith)

@@ -16,7 +16,7 @@ range_of_part a k n xs ys within fits =
     let same : (a + n) - a ≡ n = omega arith in
     let after = post_of a k xs in
     ap (take ((a + n) - a)) (drop_at (take a xs) (ys ++ after) a (length-take-le a xs within))
-        ∙ ap (λ m. take m (ys ++ after)) same ∙ take-append-le n ys after fits
+    ∙ ap (λ m. take m (ys ++ after)) same ∙ take-append-le n ys after fits
 
 pub loop-preserved : goal.loop-preserved
 loop-preserved g c =
@@ -26,8 +26,10 @@ loop-preserved g c =
     let within = c.loop.invariant.1 in
     let part = range_of_part from room count c.loop.front c.read.new.buf within c.in_ok-count.ensures.bound.0 in
     let joined =
-        take_split from (from + count) c.loop.front (put_mid from room c.loop.front c.read.new.buf) (omega arith)
-            (take-put_mid_below _ _ _ _ _ (le_refl _) within) in
-    (search rules, search rules,
-        subst (Consumes _ _) (ap (λ l. take from c.loop.front ++ l) (sym part) ∙ joined)
-        (Consumes-trans _ _ _ _ _ c.loop.invariant.2 c.in_ok-count.ensures.bytes.0))
+    take_split from (from + count) c.loop.front (put_mid from room c.loop.front c.read.new.buf) (omega arith)
+    (take-put_mid_below _ _ _ _ _ (le_refl _) within) in (
+      search rules,
+      search rules,
+      subst (Consumes _ _) (ap (λ l. take from c.loop.front ++ l) (sym part) ∙ joined)
+          (Consumes-trans _ _ _ _ _ c.loop.invariant.2 c.in_ok-count.ensures.bytes.0),
+    )

@@ -14,7 +14,7 @@ returns-clause-reported g c =
     let fronts = rw c.deref.ensures.value at c.in_ok-texts.ensures.ok in
     let p = rw c.deref-3.ensures.value at c.in_ok-book.ensures.reported in
     on_ok c.write_book.result (PrintsReportsOf c.args.asked.now.settings names given
-        (g.W.Write.contents c.args.output.now) (g.W.Write.contents c.solve_and_print.new.output)) (record {
+    (g.W.Write.contents c.args.output.now) (g.W.Write.contents c.solve_and_print.new.output)) (record {
       texts = texts;
       read = whole_texts names given texts fronts p.small p.few;
       printed = p;

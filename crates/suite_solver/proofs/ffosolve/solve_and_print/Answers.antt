@@ -19,8 +19,8 @@ returns-in-Ok-clause-reported g c =
     let within = none_refused texts solved.0 in
     let written = rw c.deref.ensures.value at c.in-Ok.ensures in
     let reports =
-        c.in_ok-reports.ensures ∙ outcome_reports (map part_view_of c.in_ok-solved.solved.parts.items) settings.scoring
-            (criteria_of settings) texts solved.1.parts in
+    c.in_ok-reports.ensures ∙ outcome_reports (map part_view_of c.in_ok-solved.solved.parts.items) settings.scoring
+    (criteria_of settings) texts solved.1.parts in
     record {
       few = within.0;
       small = within.1;

@@ -13,9 +13,9 @@ returns c =
     let s4 : App = with_rule s3 (flag_rule (codes "progress")) in
     let a1 : app_of c.in_ok-for_runs.for_runs ≡ s1 = c.in_ok-for_runs.ensures ∙ ap (λ (a : App). with_settings a c.args.names) c.bare_command-bare.ensures in
     let a2 : app_of c.in_ok-reading_books.reading_books ≡ s2 =
-        c.in_ok-reading_books.ensures.shape c.book_arg-book_in.ensures.local ∙ ap₂ with_rule a1 c.book_arg-book_in.ensures.rule in
+    c.in_ok-reading_books.ensures.shape c.book_arg-book_in.ensures.local ∙ ap₂ with_rule a1 c.book_arg-book_in.ensures.rule in
     let a3 : app_of c.in_ok-writing_books.writing_books ≡ s3 =
-        c.in_ok-writing_books.ensures.shape c.book_arg-book_out.ensures.local ∙ ap₂ with_rule a2 c.book_arg-book_out.ensures.rule in
+    c.in_ok-writing_books.ensures.shape c.book_arg-book_out.ensures.local ∙ ap₂ with_rule a2 c.book_arg-book_out.ensures.rule in
     let a4 : app_of c.in_ok-reporting.reporting ≡ s4 =
-        c.in_ok-reporting.ensures.shape c.flag_arg-progress.ensures.local ∙ ap₂ with_rule a3 c.flag_arg-progress.ensures.rule in
+    c.in_ok-reporting.ensures.shape c.flag_arg-progress.ensures.local ∙ ap₂ with_rule a3 c.flag_arg-progress.ensures.rule in
     IfOk-weaker c.arg-4.result _ _ (λ r h. h.shape c.files_arg.ensures.local ∙ ap₂ with_rule a4 c.files_arg.ensures.rule) c.arg-4.ensures

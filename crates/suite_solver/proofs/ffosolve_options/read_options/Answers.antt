@@ -32,8 +32,8 @@ pub unwrap-settings-requires : goal.unwrap-settings-requires
 unwrap-settings-requires c =
     let named = ap (map (λ (name : Bor Text). name.now)) c.as_slice.ensures ∙ c.names-names.ensures in
     let given =
-        settings_asked ffosolve takes c.as_slice.result c.in_ok-command.command c.in_ok-matches.matches named
-            c.in_ok-command.ensures c.in_ok-matches.ensures.parsed in
+    settings_asked ffosolve takes c.as_slice.result c.in_ok-command.command c.in_ok-matches.matches named
+    c.in_ok-command.ensures c.in_ok-matches.ensures.parsed in
     c.settings_of.ensures.found given.0 given.1 given.2
 
 pub returns-clause-asked : goal.returns-clause-asked
