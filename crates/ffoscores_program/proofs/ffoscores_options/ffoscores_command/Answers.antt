@@ -7,5 +7,6 @@ use Rattle.ffoscores_program.proofs.ffoscores_options.ffoscores_command.Goals as
 pub returns : goal.returns
 returns c =
     let s1 : App = with_settings (versioned (codes "ffoscores")) c.args.names in
-    let a1 : app_of c.in_ok-with_settings.with_settings ≡ s1 = c.in_ok-with_settings.ensures ∙ ap (λ (a : App). with_settings a c.args.names) c.bare_command-bare.ensures in
+    let a1 : app_of c.in_ok-with_settings.with_settings ≡ s1 =
+    c.in_ok-with_settings.ensures ∙ ap (λ (a : App). with_settings a c.args.names) c.bare_command-bare.ensures in
     IfOk-weaker c.arg.result _ _ (λ r h. h.shape c.files_arg.ensures.local ∙ ap₂ with_rule a1 c.files_arg.ensures.rule) c.arg.ensures

@@ -31,7 +31,9 @@ takes = record {
 pub unwrap-settings-requires : goal.unwrap-settings-requires
 unwrap-settings-requires c =
     let named = ap (map (λ (name : Bor Text). name.now)) c.as_slice.ensures ∙ c.names-names.ensures in
-    let given = settings_asked ffoscores takes c.as_slice.result c.in_ok-command.command c.in_ok-matches.matches named c.in_ok-command.ensures c.in_ok-matches.ensures.parsed in
+    let given =
+    settings_asked ffoscores takes c.as_slice.result c.in_ok-command.command c.in_ok-matches.matches named
+    c.in_ok-command.ensures c.in_ok-matches.ensures.parsed in
     c.settings_of.ensures.found given.0 given.1 given.2
 
 pub returns-clause-asked : goal.returns-clause-asked
@@ -47,7 +49,8 @@ returns-clause-asked c =
       faultless = ap (λ (a : App). fault_of a words) (sym app) ∙ c.in_ok-matches.ensures.kinds (ap is_simple_and_free app ∙ takes.free names);
       settings = subst (λ (r : List Row). HasSettings c.unwrap-settings.result r) rows
           (subst (λ o. IfSome o (λ s. HasSettings s (rows_of found))) c.unwrap-settings.ensures c.settings_of.ensures.value);
-      listed = c.in_ok-files.ensures ∙ ap (λ (o : Option (List Text)). unwrap_or o []) (raw_values-rows found (codes "FILES") ∙ ap (all_of (codes "FILES")) rows);
+      listed =
+          c.in_ok-files.ensures ∙ ap (λ (o : Option (List Text)). unwrap_or o []) (raw_values-rows found (codes "FILES") ∙ ap (all_of (codes "FILES")) rows);
     }
 
 pub returns-in_err-matches-clause-taken : goal.returns-in_err-matches-clause-taken

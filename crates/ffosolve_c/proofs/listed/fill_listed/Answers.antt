@@ -8,7 +8,8 @@ use Rattle.ffosolve_c.specs.Lines.{c_listed, written_over}
 use Rattle.ffosolve_c.proofs.listed.fill_listed.Goals as goal
 
 -- the first i of the values, and behind them the places as they were, where i is the lesser length
-filled : (places new values : List FfosolveListed) (i : ℕ) → take i new ≡ take i values → drop i new ≡ drop i places → take i values ≡ take (length places) values → drop i places ≡ drop (length values) places → new ≡ written_over places values
+filled : (places new values : List FfosolveListed) (i : ℕ) → take i new ≡ take i values → drop i new ≡ drop i places
+    → take i values ≡ take (length places) values → drop i places ≡ drop (length values) places → new ≡ written_over places values
 filled places new values i written kept first rest =
     sym (take-append-drop i new) ∙ ap (λ front. front ++ drop i new) (written ∙ first) ∙ ap (λ back. take (length places) values ++ back) (kept ∙ rest)
 
@@ -28,8 +29,10 @@ pub returns : goal.returns
 returns c =
     let values : List FfosolveListed = map c_listed c.args.listed.now in
     let same : length values ≡ length c.args.listed.now = length-map c.args.listed.now c_listed in
-    let end : c.loop-i.i ≡ min (length values) (length c.args.places.now) = omega (arith, same, c.min-i-end.ensures, c.loop-i.auto.i-end, c.loop-i-test.false) in
-    filled c.args.places.now c.loop-i.places values c.loop-i.i (c.loop-i.invariant.written ∙ sym (take-map c_listed c.loop-i.i c.args.listed.now)) c.loop-i.invariant.kept
+    let end : c.loop-i.i ≡ min (length values) (length c.args.places.now) =
+    omega (arith, same, c.min-i-end.ensures, c.loop-i.auto.i-end, c.loop-i-test.false) in
+    filled c.args.places.now c.loop-i.places values c.loop-i.i
+    (c.loop-i.invariant.written ∙ sym (take-map c_listed c.loop-i.i c.args.listed.now)) c.loop-i.invariant.kept
     (first_of_both values c.loop-i.i (length c.args.places.now) (lesser _ _ _ end))
     (rest_of_both c.args.places.now c.loop-i.i (length values) (lesser _ _ _ (end ∙ min_comm (length values) (length c.args.places.now))))
 

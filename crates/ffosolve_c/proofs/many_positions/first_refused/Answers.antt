@@ -18,7 +18,8 @@ returns-clause-good c _ =
 pub returns-clause-none : goal.returns-clause-none
 returns-clause-none c _ =
     let e = take_all c.loop-i.i c.args.positions.now (omega (arith, c.loop-i-test.false)) in
-    ap (option_and_then (λ n. option_and_then position_refusal (slice_get c.args.positions.now n))) (none_is c.args.positions.now (subst AreSolvable e c.loop-i.invariant))
+    ap (option_and_then (λ n. option_and_then position_refusal (slice_get c.args.positions.now n)))
+    (none_is c.args.positions.now (subst AreSolvable e c.loop-i.invariant))
 
 pub returns-in-Err-clause-at : goal.returns-in-Err-clause-at
 returns-in-Err-clause-at c =
