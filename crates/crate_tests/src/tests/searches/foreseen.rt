@@ -12,8 +12,8 @@ use std::alloc::Global;
 use std::cell::Cell;
 use std::test::Fail;
 
-// -OOO-O-- XOOO-O-- OXXOXOOX -OOXOOO- XOXOXXOO O-XOXXO- --XXOOOO XXXO--O-: 16 empty squares
-const SIXTEEN_EMPTY_SQUARES: Discs = (0x70c_3435_0896_0100, 0x48f0_49ca_7669_2e2e);
+// X---X--- -X-XX--- --XXXO-- ---XXOXX XXXXXOX- XXXXXOXX XXXXXXX- XXXXXXXX: 20 empty squares
+const TWENTY_EMPTY_SQUARES: Discs = (0xff7f_df5f_d81c_1a11, 0x2020_2020_0000);
 
 // Says of each position what others have noted, or else what the table has noted, and counts what is
 // noted, and the evaluations.
@@ -75,7 +75,7 @@ fn count(alloc: Global, task: Task, by_others: Option<Foreseen>) -> Result<(u32,
 #[test]
 fn what_threads_foresee_is_found_once(rt: HostRuntime) -> Result<(), Fail> {
     let alloc = rt.alloc();
-    let position = pos_of(&rt, SIXTEEN_EMPTY_SQUARES, Side::Black);
+    let position = pos_of(&rt, TWENTY_EMPTY_SQUARES, Side::Black);
     let task = task_of(&rt, position, Scoring::Winner);
     let (_, plain) = count(alloc, task, Some(Foreseen::Unkept))?;
     let (_, begun) = count(alloc, task, Some(Foreseen::Begun))?;

@@ -11,18 +11,18 @@ use std::alloc::Global;
 use std::cell::Cell;
 use std::test::Fail;
 
-// The most moves of a position below.
-const MOST_MOVES: usize = 14;
+// The most moves of the positions below.
+const MOST_MOVES: usize = 9;
 
 // The mover's discs and the opponent's, the number of moves, and how many eldest children are searched
 // in any case. With 16, 18 and 21 empty squares.
 const ROWS: [(Discs, usize, usize); 3] = [
-    // -OOO-O-- XOOO-O-- OXXOXOOX -OOXOOO- XOXOXXOO O-XOXXO- --XXOOOO XXXO--O-
-    ((0x70c_3435_0896_0100, 0x48f0_49ca_7669_2e2e), 14, 1),
-    // -XXX---- XXX-OO-X --OOOOXX OOOOXXXX OOOOXOX- O-XXOOX- -OOOOOO- --O-X-XO
-    ((0x5000_4c50_f0c0_870e, 0x847e_312f_0f3c_3000), 10, 2),
-    // -OOO---- OOO-XX-O --XXXX-O XXXXOXXO XXXXXXO- --OXXXO- -OOOO-X- --X-O-OX
-    ((0x8440_383f_6f3c_3000, 0x501e_4440_9080_870e), 10, 3),
+    // -------O X--XO-OX OXX-OOX- OOXXOXO- OOXXOXXX OOOOOXOO OOO-XXOO -XOXX-XO
+    ((0x5a30_20ec_2c46_8900, 0x84c7_df13_5331_5080), 9, 1),
+    // --XX---- --XXXO-O OXOOOOO- X--OOOXX --XOOOXX X-XOXOOX -XXOOXXX --XOOOOO
+    ((0x4e6_95c4_c102_1c0c, 0xf818_6838_387d_a000), 9, 2),
+    // --OO-X-O ---OXXOX X-OXOOO- OXOXXOXO OOOXOXOO -OOXXXXO --XX-X-- --XX----
+    ((0xc2c_7828_5a09_b020, 0x86d7_a574_488c), 9, 3),
 ];
 
 // Says that other threads are searching some positions, and notes in order which positions with so many
