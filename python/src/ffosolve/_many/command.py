@@ -50,8 +50,8 @@ status:
      scheduler is lost; with --scores also: not all parts are solved
   4  a tool is missing, or the program can't be built
 """
-NUMBERS = {"--jobs": number(1, 999), "--lines": number(1, MOST_LINES), "--max-empties": number(0, MOST_EMPTIES),
-           "--workers": number(0, 64), "--table": number(0, MOST_ENTRIES)}
+RANGES = {"--jobs": number(1, 999), "--lines": number(1, MOST_LINES), "--max-empties": number(0, MOST_EMPTIES),
+          "--workers": number(0, 64), "--table": number(0, MOST_ENTRIES)}
 CHOICES = {"--scoring": ("winner", "discs", "sign")}
 OPTIONS = {
     "how the list is solved": (
@@ -80,7 +80,7 @@ def parse(words: List[str]) -> argparse.Namespace:
     for title, options in OPTIONS.items():
         group = parser.add_argument_group(title)
         for name, value, text in options:
-            how: Dict[str, Any] = {"metavar": value, "action": "append", "type": NUMBERS.get(name),
+            how: Dict[str, Any] = {"metavar": value, "action": "append", "type": RANGES.get(name),
                                    "choices": CHOICES.get(name)}
             group.add_argument(name, help=text, **how if value else {"action": "store_true"})
     parser.add_common(group)
