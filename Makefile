@@ -104,8 +104,9 @@ constants: ## writes the version, the size of the largest table and the defaults
 	    -e 's/^(pub const DEFAULT_ENTRIES_TEXT: &str = ").*"/\1$(subst _,,$(table))"/' $(settings)
 	sed -i -E 's/^(version = ").*"/\1$(version)"/' rust/Cargo.toml
 	sed -i -E -e 's/(MOST_ENTRIES(: usize)? = )[0-9_]+/\1$(entries)/' \
-	    -e 's/(max_empties: int = |DEFAULT_EMPTIES: usize = |takes positions with up to )[0-9]+/\1$(empties)/' \
-	    python/src/ffosolve/__init__.py python/src/ffosolve/_library.py python/src/ffosolve/_solvers.py rust/src/solvers.rs README.md
+	    -e 's/(max_empties: int = |DEFAULT_EMPTIES = |DEFAULT_EMPTIES: usize = |takes positions with up to )[0-9]+/\1$(empties)/' \
+	    python/src/ffosolve/__init__.py python/src/ffosolve/_library.py python/src/ffosolve/_solvers.py python/src/ffosolve/_command_line.py \
+	    rust/src/solvers.rs README.md
 	sed -i -E -e 's/(has at most )[0-9,]+( entries)/\1$(subst _,$(comma),$(entries))\2/; s/( empties, limit )[0-9]+/\1$(empties)/' \
 	    -e 's/(0 to 60 .default: )[0-9]+/\1$(empties)/; s/(reports stay the same .default: )[0-9]+/\1$(workers)/' \
 	    -e 's/(32 bytes each .default: )[0-9]+/\1$(subst _,,$(table))/' \

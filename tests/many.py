@@ -23,7 +23,7 @@ ACTING = """\
 #!@python@ -IS
 import glob, os, signal, subprocess, sys, time
 places, text, command = os.environ, b"", ["@real@", *sys.argv[1:]]
-if sys.stdin.seekable():  # not the pipe with the line that shows the limit of empty squares
+if sys.stdin.seekable():  # not the pipe of a run for its version, or to test a book
     text = sys.stdin.buffer.read()
     os.lseek(0, 0, 0)
 is_part = text and b"H1:+62; A1:+52;" not in text
@@ -142,7 +142,7 @@ class Case:
         task = solve.read_task(Path(folder))
         with open(f"{folder}/list", "rb") as file:
             text = [b"".join(lines) for lines in solve.parts_of(file, task["lines"])][number]
-        return Path(folder, "results", solve.digest_of(task["options"], text))
+        return Path(folder, "results", solve.digest_of(task, text))
 
 
 def files():

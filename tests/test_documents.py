@@ -75,17 +75,18 @@ def test_the_header_suggests_the_tables_that_the_packages_choose():
 
 
 def test_the_numbers_in_the_help_of_ffosolve_many_are_those_that_are_taken(folder):
-    """An option of ffosolve is given to ffosolve, which reads an empty list. For the others the list is missing, and
-    that is refused with another status than a number."""
+    """The list is missing, and that is refused with another status than a number. Options of ffosolve are also given to
+    ffosolve, which reads an empty list."""
     many = copy_many("copy")
     shutil.copy(built(), many.parent)
     text = " ".join(run(many, "--help", text=True).stdout.split())
     ranges = re.findall(r"(--[a-z-]+) N [^-]*?([0-9]+) to ([0-9]+)", text)
     assert {option for option, *_ in ranges} == {"--jobs", "--lines", "--max-empties", "--workers"}
     for option, least, most in ranges:
-        words = [many, "missing"] if option in ("--jobs", "--lines") else [built(), "/dev/null"]
+        is_shared = option not in ("--jobs", "--lines")
         for number, is_taken in ((int(least) - 1, False), (least, True), (most, True), (int(most) + 1, False)):
-            assert (run(*words, f"{option}={number}").returncode != 2) == is_taken, (option, number)
+            for words in [(many, "missing"), *[(built(), "/dev/null")] * is_shared]:
+                assert (run(*words, f"{option}={number}").returncode != 2) == is_taken, (words, option, number)
     lines = int(re.search(r"--lines N [^-]*\[default: ([0-9]+)\]", text)[1])
     write("list", "".join(f"% {number}\n" for number in range(9 * lines)))
     cuts = [run(many, "--cut", "work", "list", *words, text=True, check=True).stdout

@@ -262,7 +262,7 @@ def test_make_constants_writes_what_files_repeat(place):
         "crates/bound_table/src/bound_table.rt", "crates/program_settings/src/limits.rt", "rust/Cargo.toml",
         "README.md", "docs/user-guide.md", "examples/kinds.report", "examples/kinds.scores", "rust/src/solvers.rs",
         "python/src/ffosolve/__init__.py", "python/src/ffosolve/_library.py", "python/src/ffosolve/_solvers.py",
-        "crates/program_settings/src/version.rt")
+        "python/src/ffosolve/_command_line.py", "crates/program_settings/src/version.rt")
     entries = re.search(r"MOST_ENTRIES: usize = (\w+)", stored(table).decode())[1]
     empties, workers, size = (re.search(rf"DEFAULT_{name} = (\w+)", stored(settings).decode())[1]
                               for name in ("EMPTIES: u8", "WORKERS: u8", "ENTRIES: u32"))
@@ -271,7 +271,7 @@ def test_make_constants_writes_what_files_repeat(place):
         (table, (entries, "1_234_567"), (entries.replace("_", ","), "1,234,567")),
         (settings, *((form.format(empties), form.format(7)) for form in (
             "u8 = {}", '"{}"', "0 to 60 [default: {}]", "EMPTIES: usize = {}", "max_empties: int = {}",
-            " empties, limit {}", "takes positions with up to {} "))),
+            "\nDEFAULT_EMPTIES = {}", " empties, limit {}", "takes positions with up to {} "))),
         (settings, *((form.format(workers), form.format(9)) for form in (
             "WORKERS: u8 = {}", 'TEXT: &str = "{}"', "same [default: {}]"))),
         (settings, (f"u32 = {size}", "u32 = 123_456"), (size.replace("_", '') + '"', '123456"'),

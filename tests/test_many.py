@@ -40,18 +40,17 @@ def test_the_program_is_found_in_a_checkout_and_through_a_link_and_names_may_hav
 
 
 def test_options_stand_anywhere_and_reach_the_program_of_each_part(case):
-    limit, usual = "--max-empties=20 ", "--scoring=winner --workers=0"
-    others = "--max-empties=7 --scoring=discs --workers=1 --table=9"
-    for program, words, given in (("ffosolve", "", limit + usual), ("ffosolve", others, others),
-                                  ("ffoscores", "--complete", f"{limit}{usual} --complete")):
+    usual, others = "--max-empties=20 --scoring=winner", "--max-empties=7 --scoring=discs --workers=1 --table=9"
+    for program, words, given in (("ffosolve", "", f"{usual} --workers=0"), ("ffosolve", others, others),
+                                  ("ffoscores", "--complete", f"{usual} --complete --workers=0")):
         output = run(case.MANY.with_name(program), *words.split(), "list.obf").stdout
         mode = ["--scores"] if program == "ffoscores" else []
         case.many(*mode, f"work {words}", "--lines=20", "list.obf", *words.split(), "--jobs", 2, output=output,
                   by=case.ACTS, places={"WORDS": f"{case.folder}/words"})
-        # The program is run for a line that it refuses, with its limit; then for a known line and three parts.
-        book = "" if mode else " --book-out=/dev/stderr"
-        runs = [f"{given.removeprefix(limit)} /dev/stdin", *[given + book] * 4]
-        assert Path("words").read_text().splitlines() == runs
+        # After its version, the program is run for a known line and three parts.
+        book = "" if mode else " --book-out=FILE"
+        runs = re.sub(r"/proc/\d+/fd/\d+", "FILE", Path("words").read_text()).splitlines()
+        assert runs == ["--version", *[given + book] * 4]
         Path("words").unlink()
     case.write_list(case.SMALL, "--scoring=sign")
     os.rename("list.obf", "-x")
@@ -59,13 +58,14 @@ def test_options_stand_anywhere_and_reach_the_program_of_each_part(case):
 
 
 def test_the_limit_of_empty_squares_is_by_default_that_of_the_program(case):
-    three = 'case "$*" in *max-emp*) ;; *) set -- --max-empties=3 "$@" ;; esac'
-    by = case.install("other", script=f'#!/bin/sh\n{three}\nexec "@real@" "$@"\n')
+    case.write_list(case.SMALL + positions(1, 21, 21))
+    case.many(*WORDS)
+    assert " refused: 21 empties, limit 20\n" in case.one.decode()
     case.write_list(case.SMALL, "--max-empties=3")
-    case.many(*WORDS, by=by)
+    for words in (), ("--max-empties=4",):
+        case.many(*WORDS[:3], *words, output=mock.ANY)
+    case.many(*WORDS, "--max-empties=3", message=", 0 of them solved before")
     case.many(*WORDS, "--max-empties=3", message=", 3 of them solved before")
-    assert "limit 3" in case.one.decode()
-    case.many(*WORDS[:3], "--max-empties=4", by=by, message=", 0 of them solved before", output=mock.ANY)
 
 
 def test_lines_of_each_kind_and_none_at_all_are_solved(case):
@@ -142,7 +142,7 @@ def test_a_book_that_cannot_be_written_keeps_its_old_content(case):
     assert Path("joined.book").read_text() == "% ffobook 2 winner\n"
     case.folder.chmod(0o777)
     os.chmod("joined.book", 0o444)
-    case.refused(3, "cannot write joined.book: permission denied\n", *WORDS, **NOBODY)
+    case.refused(3, "cannot write joined.book: Permission denied\n", *WORDS, **NOBODY)
     Path("joined.book").unlink()
     printed = "    print_all(run.output())\n"  # at the same time, the book is made
     change = "    open('joined.book', 'w').close(), os.chmod('joined.book', 0o444)\n"
@@ -197,8 +197,8 @@ def test_jobs_are_limited_by_the_files_and_processes_that_there_may_be(case, cou
 
 # (status, message, *command line)
 REFUSED = [
-    (2, "no list is named"),
-    (2, "'two.obf' is one word too many", "work", "list.obf", "two.obf"),
+    (2, "name one LIST, or one FOLDER and one LIST; standard input is `-`"),
+    (2, "name one LIST, or one FOLDER and one LIST; standard input is `-`", "work", "list.obf", "two.obf"),
     (2, "'list.obf' is not a folder: name one FOLDER and one LIST", "list.obf", "two.obf"),
     (2, r"'$'not\xff'' is not a folder", b"not\xff", "two.obf"),
     (3, "cannot write /proc/work: No such file or directory", "/proc/work", "list.obf"),
@@ -215,7 +215,8 @@ REFUSED = [
     (2, "--lines: takes a number from 1 to 10000, not '10001'", "list.obf", "--lines", "10001"),
     (2, "--lines: expected one argument", "list.obf", "--lines"),
     (2, "--lines: given twice", "list.obf", "--lines=5", "--lines=6"),
-    (2, "--book-out: '' is empty or not UTF-8", "list.obf", "--book-out", ""),
+    (2, "'' is not the name of a file", "list.obf", "--book-out", ""),
+    (2, "'' is not the name of a file", "list.obf", "--scheduler="),
     (2, "--book-in is not an option of --scores", "--scores", "list.obf", "--book-in=one.book"),
     (2, "--book-out is not an option of --scores", "--scores", "list.obf", "--book-out=b"),
     (2, "--jobs is not an option of --scheduler", "list.obf", "--scheduler=tcp://h1:8786", "--jobs=3"),
@@ -225,12 +226,12 @@ REFUSED = [
     (2, "--book-out ./list.obf is the list", "list.obf", "--book-out", "./list.obf"),
     (3, "cannot write none/book", "list.obf", "--book-out", "none/book"),
     (3, "cannot write /proc/book", "list.obf", "--book-out", "/proc/book"),
-    (3, "cannot write .: it is a folder", "list.obf", "--book-out", "."),
+    (3, "cannot write .: Is a directory", "list.obf", "--book-out", "."),
     (3, "link is not a book and would be overwritten", "list.obf", "--book-out", "link"),
-    (2, r"--book-out: $'not\xff' is empty or not UTF-8", "list.obf", "--book-out", b"not\xff"),
+    (3, r"$'not\xff' is not a book and would be overwritten", "list.obf", "--book-out", b"not\xff"),
     (3, "kept is not a book and would be overwritten", "--merge-books", "one.book", "--book-out", "kept"),
-    (3, "one.book is read and would be overwritten: write --book-out NEW, then ffosolve-many --merge-books "
-        "one.book NEW", "list.obf", "--book-in=one.book", "--book-out=one.book"),
+    (2, "--book-out one.book is the --book-in: name another file", "list.obf", "--book-in=one.book",
+     "--book-out=one.book"),
     (3, "cannot read none.obf: No such file or directory", "none.obf"),
     (3, r"cannot read $'a\xff\n\'': No such file or directory", b"a\xff\n'"),
     (3, "cannot read .: Is a directory", "work", "."),
@@ -238,13 +239,12 @@ REFUSED = [
     (2, "--merge-books needs the name of a book", "--merge-books"),
     (2, "--lines is not an option of --merge-books", "--merge-books", "--lines=5", "one.book"),
     (3, "cannot read none.book: No such file or directory", "--merge-books", "one.book", "none.book"),
-    # in the words of the program
-    (2, "'61'", "work", "list.obf", "--max-empties", "61"),
-    (2, "'x'", "work", "list.obf", "--workers=x"),
-    (2, "'99999999'", "work", "list.obf", "--table=99999999"),
-    (2, "'a;b' for '--scoring <NAME>': [possible values: winner, discs, sign]: For more information, ",
-     "work", "list.obf", "--scoring", "a;b"),
-    (3, "book line 1: bad square", "work", "list.obf", "--book-in=bad.book"),
+    (2, "--max-empties: takes a number from 0 to 60, not '61'", "work", "list.obf", "--max-empties", "61"),
+    (2, "--workers: takes a number from 0 to 64, not 'x'", "work", "list.obf", "--workers=x"),
+    (2, "--table: takes a number from 0 to 4194304, not '99999999'", "work", "list.obf", "--table=99999999"),
+    (2, "--scoring: invalid choice: 'a;b' (choose from 'winner', 'discs', 'sign')", "work", "list.obf", "--scoring",
+     "a;b"),
+    (3, "bad.book: book line 1: bad square", "work", "list.obf", "--book-in=bad.book"),  # in the words of the program
 ]
 
 
@@ -273,7 +273,7 @@ def test_files_that_may_not_be_read_or_written_are_named(case):
     case.refused(3, "cannot write work: Permission denied\n", "work", "list.obf", **NOBODY)
     os.mkdir("open")
     os.chmod("open", 0o777)
-    case.refused(3, "cannot write book: permission denied\n", "open/work", "list.obf", "--book-out=book", **NOBODY)
+    case.refused(3, "cannot write book: Permission denied\n", "open/work", "list.obf", "--book-out=book", **NOBODY)
     many = case.install("unreadable")
     build = write(many.parent.parent / "lib/ffosolve/ffosolve-x86-64-v2", "", 0o111)
     case.many("open/work", "list.obf", by=many, status=3, message=f"cannot read {build}: Permission denied\n", **NOBODY)

@@ -363,7 +363,7 @@ def test_a_full_disk_ends_the_run_and_it_goes_on_when_there_is_room(cluster, cas
 
 
 def test_what_is_sent_needs_no_certain_python_and_no_package_but_dask():
-    about = (Path(solve.__file__).read_text(), {"programs": []}, {"ffosolve-0": b"it"})
+    about = (Path(solve.__file__).read_text(), {"files": {}}, {"ffosolve-0": b"it"})
     sent = solve.Pack(*about).__reduce__()
     one = eval(*pickle.loads(pickle.dumps(sent[1])))
     assert type(one) is not solve.Pack and one.__reduce__() == sent
@@ -388,7 +388,7 @@ def one(monkeypatch):
             stack.enter_context(mock.patch(what))
         stack.enter_context(mock.patch.object(cluster.Cluster, "ask", mock.Mock()))
         stack.enter_context(mock.patch.object(cluster, "client_of", return_value=mock.Mock(status="running")))
-        one = cluster.Cluster("tcp://h1:1", mock.Mock(statuses={}, pack=solve.Pack("", {}, {})))
+        one = cluster.Cluster("tcp://h1:1", mock.Mock(statuses={}, pack=solve.Pack("", {"files": {}}, {})))
     one.workers, one.count, one.threads, one.key = {(name, name): 1 for name in "abc"}, 3, 3, "ffosolve-key"
     one.said = mock.Mock()
     monkeypatch.setattr(cluster, "say", one.said)
@@ -413,24 +413,23 @@ def test_workers_are_left_out_for_parts_that_others_solve_not_for_those_that_fai
     for name in "bbc":
         one.answer = mock.AsyncMock(return_value=((name, name), "unfit", b"", ""))
         assert asyncio.run(one.solve("part", [])) == ("part", None, "", [])
-    assert (one.chosen(["a"]), one.unfit) == ({"a"}, {("b", "b"), ("c", "c")})  # the last one that is fit
+    assert one.chosen(["a"]) == ({*"a"} - {*left_out})  # the last one that is fit, if any
     assert [call[0][0] for call in one.said.call_args_list[-2:]] == ["b is left out: unfit", "c is left out: unfit"]
 
 
 def test_a_worker_that_is_silent_or_not_fit_gets_no_part_and_the_only_pack_is_not_left_to_it(one):
     about = {name: {"local_directory": name, "nthreads": 2, "host": "h1", "last_seen": 100, "metrics": {}}
              for name in "abc"}
-    about["b"]["last_seen"] = 69  # more than 30 seconds before the others
     one.client.scheduler.identity = mock.AsyncMock(return_value={"workers": about})
     at_work = {"a": ["ffosolve-other-5-x", "ffosolve-key-3-x"], "b": ["ffosolve-key-7-x"]}  # one part of another run
     one.client.processing = mock.AsyncMock(return_value=at_work)
-    one.unfit, begun = {("c", "c")}, set()
+    one.left_out, one.signs, begun = {("c", "c")}, {("b", "b"): (100, time.monotonic() - 31)}, set()
     for holders in ("b", "bc", "ab"):
         one.pack = pack = mock.Mock(key="pack", status="finished")
         one.client.who_has = mock.AsyncMock(return_value={"pack": [*holders]})
         asyncio.run(one.ask())
         assert (one.workers, one.count, one.threads, {*one.running}) == ({("a", "a"): 2}, 3, 2, {3, 7})
-        assert (one.held, one.kept) == ({"ffosolve-key-3-x"}, {"ffosolve-key-7-x"})
+        assert one.places == {"ffosolve-key-3-x": ("a", "a"), "ffosolve-key-7-x": ("b", "b")}
         assert (one.silent, one.pack is pack) == (1, holders != "b")
         begun.add(one.running[3])
     assert len(begun) == 1  # a part goes on
@@ -452,8 +451,7 @@ def test_a_worker_that_begins_none_of_its_parts_is_stuck_and_named(one, monkeypa
         one.client.processing = mock.AsyncMock(return_value={
             "a": ["ffosolve-key-1-x"], "c": ["ffosolve-key-2-x"], "d": [f"ffosolve-key-{second}-x"]})
         asyncio.run(one.ask())
-        assert (("a", "a") in one.workers) == ("ffosolve-key-1-x" in one.held) == (not is_stuck)
-        assert ("ffosolve-key-1-x" in one.kept) == is_stuck and {("b", "b"), ("c", "c")} < one.workers.keys()
+        assert (("a", "a") in one.workers) == (not is_stuck) and {("b", "b"), ("c", "c")} < one.workers.keys()
     (told,) = one.said.call_args_list
     assert told[0] == ("a begins no part: is its memory too small for the program and any --book-in?",)
 
@@ -496,12 +494,11 @@ OTHER = {"pack": mock.Mock(status="pending")}
 
 
 @pytest.mark.parametrize("change, at, copies", [
-    ({}, "", 0), ({"workers": TWO}, "", 1), (OTHER, "", 1), ({"workers": TWO}, "held", 0), (OTHER, "held", 1),
-    ({"count": 1, "workers": TWO}, "", 0), ({"workers": TWO}, "kept", 1), ({"workers": {}}, "kept", 0),
-    ({"workers": TWO, "left_out": {*TWO}}, "kept", 0)])
+    ({}, "", 0), ({"workers": TWO.copy()}, "", 1), (OTHER, "", 1), ({"workers": TWO.copy()}, "a", 0), (OTHER, "a", 1),
+    ({"count": 1, "workers": TWO.copy()}, "", 0), ({"workers": TWO.copy()}, "c", 1), ({"workers": {}}, "c", 0)])
 def test_a_part_is_sent_after_the_pack_and_again_if_no_fit_worker_has_it(one, change, at, copies):
-    """The part is `held` by a fit worker, or `kept` by another one, or waits. The first answer counts; then the others
-    are cancelled."""
+    """The worker `at`, which is fit or not, has the part, or it waits. The first answer counts; then the others are
+    cancelled."""
     class Sent(asyncio.Future):  # what Dask's client returns for a part
         async def cancel(self):
             super().cancel()
@@ -514,7 +511,7 @@ def test_a_part_is_sent_after_the_pack_and_again_if_no_fit_worker_has_it(one, ch
     async def first_seconds():
         sent = [asyncio.ensure_future(one.solve(mock.Mock(number=7), failed)) for failed in ([], ["a"], ["a", "b"])]
         await asyncio.sleep(0.5)
-        vars(one).update(change, **{at: {made.key for made in made_parts()}} if at else {})
+        vars(one).update(change, places={made.key: (at, at) for made in made_parts() if at})
         await asyncio.sleep(0.8)
         made, said = made_parts(), one.client.submit.call_args_list
         is_done = [future.done() for future in sent]
@@ -574,7 +571,7 @@ def test_no_part_is_to_blame_before_four_workers_have_ended_and_a_machine_whose_
     one.ends.clear()
     for _ in range(100):
         assert one.blame(part, distributed.KilledWorker("pack", worker, 0)) == ("", [])
-    assert one.ends == {"h1": 1}
+    assert one.ends == {"h1": {"pack": 1}}
 
 
 def test_the_adaptive_cluster_of_the_document_starts_and_ends_workers_by_need(case, many_python):
@@ -588,8 +585,7 @@ def test_the_adaptive_cluster_of_the_document_starts_and_ends_workers_by_need(ca
     assert run(many_python, "adaptive.py", timeout=3 * SECONDS).returncode == 3
 
 
-NOT_AN_ADDRESS = "it is neither an address with a port, such as tcp://h1:8786, nor a file"
-NO_ADDRESS = "cannot reach a scheduler: the file {} has no address of one, or not yet\n"
+NO_ADDRESS = "cannot reach a scheduler: {} is no address such as tcp://h1:8786, and no file with one\n"
 NO_ANSWER = "it does not answer as a scheduler does (the address of one with TLS begins with tls://)\n"
 
 
@@ -600,9 +596,9 @@ def no_scheduler(case, address, why):
 
 
 @pytest.mark.parametrize("address, why", [
-    ("nonsense", NOT_AN_ADDRESS), ("tcp://h1", NOT_AN_ADDRESS), ("h1:x", NOT_AN_ADDRESS),
+    ("tcp://h1", "missing port number"), ("h1:x", "invalid literal for int() with base 10: 'x'"),
     ("xyz://h1:8786", "unknown address scheme 'xyz'"), ("tls://127.0.0.1:1", "TLS expects a `ssl_context` argument"),
-    ("tcp://127.0.0.1:1", "Timed out"), *((name, NO_ADDRESS) for name in ("empty", "half", "other", "."))])
+    ("tcp://127.0.0.1:1", "Timed out"), *((name, NO_ADDRESS) for name in ("none", "empty", "half", "other", "."))])
 def test_what_is_no_scheduler_is_named(case, address, why):
     for name, text in (("empty", ""), ("half", '{"type": "Scheduler", "address": "tcp'), ("other", "[1]")):
         write(name, text)

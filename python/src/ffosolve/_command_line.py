@@ -20,6 +20,8 @@ from ._text import NotText, shown
 
 Name = Union[str, int, "os.PathLike[str]"]  # of a file, or a descriptor
 DONE, REMARKED, MISUSED, UNREADABLE, MISSING = range(5)
+DEFAULT_EMPTIES = 20  # of --max-empties
+MOST_LINES = 10_000  # in a part of ffosolve-many
 SIGNALS = (signal.SIGINT, signal.SIGTERM, signal.SIGHUP)
 name = "ffosolve"  # of the program, which `run` sets
 _unfinished: Set[str] = set()  # the files that `write_whole` is writing, by their temporary names
@@ -54,6 +56,16 @@ def file_of(name: str) -> Iterator[io.BufferedReader]:
 
 def misused(text: str) -> Refusal:
     return Refusal(f"{text}. Try '{name} --help'", MISUSED)
+
+
+def number(least: int, most: int) -> Callable[[str], int]:
+    """Returns a function that reads the value of an option as a number from `least` to `most`."""
+    def read(word: str) -> int:
+        if not re.fullmatch("[0-9]{1,9}", word) or not least <= int(word) <= most:
+            raise argparse.ArgumentTypeError(f"takes a number from {least} to {most}, not '{shown(word)}'")
+        return int(word)
+
+    return read
 
 
 class Parser(argparse.ArgumentParser):
@@ -166,11 +178,12 @@ def print_all(pieces: Iterable[bytes]) -> None:
         output.writelines(pieces)
 
 
-def write_whole(files: Mapping[str, Iterable[bytes]], replaces: bool = False, mode: Optional[int] = None) -> None:
+def write_whole(files: Mapping[str, Iterable[bytes]], replaces: bool = False, mode: Optional[int] = None,
+                is_synced: bool = True) -> None:
     """Writes files, with any `mode`: `files` maps each path to the pieces of its content. No file gets its path before
-    the contents of all are on the disk. If a path exists, replaces that file or, unless `replaces`, raises
-    FileExistsError; without hard links, always replaces it. OSError has the path as `filename`. After an error, files
-    that have got their paths stay."""
+    the contents of all are on the disk or, unless `is_synced`, are written. If a path exists, replaces that file or,
+    unless `replaces`, raises FileExistsError; without hard links, always replaces it. OSError has the path as
+    `filename`. After an error, files that have got their paths stay."""
     complete: Dict[str, str] = {}  # for each path, a temporary file next to it
     flags = os.O_WRONLY | os.O_CREAT | os.O_EXCL
     try:
@@ -182,7 +195,8 @@ def write_whole(files: Mapping[str, Iterable[bytes]], replaces: bool = False, mo
                 file.flush()
                 if mode is not None:
                     os.fchmod(file.fileno(), mode)
-                os.fsync(file.fileno())
+                if is_synced:
+                    os.fsync(file.fileno())
         for path, written in complete.items():
             try:
                 os.replace(written, path) if replaces else os.link(written, path)  # which never replaces a file

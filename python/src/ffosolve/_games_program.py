@@ -2,15 +2,14 @@
 import argparse
 import contextlib
 import os
-import re
 import sys
 import warnings
 from typing import Any, Callable, Dict, Iterator, List, NamedTuple, NoReturn, Optional
 
 from ._books import scores_in
 from ._check_folders import exact_scores
-from ._command_line import DONE, MISSING, MISUSED, REMARKED, UNREADABLE
-from ._command_line import Parser, Refusal, file_of, print_all, run, say, write_whole
+from ._command_line import DONE, MISSING, MISUSED, MOST_LINES, REMARKED, UNREADABLE
+from ._command_line import Parser, Refusal, file_of, number, print_all, run, say, write_whole
 from ._games import (MOST_DISCS, REAL, SCORE, Game, GameRefused, corrected, discs_of_black, games_in, position_with,
                      positions_of)
 from ._library import MOST_EMPTIES, LibraryNotFound, load
@@ -77,7 +76,6 @@ status:
 MANY = (  # options of ffosolve-many that check passes on: (name, value if it has one)
     ("--jobs", "N"), ("--scheduler", "ADDRESS"), ("--cut", None), ("--prune", None), ("--quiet", None),
     ("--workers", "N"), ("--table", "N"), ("--book-in", "FILE"))
-MOST_LINES = 10_000  # in a part of ffosolve-many
 
 
 class Messages:
@@ -90,19 +88,8 @@ class Messages:
         say(reason)
 
 
-def number(least: int, most: int) -> Callable[[str], int]:
-    """A function that reads a word as a number from `least` to `most`."""
-    def read(word: str) -> int:
-        if not re.fullmatch("[0-9]{1,5}", word) or not least <= int(word) <= most:
-            raise argparse.ArgumentTypeError(f"takes a number from {least} to {most}, not {word!r}")
-        return int(word)
-
-    return read
-
-
-def read_options(words: List[str]) -> argparse.Namespace:
-    """The options in the command line `words`. `task` is the first word if that is `check` or `compare`, else None;
-    `many` has the words for ffosolve-many. Prints the help or the version; refuses the rest."""
+def parser_of() -> Parser:
+    """The options of all uses."""
     parser = Parser(USAGE, WHAT, MORE)
     parser.add_argument("files", metavar="FILE", nargs="*",
                         help="WTHOR files or texts; `-` is standard input [default: standard input]")
@@ -128,21 +115,30 @@ def read_options(words: List[str]) -> argparse.Namespace:
         if value:
             how = {"action": "append", "metavar": value, "type": f"{name}={{}}".format}
         group.add_argument(name, dest="many", default=[], **how)
+    return parser
+
+
+def read_options(words: List[str]) -> argparse.Namespace:
+    """The options in the command line `words`. `task` is the first word if that is `check` or `compare`, else None;
+    `book`, the book of `compare`; `many` has the words for ffosolve-many. Prints the help or the version; refuses the
+    rest."""
     task = words[0] if words[:1] in (["check"], ["compare"]) else None
     end = words.index("--") if "--" in words else len(words)  # argparse would forget one that no FILE precedes
+    parser = parser_of()
     options = parser.parse_intermixed_args(words[task is not None:end], argparse.Namespace(task=task))
-    options.files += words[end + 1:]
+    named = options.files + words[end + 1:]
+    options.book, options.files = named[:task == "compare"], named[task == "compare":]
     of_check = [f"--{name}" for name in ("folder", "max-empties", "lines")
                 if getattr(options, name.replace("-", "_")) is not None]
     of_check += [word.partition("=")[0] for word in options.many]
-    fixes, names = options.fix is not None, options.files[task == "compare":]
+    fixes = options.fix is not None
     for is_wrong, why in (
         (not task and (fixes or options.real),
          "--fix and --real go with check or compare, which has to be the first word"),
         (task != "check" and of_check, f"{''.join(of_check[:1])} goes with check, which has to be the first word"),
-        (task == "check" and not names, "check takes WTHOR files"),
-        (task == "compare" and not names, "compare takes a BOOK and WTHOR files"),
-        (task and "-" in names, f"{task} takes WTHOR files by their names, not standard input"),
+        (task == "check" and not options.files, "check takes WTHOR files"),
+        (task == "compare" and not options.files, "compare takes a BOOK and WTHOR files"),
+        (task and "-" in options.files, f"{task} takes WTHOR files by their names, not standard input"),
         (options.real and not fixes, "--real goes with --fix"),
         (fixes and "--cut" in options.many, "--fix does not go with --cut"),
         (options.fix == "-", "--fix takes a file or a folder, not standard output"),
@@ -163,7 +159,8 @@ def main(find: Callable[[], Optional[str]] = lambda: None) -> NoReturn:
             load(find())  # for `positions_of`
         except LibraryNotFound as why:
             raise Refusal(str(why), MISSING) from None
-        print_all(line + b"\n" for line in (compare if options.task else list_games)(options, messages))
+        tasks = {"check": check, "compare": compare, None: list_games}
+        print_all(line + b"\n" for line in tasks[options.task](options, messages))
         return messages.status
 
     run(NAME, program)
@@ -252,15 +249,26 @@ def wrong_scores(game: Game, discs: Optional[int]) -> Iterator[str]:
             yield f"its real score is {score}, but its moves give {discs}"
 
 
-def compare(options: argparse.Namespace, messages: Messages) -> Iterator[bytes]:
-    """Yields a line for each wrong theoretical score, and one with counts. With --fix, first writes corrected files.
-    For `check`, first lets ffosolve-many write the book; with --cut, yields nothing."""
-    named = options.files.pop(0) if options.task == "compare" else None
+def check(options: argparse.Namespace, messages: Messages) -> Iterator[bytes]:
+    """Does what `compare` does, with scores that ffosolve-many finds. With --cut, lets it cut lists; yields nothing."""
     found, copies = scored_games(options, messages), new_paths(options)
-    folders = folders_of(found, options)
-    scores = scores_of(named) if named else exact_scores(folders, options.lines or 10, options.many)
-    if "--cut" in options.many:
-        return
+    scores = exact_scores(folders_of(found, options), options.lines or 10, options.many)
+    if "--cut" not in options.many:
+        yield from compared(found, copies, scores, options, messages)
+
+
+def compare(options: argparse.Namespace, messages: Messages) -> Iterator[bytes]:
+    """Yields a line for each wrong theoretical score, and one with counts. With --fix, first writes corrected files."""
+    found, copies = scored_games(options, messages), new_paths(options)
+    with file_of(*options.book) as file:
+        name = shown(*options.book)
+        scores = scores_in(text_lines(file, name), name)
+    yield from compared(found, copies, scores, options, messages)
+
+
+def compared(found: List[Found], copies: Dict[str, str], scores: Dict[Position, int], options: argparse.Namespace,
+             messages: Messages) -> Iterator[bytes]:
+    """Yields what `compare` does, for games and {canonical position: exact score for its mover}."""
     for at, it in enumerate(found):
         if it.position and (score := scores.get(it.position.canonical())) is not None:
             found[at] = it._replace(exact=discs_of_black(score, it.position.side))
@@ -270,17 +278,11 @@ def compare(options: argparse.Namespace, messages: Messages) -> Iterator[bytes]:
     for it in differ:
         published = f"published {it.game.score}, exact {it.exact}, difference {it.difference:+}"
         yield f"{it.title}: {published}".encode()
-    compared = sum(it.exact is not None for it in found)
+    known = sum(it.exact is not None for it in found)
     unsolved = sum(it.position is not None and it.exact is None for it in found)
     if differ or unsolved:
         messages.status = max(messages.status, REMARKED)
-    yield b"compared %d differ %d unsolved %d" % (compared, len(differ), unsolved)
-
-
-def scores_of(book: str) -> Dict[Position, int]:
-    """{canonical position: score for its mover} for a book; `-` is standard input."""
-    with file_of(book) as file:
-        return scores_in(text_lines(file, shown(book)), shown(book))
+    yield b"compared %d differ %d unsolved %d" % (known, len(differ), unsolved)
 
 
 def folders_of(found: List[Found], options: argparse.Namespace) -> Dict[str, List[Position]]:

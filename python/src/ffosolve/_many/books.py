@@ -1,6 +1,5 @@
 """Merges books."""
 import heapq
-import io
 import itertools
 import re
 from operator import itemgetter
@@ -13,7 +12,6 @@ from .._positions import Position
 from .._refusals import NoPosition
 from .._squares import NAMES
 from .._text import BOOK_HEADER
-from .folder import Run
 
 
 def entries_of(name: str, lines: Iterable[bytes]) -> Iterator[Tuple[Tuple[int, int], str, int, bytes]]:
@@ -62,10 +60,3 @@ def merged(books: Iterable[Tuple[str, Iterable[bytes]]]) -> Iterator[bytes]:
                 raise Refusal(f"{name} line {number} and {other} line {place} disagree: {text[:-1].decode()} and "
                               f"{line[64:-1].decode().strip()}")
         yield text
-
-
-def book_of(run: Run) -> Iterator[bytes]:
-    """Yields the lines of a run's book, merged from the parts' books."""
-    header = f"{BOOK_HEADER}{run.task['options']['--scoring']}\n".encode()  # all of the book if there are no lines
-    books = ((str(part), io.BytesIO(found.book)) for part, found in run.solved())
-    return merged(itertools.chain([("", [header])], books))

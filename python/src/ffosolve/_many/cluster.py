@@ -6,15 +6,13 @@ import functools
 import json
 import logging
 import os
-import re
-import subprocess
 import sys
 import time
 import warnings
 from collections import defaultdict
 from concurrent.futures import CancelledError
 from pathlib import Path
-from typing import Any, Counter, DefaultDict, Dict, List, Optional, Sequence, Set, Tuple
+from typing import Any, DefaultDict, Dict, List, Optional, Sequence, Set, Tuple
 
 from .._command_line import MISSING, Refusal, say
 from .._text import shown
@@ -29,12 +27,10 @@ try:
     import distributed
     import toolz
 except ImportError as fault:
-    other = "/usr/bin/python3"  # Debian's
-    if sys.executable != other and subprocess.run([other, "-c", "import distributed"], stderr=-3).returncode == 0:
+    if sys.executable != (other := "/usr/bin/python3") and os.path.exists(other):  # Debian's may have it
         os.execv(other, [other, *sys.argv])
     raise Refusal(f"--scheduler needs the package distributed, which {sys.executable} lacks ({fault}): apt-get install "
-                  f"python3-distributed for Debian's Python, or {sys.executable} -m pip install distributed",
-                  MISSING) from None
+                  "python3-distributed, or python3 -m pip install distributed for another Python", MISSING) from None
 except Exception as fault:  # such as a malformed file of settings
     raise Refusal(f"Dask cannot start: {type(fault).__name__}: {' '.join(str(fault).split())}") from None
 
@@ -49,50 +45,43 @@ Sent = Tuple[Any, Optional[Set[str]], Any]  # Dask's future of a part, the worke
 
 def address_of(name: str) -> str:
     """Returns the address of a scheduler: `name`, or what the file of that name has."""
-    if not os.path.exists(name):
-        if re.fullmatch(r"(\w+://)?.+:\d+", name):
-            return name
-        raise Refusal(f"cannot reach the scheduler {shown(name)}: it is neither an address with a port, such as "
-                      "tcp://h1:8786, nor a file")
+    if ":" in name and not os.path.exists(name):
+        return name
     with contextlib.suppress(ValueError, LookupError, TypeError):
         return str(json.loads(content_of(Path(name)))["address"])
-    raise Refusal(f"cannot reach a scheduler: the file {shown(name)} has no address of one, or not yet")
+    raise Refusal(f"cannot reach a scheduler: {shown(name)} is no address such as tcp://h1:8786, and no file with one")
 
 
 def client_of(address: str) -> Any:
-    """Returns a client of the scheduler at an address. Refuses another server of Dask's, or none; and if the scheduler
-    or all its workers have another version."""
-    async def kind_and_versions() -> Tuple[str, List[str]]:
+    """Returns a client of the scheduler at an address. Refuses another server, and if it or all workers have another
+    version."""
+    async def check() -> None:
         security = distributed.Security().get_connection_args("client")
         async with distributed.rpc(address, timeout=LOST_SECONDS, connection_args=security) as server:
             if (kind := str((await server.identity())["type"])) != "Scheduler":
-                return kind, [distributed.__version__]
-            versions = [await server.versions()]
+                raise Refusal(f"{address} is not a scheduler, but a {kind.lower()}")
+            found = [await server.versions()]
             with contextlib.suppress(Exception):  # a worker does not answer
                 told = server.broadcast(msg={"op": "versions"}, on_error="ignore")
-                versions += (await asyncio.wait_for(told, SILENT_SECONDS)).values()
-            return kind, [about["packages"]["distributed"] for about in versions]
+                found += (await asyncio.wait_for(told, SILENT_SECONDS)).values()
+        theirs, *workers = (about["packages"]["distributed"] for about in found)
+        if (here := distributed.__version__) != theirs or workers and here not in workers:
+            raise Refusal(f"the scheduler {address} has distributed {theirs}, its workers "
+                          f"{' and '.join({*workers}) or 'none'}, {sys.executable} {here}: they have to be the same")
     try:
-        kind, (theirs, *workers) = asyncio.run(asyncio.wait_for(kind_and_versions(), 2 * LOST_SECONDS))
-        is_same = (here := distributed.__version__) == theirs and (not workers or here in workers)
-        if kind == "Scheduler" and is_same:
-            return distributed.Client(address, timeout=LOST_SECONDS, set_as_default=False)
+        asyncio.run(asyncio.wait_for(check(), 2 * LOST_SECONDS))
+        return distributed.Client(address, timeout=LOST_SECONDS, set_as_default=False)
+    except Refusal:
+        raise
     except Exception as why:
         reason = " ".join(str(why).split()) or repr(why)
         if "handshake" in reason or isinstance(why, asyncio.TimeoutError):
             reason = "it does not answer as a scheduler does (the address of one with TLS begins with tls://)"
-        raise Refusal(f"cannot reach the scheduler {address}: {reason}") from None
-    raise Refusal(f"{address} is not a scheduler, but a {kind.lower()}" if is_same else
-                  f"the scheduler {address} has distributed {theirs}, its workers {' and '.join({*workers}) or 'none'}"
-                  f", {sys.executable} {here}: they have to be the same")
+        raise Refusal(f"cannot reach the scheduler {shown(address)}: {reason}") from None
 
 
 class Cluster:
-    """A Dask cluster, as an engine (see `Threads`). `workers` has the threads of each fit worker that is not stuck, of
-    the `count` workers that there are. Of the parts that workers have, by Dask's keys, these have those `held`, and
-    others those `kept`. `tested` are the workers that have solved a known line; `failed` has the parts that each failed
-    in a row; `ends`, how many workers ended with a part or at a machine. An `unfit` worker fails a known line. One that
-    is `left_out` gets no part if others are fit."""
+    """A Dask cluster, as an engine: see `Threads`."""
 
     tries, trouble = 3, ""
 
@@ -102,17 +91,13 @@ class Cluster:
         self.run, self.address, self.key = run, address_of(name), f"ffosolve-{os.urandom(4).hex()}"
         self.client = client_of(self.address)
         self.pack: Any = None  # Dask's future of the `Pack` of this run
-        self.workers: Dict[Worker, int] = {}
+        self.workers: Dict[Worker, int] = {}  # the threads of each fit one
         self.count = self.threads = self.silent = 0
-        self.held: Set[str] = set()
-        self.kept: Set[str] = set()
-        self.tested: Set[Worker] = set()
-        self.left_out: Set[Worker] = set()
-        self.unfit: Set[Worker] = set()
-        self.idle: Set[Worker] = set()  # which have been named for it
-        self.failed: DefaultDict[Worker, Set[str]] = defaultdict(set)
-        self.ends: Counter[str] = Counter()
-        self.ended: Set[str] = set()  # the keys of what ended workers
+        self.places: Dict[str, Worker] = {}  # which worker has a part, by Dask's keys
+        self.tested: Set[Worker] = set()  # which have solved a known line
+        self.left_out: Set[Worker] = set()  # which get no part; of a machine (host, ""), untested ones do not
+        self.failed: DefaultDict[Worker, Set[str]] = defaultdict(set)  # the parts that each failed in a row
+        self.ends: DefaultDict[str, Dict[str, int]] = defaultdict(dict)  # of workers with a part or at a host, by keys
         self.signs: Dict[Worker, Tuple[object, float]] = {}  # what each worker does, and since when
         self.running: Dict[int, Tuple[str, float]] = {}
         # Runs a coroutine in Dask's thread. No call waits for Dask, which may be silent for any time.
@@ -123,46 +108,41 @@ class Cluster:
     async def ask(self) -> None:
         """Notes which workers there are, and what they do. Drops a Pack that only stuck workers have."""
         self.client.subscribe_topic(self.key, lambda event: self.tested.add((event[1][0], event[1][1])))
-        workers = (await self.client.scheduler.identity())["workers"]
+        found = (await self.client.scheduler.identity())["workers"]
+        workers = {(name, about["local_directory"]): about for name, about in found.items()}
         keys, now = await self.client.processing(), time.monotonic()
         if self.client.status == "running":
             self.heard = now  # otherwise, Dask connects again
-        parts = {name: [key for key in map(str, keys.get(name, [])) if key.startswith(self.key)] for name in workers}
-        last = max([about["last_seen"] for about in workers.values()], default=0)
-        stuck = {name for name, about in workers.items() if about["last_seen"] < last - LOST_SECONDS
-                 or self.is_stuck((name, about["local_directory"]), about, parts[name], now)}
-        fit = {(name, about["local_directory"]) for name, about in workers.items() if name not in stuck} - self.unfit
-        good = {one for one in fit if one in self.tested or self.ends[workers[one[0]]["host"]] < MOST_ENDS}
-        self.workers = {worker: workers[worker[0]]["nthreads"] for worker in good or fit}
+        parts = {one: [key for key in map(str, keys.get(one[0], ())) if key.startswith(self.key)] for one in workers}
+        stuck = {one for one, about in workers.items() if self.is_stuck(one, about, parts[one], now)}
+        self.workers = {one: about["nthreads"] for one, about in workers.items() if one not in stuck | self.left_out
+                        and (one in self.tested or (about["host"], "") not in self.left_out)}
         self.count, self.threads = len(workers), sum(self.workers.values())
-        self.held = {key for name, _ in self.workers for key in parts[name]}
-        self.kept = {key for name in workers for key in parts[name]} - self.held
+        self.places = {key: one for one in workers for key in parts[one]}
+        self.silent = sum(bool(parts[one]) for one in stuck)
         # The first parts of a worker are at work, as a rule; those that it has beyond its threads wait there.
-        found = [(int(key.split("-")[2]), about["host"]) for name, about in workers.items()
-                 for key in parts[name][:about["nthreads"]]]
-        self.running = {number: (host, self.running.get(number, ("", now))[1]) for number, host in found}
-        self.silent = sum(bool(parts[name]) for name in stuck)
+        at_work = [(int(key.split("-")[2]), about["host"]) for one, about in workers.items()
+                   for key in parts[one][:about["nthreads"]]]
+        self.running = {number: (host, self.running.get(number, ("", now))[1]) for number, host in at_work}
         if stuck and self.pack and self.pack.status == "finished":
             holders = await self.client.who_has([self.pack])
-            self.pack = self.pack if {*holders[self.pack.key]} - stuck else None
+            self.pack = self.pack if {*holders[self.pack.key]} - {name for name, _ in stuck} else None
 
     def is_stuck(self, worker: Worker, about: Dict[str, Any], parts: List[str], now: float) -> bool:
-        """Returns whether a worker has given no sign of life for LOST_SECONDS or, twice as long, has begun none of its
-        parts. The latter is named."""
+        """Returns whether a worker is silent for LOST_SECONDS or, twice as long, begins no part: then it is named."""
         is_idle = parts and not about["metrics"].get("task_counts", {"executing": 1}).get("executing")
         sign = (parts, self.pack) if is_idle else about["last_seen"]
         before, since = self.signs.get(worker, (sign, now))
         self.signs[worker] = sign, since if sign == before else now
         is_stuck = now > self.signs[worker][1] + LOST_SECONDS * (2 if is_idle else 1)
-        if is_stuck and is_idle and worker not in self.idle:
+        if is_stuck and is_idle and worker in self.workers:
             say(f"{worker[0]} begins no part: is its memory too small for the program and any --book-in?")
-            self.idle.add(worker)
         return is_stuck
 
     def chosen(self, failed: Sequence[str] = ()) -> Set[str]:
-        """Returns the addresses of workers that may have a part: fit ones; if possible, only those that have not failed
-        MOST_FAILS parts in a row; and if possible, only those that have not `failed` this one."""
-        doubted = self.left_out | {worker for worker, parts in self.failed.items() if len(parts) >= MOST_FAILS}
+        """Returns the addresses of workers that may have a part: if possible, only of those that have not failed
+        MOST_FAILS parts in a row; and if possible, only of those that have not `failed` this one."""
+        doubted = {worker for worker, parts in self.failed.items() if len(parts) >= MOST_FAILS}
         trusted = {name for name, _ in self.workers.keys() - doubted or self.workers}
         return trusted - {*failed} or trusted
 
@@ -196,10 +176,9 @@ class Cluster:
     def is_in_hand(self, sent: Sent, failed: List[str]) -> bool:
         """Returns whether it is of no use to send a part again: a fit worker has it, or no other worker could."""
         task, workers, pack = sent
-        if task.key in self.kept:
-            return not self.workers.keys() - self.left_out
-        has_others = workers and self.chosen(failed) - workers
-        return self.pack is pack and (task.key in self.held or not has_others)  # a worker may wait for a lost Pack
+        place = self.places.get(task.key)
+        is_lost = place not in self.workers if place else workers and self.chosen(failed) - workers
+        return not self.workers or self.pack is pack and not is_lost  # a worker may wait for a lost Pack
 
     async def answer(self, part: Part, failed: List[str]) -> Any:
         """Returns what a Pack does for a part. Sends it again while it is not in hand: the first answer counts."""
@@ -232,8 +211,6 @@ class Cluster:
             return part, None, str(fault).partition("\n")[0] or repr(fault), ["a worker"]
         if unfit:
             self.leave_out(worker, unfit)
-            self.unfit.add(worker)
-            self.workers = {one: threads for one, threads in self.workers.items() if one != worker}
             return part, None, "", []
         found, why = await asyncio.get_running_loop().run_in_executor(None, self.run.keep, part, record, why)
         counts = self.counts(worker, part.digest, bool(found), bool(failed))
@@ -244,10 +221,8 @@ class Cluster:
         machine of the last one, which had not solved a known line."""
         last, is_part = end.last_worker, end.task.startswith(self.key)
         what = part.digest if is_part and (last.address, last.local_directory) in self.tested else str(last.host)
-        if end.task not in self.ended:  # otherwise, another part has waited for the same Pack
-            self.ends[what] += end.allowed_failures + 1
-        self.ended.add(end.task)
-        if (count := self.ends[what]) < MOST_ENDS:
+        self.ends[what][end.task] = end.allowed_failures + 1  # other parts may have waited for the same Pack
+        if (count := sum(self.ends[what].values())) < MOST_ENDS:
             return "", []
         if what == part.digest:
             del self.ends[what]
@@ -278,6 +253,7 @@ class Cluster:
         if worker not in self.left_out:
             say(f"{worker[0]} is left out: {why}")
         self.left_out.add(worker)
+        self.workers.pop(worker, None)
 
     def look(self) -> None:
         """Does what `Threads.look` does. Refuses after LOST_SECONDS of silence, unless this process was stopped."""

@@ -8,21 +8,21 @@ import re
 import shutil
 import subprocess
 import sys
+import tempfile
 from pathlib import Path
-from typing import Any, Dict, Iterable, List, Optional, Tuple
+from typing import Any, Dict, List, Tuple
 
-from .._command_line import (DONE, MISSING, REMARKED, UNREADABLE, Name, Parser, Refusal, counted, is_same, misused,
-                             path_of, print_all, refusing, regular, replace, run as run_program, say)
+from .._command_line import (DEFAULT_EMPTIES, DONE, MISSING, MOST_LINES, REMARKED, UNREADABLE, Name, Parser, Refusal,
+                             counted, is_same, misused, number, path_of, print_all, refusing, regular, replace,
+                             run as run_program, say)
+from .._library import MOST_EMPTIES, MOST_ENTRIES
 from .._text import BOOK_HEADER, shown, typed
-from .books import book_of, merged
+from .books import merged
 from .engine import Threads, solve_parts
-from .folder import Run, inspect
-from .solve import GUARD, Task, opened, sha256, without_folder, words_of
+from .folder import Files, Run, inspect
+from .solve import GUARD, Task, opened, without_folder
 
 NAME = "ffosolve-many"
-NO_DISCS = b"-" * 64 + b" X;"  # refused with any options; the message has the limit of empty squares
-LIMITS = {"ffosolve": rb"\[1\]\n1 refused: 64 empties, limit (\d+)\nsolved 0 refused 1\n",
-          "ffoscores": rb"%% refused: 64 empties, limit (\d+): %b\n" % NO_DISCS}
 EXCLUDED = {"scheduler": {"jobs", "cut"}, "scores": {"book_in", "book_out"}, "cut": {"prune"}}  # {option: not with it}
 WITH_MERGE_BOOKS = {"merge_books", "book_out", "quiet"}
 
@@ -50,7 +50,9 @@ status:
      scheduler is lost; with --scores also: not all parts are solved
   4  a tool is missing, or the program can't be built
 """
-MOST = {"--jobs": 999, "--lines": 10_000}
+RANGES = {"--jobs": number(1, 999), "--lines": number(1, MOST_LINES), "--max-empties": number(0, MOST_EMPTIES),
+          "--workers": number(0, 64), "--table": number(0, MOST_ENTRIES)}
+CHOICES = {"--scoring": ("winner", "discs", "sign")}
 OPTIONS = {
     "how the list is solved": (
         ("--jobs", "N", "parts solved at a time on this machine, 1 to 999 [default: one for each of its processors]"),
@@ -63,7 +65,7 @@ OPTIONS = {
         ("--merge-books", None, "solve nothing, and merge books of one scoring into one"),
         ("--quiet", None, "write only failures to standard error")),
     "options of ffosolve, with the same meaning": (
-        ("--max-empties", "N", "solve positions with at most N empty squares, 0 to 60 [default: that of ffosolve]"),
+        ("--max-empties", "N", f"solve positions with at most N empty squares, 0 to 60 [default: {DEFAULT_EMPTIES}]"),
         ("--workers", "N", "extra threads per part, beyond its own, 0 to 64 [default: 0]"),
         ("--table", "N", "entries of the transposition table for each part, 32 bytes each"),
         ("--scoring", "NAME", "how a finished game is scored [default: winner] [possible values: winner, discs, sign]"),
@@ -71,114 +73,98 @@ OPTIONS = {
         ("--book-out", "FILE", "write all solved positions to FILE as a book"))}
 
 
-class Once(argparse.Action):
-    """An option that may be given only once. Its value is UTF-8, not empty; with `const`, an int from 1 to `const`."""
-
-    def __call__(self, parser: Any, namespace: Any, value: Any, option_string: Optional[str] = None) -> None:
-        if getattr(namespace, self.dest) is not None:
-            raise argparse.ArgumentError(self, "given twice")
-        if not value or re.search("[\udc80-\udcff]", value):
-            raise argparse.ArgumentError(self, f"{shown(value)} is empty or not UTF-8")
-        if self.const and (not re.fullmatch("[1-9][0-9]{0,6}", value) or int(value) > self.const):
-            raise argparse.ArgumentError(self, f"takes a number from 1 to {self.const}, not '{shown(value)}'")
-        setattr(namespace, self.dest, int(value) if self.const else value)
-
-
 def parse(words: List[str]) -> argparse.Namespace:
     """Returns a namespace with the options of the command line `words` and, as its own `words`, the other arguments.
     Refuses wrong options, and an empty word. Prints the help or the version and raises SystemExit if asked to."""
     parser = Parser(USAGE, WHAT, MORE)
-    groups = [parser.add_argument_group(title) for title in OPTIONS]
-    for group, options in zip(groups, OPTIONS.values()):
+    for title, options in OPTIONS.items():
+        group = parser.add_argument_group(title)
         for name, value, text in options:
-            how: Dict[str, Any] = {"metavar": value, "action": Once, "const": MOST.get(name)}
+            how: Dict[str, Any] = {"metavar": value, "action": "append", "type": RANGES.get(name),
+                                   "choices": CHOICES.get(name)}
             group.add_argument(name, help=text, **how if value else {"action": "store_true"})
-    parser.add_common(groups[0])
+    parser.add_common(group)
     end = words.index("--") if "--" in words else len(words)
     command, others = parser.parse_known_args(words[:end])
     for word in others:
         if word.startswith("-") and word != "-":
             raise misused(f"'{shown(word)}' is not an option; a file of that name is ./{shown(word)}")
-    given = {name for name, value in vars(command).items() if value}
+    given = {name for name, values in vars(command).items() if values}
     for option, excluded in {**EXCLUDED, "merge_books": given - WITH_MERGE_BOOKS}.items():
         for other in excluded & given if option in given else ():
             raise misused(f"--{other} is not an option of --{option}".replace("_", "-"))
+    for name, values in vars(command).items():
+        if isinstance(values, list):
+            if values[1:]:
+                raise misused(f"--{name}: given twice".replace("_", "-"))
+            setattr(command, name, values[0])
     command.words = others + words[end + 1:]
-    if "" in command.words:
+    if "" in (*command.words, command.scheduler, command.book_in, command.book_out):
         raise misused("'' is not the name of a file")
     return command
 
 
-def task_of(command: argparse.Namespace, claims: Optional[bytes]) -> Task:
-    """Returns the options of a command as "options" and "speed" of a task. `claims` is the content of a --book-in."""
-    return {"options": {"--scoring": command.scoring or "winner", "--max-empties": command.max_empties,
-                        "--scores": "" if command.scores else None, "--complete": "" if command.complete else None},
+def task_of(command: argparse.Namespace) -> Task:
+    """Returns the options of a command as "options" and "speed" of a task."""
+    most = DEFAULT_EMPTIES if command.max_empties is None else command.max_empties
+    return {"program": "ffoscores" if command.scores else "ffosolve", "lines": command.lines or 1000,
+            "options": {"--max-empties": most, "--scoring": command.scoring or "winner",
+                        "--complete": "" if command.complete else None},
             # The parts keep all processors busy, so none of them needs more than one thread.
-            "speed": {"--workers": command.workers or "0", "--table": command.table,
-                      "--book-in": None if claims is None else sha256(claims)},
-            "program": "ffoscores" if command.scores else "ffosolve", "lines": command.lines or 1000}
+            "speed": {"--workers": command.workers or 0, "--table": command.table}}
 
 
-def builds_of(program: Path) -> List[bytes]:
-    """Returns the contents of a program's builds for levels of x86-64, highest first; without any, of `program`."""
-    root, name, contents = program.parent.parent, program.name, []
+def files_of(program: Path) -> Files:
+    """Returns a program's builds for levels of x86-64, highest first, or else `program`. Refuses another program."""
+    if not told(program, "--version").startswith(f"{program.name} ".encode()):
+        raise Refusal(f"{program} is not the program {program.name}", MISSING)
+    root, name, files = program.parent.parent, program.name, {}
     found = [*root.glob(f"out/x86-64-v?/{name}"), *root.glob(f"lib/ffosolve/{name}-x86-64-v?")]
-    for path in sorted(found, reverse=True) or [program]:
+    for at, path in enumerate(sorted(found, reverse=True) or [program]):
         with refusing("read", path):
-            contents.append(path.read_bytes())
-    return contents
+            files[f"{name}-{at}"] = path.read_bytes(), 0o777
+    return files
 
 
-def try_run(program: Path, *words: str, text: bytes = NO_DISCS, to: int = subprocess.PIPE) -> Tuple[int, bytes, str]:
-    """Runs a program, which inherits a shell's /dev/fd/63, with a `text` as its standard input. Returns its status, its
-    output unless that goes to the file `to`, and, in one line, its messages."""
+def told(program: Path, *words: str, text: bytes = b"", about: str = "") -> bytes:
+    """Returns what a program prints, with a `text` as its standard input. Refuses if it fails, with its status and, in
+    one line, what it is `about` and its messages; and if it, or what runs it, is missing."""
     if not os.access(program, os.X_OK):
         raise Refusal(f"{program.name} is missing: it has to be next to ffosolve-many, in {program.parent}", MISSING)
     if not (shutil.which("choom") and shutil.which("setpriv")):
         raise Refusal("choom or setpriv is not on the path: apt-get install util-linux", MISSING)
-    path = str(opened(program.parent) / program.name)
-    ran = subprocess.run([*GUARD, path, *words], close_fds=False, input=text, stdout=to, stderr=subprocess.PIPE)
-    said = without_folder(ran.stderr.decode(errors="replace"))
-    lines = re.findall(r"^(?:ffo[a-z]+: |\s+)?(\S.*)", said, re.MULTILINE)
-    return ran.returncode, ran.stdout, ": ".join(lines) or f"{program} ended with status {ran.returncode}"
+    ran = subprocess.run([*GUARD, str(opened(program.parent) / program.name), *words], input=text, capture_output=True)
+    if status := ran.returncode:
+        said = re.findall(r"^(?:ffo[a-z]+:)?\s*(.+)", without_folder(ran.stderr.decode(errors="replace")), re.MULTILINE)
+        why = ": ".join(said) or f"{program} ended with status {status}"
+        raise Refusal(about + why, status if status > 0 else MISSING)
+    return ran.stdout
 
 
-def check_books(program: Path, books: Iterable[Tuple[str, bytes]]) -> None:
-    """Lets ffosolve read each book, given as a name and a content, and refuses the first one that ffosolve refuses."""
-    for name, content in books:
-        status, _, errors = try_run(program, "--book-in=/dev/stdin", os.devnull, text=content)
-        if status:
-            raise Refusal(f"{name}: {errors}", status if status > 0 else MISSING)
+def check_book(program: Path, name: str, content: bytes) -> None:
+    """Lets ffosolve read a book, and refuses one that ffosolve refuses."""
+    told(program, "--book-in=/dev/stdin", os.devnull, text=content, about=f"{name}: ")
 
 
-def check_book_out(program: Path, name: str, source: Name, *options: str) -> None:
-    """Refuses a --book-out that is standard output or error, the list `source`, or a file that ffosolve refuses."""
-    for other, what in ((1, "standard output, where the report goes"), (2, "standard error"), (source, "the list")):
+def check_book_out(name: str, *read: Tuple[Name, str]) -> None:
+    """Refuses a --book-out that is standard output, standard error or a file of `read`, that would overwrite anything
+    but a book or an empty file, or that can't be written."""
+    for other, what in ((1, "standard output, where the report goes"), (2, "standard error"), *read):
         if is_same(name, other):
             raise misused(f"--book-out {shown(name)} is {what}: name another file")
-    with open("/dev/full", "wb") as full:  # so that the program tests the file, and writes nothing
-        _, _, errors = try_run(program, *options, f"--book-out={name}", os.devnull, to=full.fileno())
-    if errors != "cannot write standard output":
-        raise Refusal(errors.replace(os.fsencode(name).decode(errors="replace"), shown(name)))
-
-
-def limit_of(program: Path, options: List[str]) -> str:
-    """Returns how many empty squares a position may have. Refuses options or a book that the program refuses, in its
-    words and with its status, and a program that is not the right one."""
-    status, output, errors = try_run(program, *options, "/dev/stdin")
-    if found := re.fullmatch(LIMITS[program.name], output):
-        return found[1].decode()
-    if status > 0:
-        raise Refusal(errors, status)
-    raise Refusal(f"{program} is not the program {program.name}: it ended with status {status}", MISSING)
+    with refusing("write", name):
+        if os.path.isfile(name) or os.path.isdir(name):
+            with open(name, "r+b") as file:
+                if file.read(len(BOOK_HEADER)) not in (b"", BOOK_HEADER.encode()):
+                    raise Refusal(f"{shown(name)} is not a book and would be overwritten")
+        if os.path.isfile(name) or not os.path.exists(name):
+            tempfile.TemporaryFile(dir=os.path.dirname(os.path.realpath(name))).close()
 
 
 def run_of(command: argparse.Namespace, programs: str) -> Run:
     """Checks a command from `parse`, and begins or continues its run."""
-    if not command.words:
-        raise misused("no list is named; for standard input use `-`, with a FOLDER before it")
-    if len(command.words) > 2:
-        raise misused(f"'{shown(command.words[2])}' is one word too many: name one FOLDER and one LIST")
+    if not 1 <= len(command.words) <= 2:
+        raise misused("name one LIST, or one FOLDER and one LIST; standard input is `-`")
     *named, word = command.words
     folder, path, name = Path(named[0] if named else f"{word}.parts"), path_of(word), shown(word)
     if not named and (path.is_fifo() or path.parts[1:2] in (("dev",), ("proc",)) or len(os.fsencode(path.name)) > 249):
@@ -188,24 +174,23 @@ def run_of(command: argparse.Namespace, programs: str) -> Run:
     if is_same(path, 1):
         raise misused(f"standard output is the list {name}: name another file")
     if folder.exists():
-        with refusing("read", folder):
-            inspect(folder)  # before a program is built
+        inspect(folder)  # before a program is built
     source = regular(word)
     with source.open("rb") as file:
         header = re.match(rf"{BOOK_HEADER}(discs|sign)\s".encode(), file.readline(99))
     if header and not command.scoring:
         scoring = header[1].decode()
         raise misused(f"{name} is a book of the scoring {scoring}: use --scoring {scoring}")
-    book = regular(command.book_in) if command.book_in else None
-    claims = book.read_bytes() if book else None
-    task = task_of(command, claims)
-    program, words = Path(programs, task["program"]), words_of(task, str(book) if book else None)
-    task["options"]["--max-empties"] = limit_of(program, words)
+    task = task_of(command)
+    program = Path(programs, task["program"])
+    files = files_of(program)
+    if command.book_in:
+        book = regular(command.book_in)
+        files["book-in"] = book.read_bytes(), book.stat().st_mode
+        check_book(program, shown(command.book_in), files["book-in"][0])
     if command.book_out:
-        check_book_out(program, command.book_out, path, *words)
-    run = Run(folder, task, source, name, is_remote=bool(command.scheduler))
-    run.begin(builds_of(program), book, claims)
-    return run
+        check_book_out(command.book_out, (path, "the list"), (command.book_in or os.devnull, "the --book-in"))
+    return Run(folder, task, source, name, files, is_remote=bool(command.scheduler))
 
 
 def print_cut(run: Run) -> int:
@@ -238,7 +223,9 @@ def solve_list(command: argparse.Namespace, programs: str) -> int:
                       UNREADABLE if command.scores else REMARKED)
     print_all(run.output())
     if command.book_out:
-        replace(command.book_out, book_of(run))
+        header = f"{BOOK_HEADER}{run.task['options']['--scoring']}\n".encode()  # all of the book if there are no lines
+        books = ((str(part), io.BytesIO(found.book)) for part, found in run.solved())
+        replace(command.book_out, merged([("", [header]), *books]))
     with contextlib.nullcontext() if command.prune else contextlib.suppress(OSError):
         run.clean(command.prune)
     return max(run.statuses.values(), default=DONE)
@@ -248,16 +235,17 @@ def merge_books(command: argparse.Namespace, programs: str) -> int:
     """Merges the books that a command from `parse` names; prints the result or writes --book-out. Returns a status."""
     if not command.words:
         raise misused("--merge-books needs the name of a book")
-    program = Path(programs, "ffosolve")
     if command.book_out:
-        check_book_out(program, command.book_out, os.devnull)
+        check_book_out(command.book_out)
+    program = Path(programs, "ffosolve")
     books = [(shown(name), regular(name).read_bytes()) for name in command.words]
     try:
         whole = b"".join(merged((name, io.BytesIO(content)) for name, content in books))
-        check_books(program, [("the merged book", whole)])
-    except (ValueError, Refusal) as why:
-        check_books(program, books)  # refuses a book that is wrong by itself
-        raise why if isinstance(why, Refusal) else Refusal(str(why)) from None
+        check_book(program, "the merged book", whole)
+    except (ValueError, Refusal):
+        for name, content in books:
+            check_book(program, name, content)  # refuses a book that is wrong by itself
+        raise
     replace(command.book_out, [whole]) if command.book_out else print_all([whole])
     return DONE
 

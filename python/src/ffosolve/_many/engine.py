@@ -1,14 +1,13 @@
 """Solves the unsolved parts of a run (see `Run`) on an engine: threads of this machine, or a cluster."""
 import contextlib
 import os
-import queue
 import resource
 import threading
 import time
 from collections import defaultdict, deque
-from concurrent.futures import Future, ThreadPoolExecutor
+from concurrent.futures import FIRST_COMPLETED, Future, ThreadPoolExecutor, wait
 from datetime import timedelta
-from typing import Any, DefaultDict, Deque, Dict, List, Optional, Tuple
+from typing import Any, DefaultDict, Deque, Dict, List, Optional, Set, Tuple
 
 from .._command_line import Refusal, counted, say, show
 from .folder import Part, Run
@@ -38,11 +37,10 @@ class Progress:
         work = sum({part.digest: part.weight for part in self.run.unsolved()}.values())
         if not self.done or self.done * 9 < work:
             return None
-        rate, now, threads = self.seconds / self.done, time.monotonic(), self.engine.threads
-        running = [(part.weight, start) for part, _, start in self.running()]
-        rests = [max(0, weight * rate - now + start) for weight, start in running]
-        waiting = work - sum(weight for weight, _ in running)
-        return float(max(rests + [(waiting * rate + sum(rests)) / max(1, min(threads, len(running)))]))
+        rate, now, running = self.seconds / self.done, time.monotonic(), self.running()
+        rests = [max(0, part.weight * rate - now + start) for part, _, start in running]
+        waiting = work - sum(part.weight for part, *_ in running)
+        return float(max(rests + [(waiting * rate + sum(rests)) / max(1, min(self.engine.threads, len(running)))]))
 
     def text(self) -> str:
         """Returns the line to show, with any trouble. It names the longest part, from LONG_SECONDS on."""
@@ -61,8 +59,7 @@ class Progress:
 
 
 class Threads:
-    """An engine for `solve_parts`: solves parts on threads of this machine, each running one program at a time.
-    `running` has the parts at work, of which some may have been solved since: {number: (host, start time)}."""
+    """An engine for `solve_parts`: solves parts on threads of this machine, each running one program at a time."""
 
     # After how many tries a part is not solved; why nothing is known of the machines at work, or ""; silent workers.
     tries, trouble, silent = 1, "", 0
@@ -74,6 +71,7 @@ class Threads:
         if fit < jobs:
             say(f"{fit} of {jobs} jobs work at a time, since no more files or processes are allowed (ulimit -n, -u)")
         self.run, self.pool, self.threads = run, ThreadPoolExecutor(fit), fit
+        # {number: (host, start time)} of parts at work, of which some may have been solved since.
         self.running: Dict[int, Tuple[str, float]] = {}
 
     def look(self) -> None:
@@ -115,13 +113,12 @@ def solve_parts(run: Run, engine: Any, quiet: bool) -> None:
     waiting, progress = deque({part.digest: part for part in run.unsolved()}.values()), Progress(run, engine)
     last: Deque[Part] = deque()
     failures: DefaultDict[int, List[str]] = defaultdict(list)  # {number: where that part failed}
-    done: queue.SimpleQueue[Future[Outcome]] = queue.SimpleQueue()
-    sent, is_terminal, due, shown, trouble = 0, os.isatty(2), 0.0, time.monotonic(), ""
+    sent: Set[Future[Outcome]] = set()
+    is_terminal, due, shown, trouble = os.isatty(2), 0.0, time.monotonic(), ""
     while waiting or last or sent:
-        while (parts := waiting or last) and sent < engine.most(is_alone=not waiting):
+        while (parts := waiting or last) and len(sent) < engine.most(is_alone=not waiting):
             part = parts.popleft()
-            engine.send(part, failures[part.number]).add_done_callback(done.put)
-            sent += 1
+            sent.add(engine.send(part, failures[part.number]))
         if (now := time.monotonic()) >= due:
             due = now + (1 if sent else 0.2)
             engine.look()
@@ -129,16 +126,15 @@ def solve_parts(run: Run, engine: Any, quiet: bool) -> None:
                 shown = now
                 (show if is_terminal else say)(progress.text())
             trouble = engine.trouble
-        try:
-            part, found, why, machines = done.get(timeout=max(0.01, due - now)).result()
-        except queue.Empty:
-            continue
-        sent, failed = sent - 1, failures[part.number]
-        if why:
-            say(f"{machines[0]} failed {part}: {why}")
-            failed += machines
-        if found:
-            progress.done, progress.seconds = progress.done + part.weight, progress.seconds + found.seconds
-        elif len(failed) < engine.tries:
-            (last if len(failed) > 1 else waiting).appendleft(part)
+        time.sleep(0 if sent else 0.01)
+        done, sent = wait(sent, timeout=max(0.01, due - now), return_when=FIRST_COMPLETED)
+        for part, found, why, machines in [future.result() for future in done]:
+            failed = failures[part.number]
+            if why:
+                say(f"{machines[0]} failed {part}: {why}")
+                failed += machines
+            if found:
+                progress.done, progress.seconds = progress.done + part.weight, progress.seconds + found.seconds
+            elif len(failed) < engine.tries:
+                (last if len(failed) > 1 else waiting).appendleft(part)
     show("")

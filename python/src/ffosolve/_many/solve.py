@@ -21,7 +21,6 @@ FORM = "task 2"  # what the file `task` is about; each version that changes a ru
 KNOWN = b"-OXXXXX-XXXXXXXOXXXXXXXXXXXXXXXXXXXOXXXXXXXXXXXXXXXXXXXXXXXXXXXX X; H1:+62; A1:+52;\n"
 KNOWN_SECONDS = 30  # in which a machine has to solve it; that takes 0.01, but a busy machine starts programs late
 GUARD = ("setpriv", "--pdeathsig", "KILL")  # before the path of a program, which is then killed when this process ends
-PASSED_ON = ("--max-empties", "--scoring", "--workers", "--table", "--book-in", "--complete")  # to the program
 PART_BYTES = 1_048_576  # in a part; the programs take as many
 MOST_READ = PART_BYTES << 9  # bytes of a file in a folder, if it is not the list
 # Of a line that a report does not leave out: its squares, if it has a position, and two letters if these follow.
@@ -29,11 +28,11 @@ LETTER = b"*XxOoBbWw"  # of a disc or of a side; without regard to case, the pat
 FRONT = re.compile(rb"^(?![ \t]*(?:%%|\r?$))[ \t]*((?:[-.%b]{64}(?=[ \t]*[%b])(?:[ \t]*[A-Za-z]{2})?)?)"
                    % (LETTER, LETTER), re.M)
 
-# What a run's file `task` has. "options": {option that decides the results: value}, "" for an option without value and
-# None for one that is not given; "speed", the like for other options; "program", its name; "lines", how many a part has
-# on average; "parts", how many there are; "programs", the SHA-256 of each build; "known", {digest of KNOWN: results}.
+# What a run's file `task` has. "program", its name; "options": {option that decides the results: value}, "" for one
+# without value and None for one that is not given; "speed", the like for others, except --book-in; "lines", how many a
+# part has on average; "parts", how many there are; "files", {name: SHA-256} of the program's builds and of any book-in;
+# "known", {digest of KNOWN: results}.
 Task = Dict[str, Any]
-Files = Dict[str, str]  # {name: path in this process} of a run's programs, ffosolve-0 and so on, and of any book-in
 
 # The results of a part: the program's exit status, its output, its book, and how many seconds it took.
 Solved = NamedTuple("Solved", [("status", int), ("output", bytes), ("book", bytes), ("seconds", float)])
@@ -78,19 +77,14 @@ def empties_of(fronts: List[bytes]) -> List[int]:
     return [front.count(b"-") + front.count(b".") for front in fronts]
 
 
-def digest_of(options: Dict[str, Any], text: bytes, most: Optional[int] = None) -> str:
-    """Returns what the results of lines are kept under: a SHA-256 of the lines and of the options that decide what is
-    printed. Their limit of empty squares is one if the lines have a position with more: `most` is the greatest number,
-    which is found if it is not given."""
+def digest_of(task: Task, text: bytes, most: Optional[int] = None) -> str:
+    """Returns what the results of lines are kept under: a SHA-256 of the lines and of what decides the results, such as
+    the limit of empty squares if a line has more. `most` is the greatest number in them, found if it is not given."""
     most = max(empties_of(FRONT.findall(text)), default=0) if most is None else most
-    limits = {} if most > int(options["--max-empties"]) else {"--max-empties": None}
-    return sha256(json.dumps({**options, **limits}, sort_keys=True).encode() + text)
-
-
-def words_of(task: Task, book_in: Optional[str]) -> List[str]:
-    """Returns the arguments of the program, except --book-out. `book_in` is the path of a book."""
-    given = {**task["speed"], **task["options"], "--book-in": book_in}
-    return [name if given[name] == "" else f"{name}={given[name]}" for name in PASSED_ON if given[name] is not None]
+    options = {**task["options"]}
+    if most <= options["--max-empties"]:
+        del options["--max-empties"]
+    return sha256(json.dumps([task["program"], options], sort_keys=True).encode() + text)
 
 
 def read_record(digest: str, record: bytes) -> Optional[Solved]:
@@ -112,67 +106,19 @@ def unnamed(content: bytes) -> BinaryIO:
         return open(f"/proc/self/fd/{file.fileno()}", "rb")  # no program runs while its file may be written
 
 
-def solve(task: Task, files: Files, program: str, text: bytes, most: Optional[int] = None,
-          is_wanted: Callable[[], bool] = lambda: True) -> Tuple[bytes, str]:
-    """Solves the lines `text` of a part with the program of that path, and kills it once `is_wanted` returns false.
-    Returns (record, "") or, if the program fails, (b"", the reason). A record has the results under their digest. For
-    `most`, see `digest_of`."""
-    # The program writes its book to the pipe of standard error, so that it needs no room on a disk.
-    has_book = task["options"]["--scores"] is None
-    words = [program, *words_of(task, files.get("book-in")), *["--book-out=/dev/stderr"] * has_book]
-    command = ["choom", "-n", "1000", "--", *GUARD, *words]  # out of memory, it is killed before this process
-    start = time.monotonic()
-    try:  # after a timeout, `communicate` loses the rest of the input, so the lines are a file
-        with unnamed(text) as file:
-            process = subprocess.Popen(command, start_new_session=True, stdin=file, stdout=subprocess.PIPE,
-                                       stderr=subprocess.PIPE)
-    except OSError as why:
-        return b"", without_folder(f"{why.filename or 'part'}: {why.strerror}")
-    with process:
-        while True:
-            try:
-                output, errors = process.communicate(timeout=0.5)
-                break
-            except subprocess.TimeoutExpired:
-                if not is_wanted():
-                    process.kill()
-    status = process.returncode
-    if status not in ((0,) if has_book else (0, 1)):
-        name = f"status {status}" if status >= 0 else f"killed by {signal.Signals(-status).name}"
-        said = re.sub(rb"^(% ffobook|[XO-]{64}) .*\n", b"", errors, flags=re.MULTILINE).decode(errors="replace").strip()
-        return b"", without_folder((said or name).splitlines()[0])
-    book = errors[max(0, errors.find(b"% ffobook ")):] if has_book else b""
-    head = b"%d %d %.3f\n" % (status, len(output), time.monotonic() - start)
-    return sealed(digest_of(task["options"], text, most), head + output + book), ""
-
-
-def fit_program(task: Task, files: Files) -> str:
-    """Returns the path of the first program in `files` that has a SHA-256 of `task` and solves KNOWN within
-    KNOWN_SECONDS, as `task` knows or will know. Raises ChildProcessError if none does."""
-    why = "is missing"
-    for _, program in sorted(file for file in files.items() if file[0] != "book-in"):
-        end = time.monotonic() + KNOWN_SECONDS
-        if sha256(Path(program).read_bytes()) not in task["programs"]:
-            why = "is damaged"
-            continue
-        record, fault = solve(task, files, program, KNOWN, is_wanted=lambda: time.monotonic() < end)
-        results = record.partition(b"\n")[2].partition(b"\n")[2].decode("latin-1")
-        digest = digest_of(task["options"], KNOWN)
-        if record and results == task["known"].setdefault(digest, results):
-            return program
-        why = "solves a known line wrong" if record else f"can't solve a known line: {fault}"
-        if time.monotonic() > end:
-            why = f"needs more than {KNOWN_SECONDS} seconds for a known line"
-    raise ChildProcessError(f"the program {why}")
+def place_of(file: int) -> str:
+    """Returns the path of an open file that leads through this process, for others."""
+    return f"/proc/{os.getpid()}/fd/{file}"
 
 
 class Pack:
-    """A run's programs and --book-in, in the memory of a worker of a Dask cluster, which drops it when the client ends.
-    Workers pass it on to each other as built-in types, so they need no package of ours, and no certain Python: `source`
-    is the text of this module, and `contents` has those of `files` until these are written."""
+    """A run's programs and --book-in, which solve parts on this machine: files in its folder, `place`, or `contents` in
+    memory. Each worker of a Dask cluster has one, and drops it when the client ends. They pass it on as built-in types,
+    so they need no package of ours, and no certain Python: `source` is the text of this module."""
 
-    def __init__(self, source: str, task: Task, contents: Dict[str, bytes], files: Files = {}) -> None:
-        self.source, self.task, self.contents, self.files = source, task, contents, {**files}
+    def __init__(self, source: str, task: Task, contents: Dict[str, bytes], place: Path = Path()) -> None:
+        self.source, self.task, self.contents = source, task, contents
+        self.files = {name: str(place / name) for name in task["files"]}
         self.memory: List[BinaryIO] = []
         self.program, self.fault, self.lock = "", "", threading.Lock()
 
@@ -190,30 +136,79 @@ class Pack:
         name = worker.address, worker.local_directory
         key, tasks = worker.get_current_task(), getattr(worker, "state", worker).tasks
         try:
-            self.test()
-            if not self.fault:
+            if not self.test():
                 worker.log_event(topic, name)
-                record, why = solve(self.task, self.files, self.program, text, most,
-                                    lambda: getattr(tasks.get(key), "state", None) == "executing")
+                record, why = self.solve(self.program, text, most,
+                                         lambda: getattr(tasks.get(key), "state", None) == "executing")
             if why:
                 self.test(is_due=True)
         except Exception as fault:  # such as a lack of memory
             self.fault = repr(fault)
         return name, self.fault, record, why
 
-    def test(self, is_due: bool = False) -> None:
-        """Sets the program, or the fault of this machine, unless that is done and no test `is_due`."""
+    def test(self, is_due: bool = False) -> str:
+        """Finds the first program without a fault, if that is not done or a test `is_due`. Returns any fault."""
         with self.lock:
             if not is_due and (self.program or self.fault):
-                return
+                return self.fault
             try:
                 for name, content in self.contents.items():
                     self.memory.append(unnamed(content))
-                    self.files[name] = f"/proc/{os.getpid()}/fd/{self.memory[-1].fileno()}"
-                self.contents = {}
-                self.program = fit_program(self.task, self.files)
-            except OSError as fault:
-                self.fault = str(fault)
+                    self.files[name] = place_of(self.memory[-1].fileno())
+                self.contents, fault = {}, "is missing"
+                for name, program in sorted(self.files.items()):
+                    if fault and name != "book-in":
+                        fault = self.fault_of(program)
+                        self.program = self.program if fault else program
+                self.fault = fault and f"the program {fault}"
+            except OSError as why:
+                self.fault = str(why)
+            return self.fault
+
+    def fault_of(self, program: str) -> str:
+        """Returns why a program is not fit, or "" if it has a SHA-256 of the task and solves KNOWN in KNOWN_SECONDS, as
+        the task knows or will know."""
+        if sha256(Path(program).read_bytes()) not in self.task["files"].values():
+            return "is damaged"
+        end = time.monotonic() + KNOWN_SECONDS
+        record, why = self.solve(program, KNOWN, is_wanted=lambda: time.monotonic() < end)
+        if time.monotonic() > end:
+            return f"needs more than {KNOWN_SECONDS} seconds for a known line"
+        results = record.partition(b"\n")[2].partition(b"\n")[2].decode("latin-1")
+        if not record or results == self.task["known"].setdefault(digest_of(self.task, KNOWN), results):
+            return why and f"can't solve a known line: {why}"
+        return "solves a known line wrong"
+
+    def solve(self, program: str, text: bytes, most: Optional[int] = None,
+              is_wanted: Callable[[], bool] = lambda: True) -> Tuple[bytes, str]:
+        """Solves the lines `text` of a part with the program of that path, and kills it once `is_wanted` returns false.
+        Returns (record, "") or, if the program fails, (b"", the reason). A record has the results under their digest.
+        For `most`, see `digest_of`."""
+        task, start = self.task, time.monotonic()
+        given = {**task["options"], **task["speed"], "--book-in": self.files.get("book-in")}
+        words = [name if value == "" else f"{name}={value}" for name, value in given.items() if value is not None]
+        command = ["choom", "-n", "1000", "--", *GUARD, program, *words]  # out of memory, it is killed first
+        has_book = task["program"] == "ffosolve"
+        try:  # after a timeout, `communicate` loses the rest of the input, so the lines are a file
+            with unnamed(text) as lines, unnamed(b"") as book:
+                command += [f"--book-out={place_of(book.fileno())}"] * has_book
+                process = subprocess.Popen(command, start_new_session=True, stdin=lines, stdout=subprocess.PIPE,
+                                           stderr=subprocess.PIPE)
+                while process.returncode is None:
+                    try:
+                        output, errors = process.communicate(timeout=0.5)
+                    except subprocess.TimeoutExpired:
+                        if not is_wanted():
+                            process.kill()
+                results = output + book.read()
+        except OSError as fault:
+            return b"", without_folder(f"{fault.filename or 'part'}: {fault.strerror}")
+        status = process.returncode
+        if status not in ((0,) if has_book else (0, 1)):
+            name = f"status {status}" if status >= 0 else f"killed by {signal.Signals(-status).name}"
+            return b"", without_folder((errors.decode(errors="replace").strip() or name).splitlines()[0])
+        head = b"%d %d %.3f\n" % (status, len(output), time.monotonic() - start)
+        return sealed(digest_of(task, text, most), head + results), ""
 
 
 def content_of(path: Path) -> bytes:
@@ -233,18 +228,12 @@ def read_task(folder: Path) -> Task:
 def opened(folder: Path) -> Path:
     """Returns a path to a folder that leads through this process: it is UTF-8, as the program wants, and once this
     process has ended, no program starts there."""
-    return Path(f"/proc/{os.getpid()}/fd/{os.open(folder, os.O_RDONLY)}")
+    return Path(place_of(os.open(folder, os.O_RDONLY)))
 
 
 def without_folder(message: str) -> str:
     """Returns a message that names files in `opened` folders by their names alone."""
     return re.sub("/proc/[0-9]+/fd/[0-9]+/", "", message)
-
-
-def files_in(place: Path, task: Task) -> Files:
-    """Returns the programs and any book-in of a task in its folder, which is `opened`."""
-    books = [place / "book-in"] if task["speed"]["--book-in"] else []
-    return {path.name: str(path) for path in [*place.glob(f"{task['program']}-?"), *books] if path.is_file()}
 
 
 def parts_in(words: List[str], count: int) -> Set[int]:
@@ -256,10 +245,10 @@ def parts_in(words: List[str], count: int) -> Set[int]:
     return {part for some in ranges for part in some}
 
 
-def solve_into(folder: Path, mode: int, task: Task, files: Files, program: str, text: bytes) -> str:
+def solve_into(folder: Path, mode: int, pack: Pack, text: bytes) -> str:
     """Solves a part unless its record is in the folder of results. Returns "", or why it isn't. A new file takes the
     place of a damaged one, or of a link. Makes room for the record first, so that no part is solved in vain."""
-    digest = digest_of(task["options"], text)
+    digest = digest_of(pack.task, text)
     path = folder / digest
     new = f"{path}.{os.urandom(4).hex()}.new"
     try:
@@ -267,7 +256,7 @@ def solve_into(folder: Path, mode: int, task: Task, files: Files, program: str, 
             return ""
         with open(os.open(new, os.O_WRONLY | os.O_CREAT | os.O_EXCL, 0o600), "wb") as file:
             os.posix_fallocate(file.fileno(), 0, 4 * len(text) + 1000)
-            record, why = solve(task, files, program, text)
+            record, why = pack.solve(pack.program, text)
             file.truncate(file.write(record))
             os.fchmod(file.fileno(), mode)
             os.fsync(file.fileno())
@@ -286,13 +275,14 @@ def main(folder: Path, words: List[str]) -> Iterator[str]:
     task = read_task(place)
     if not task:
         raise ValueError(f"{folder / 'task'} is damaged: run ffosolve-many again")
-    parts, files = parts_in(words, task["parts"]), files_in(place, task)
-    program = fit_program(task, files)
+    parts, pack = parts_in(words, task["parts"]), Pack("", task, {}, place)
+    if pack.test():
+        raise ValueError(pack.fault)
     with (place / "list").open("rb") as source:
         mode = os.fstat(source.fileno()).st_mode & 0o644
         for part, lines in zip(range(1 + max(parts)), parts_of(source, task["lines"])):
             if part in parts:
-                why = solve_into(place / "results", mode, task, files, program, b"".join(lines))
+                why = solve_into(place / "results", mode, pack, b"".join(lines))
                 if why:
                     yield f"part {part:07d}: {without_folder(why)}"
 
