@@ -421,6 +421,8 @@ def test_an_ended_process_is_reported_even_if_its_status_is_lost(solver):
 @each_call
 def test_left_calls_end_in_time_and_keep_no_descriptors_no_dead_processes_and_no_memory(name, threads, solver):
     """Some of these calls end in time even on a busy machine."""
+    assert _processes.SolverCall(None, 0.05).wait_seconds() <= 0.05
+
     def all_kept():
         return psutil.Process().num_fds(), len(psutil.Process().children())
 
