@@ -28,7 +28,7 @@ best = solver.solve(ffosolve.Position.from_obf(sys.argv[1])).squares
 solver.solve(ffosolve.Position(2**49 - 1, 0), timeout=60)
 print(importlib.metadata.version("ffosolve"), ffosolve.__version__, solver.library_version, best)
 print(ffosolve.__file__, re.search("/.*/libffosolve.*", open("/proc/self/maps").read())[0])
-print(os.path.dirname(ffosolve._processes.program("ffosolve", solver._library)))
+print(os.path.dirname(ffosolve._processes.program("ffosolve", solver._call(None))))
 """
 
 

@@ -116,7 +116,7 @@ def test_known_scores_that_do_not_fit_are_refused(wrong):
 def test_a_timeout_is_for_both_calls():
     positions = [Position.start(), BOTH[0]]
     for listed in ({positions[0]: 2}, {positions[0]: {"F5": 2}}):
-        with pytest.raises(TimeoutError, match="^not finished within "):
+        with pytest.raises(TimeoutError, match="^not finished within 0.1 seconds$"):
             compare_scores(listed, Solver(max_empties=60), timeout=0.1)
     with pytest.raises(ValueError, match="^timeout is at least 0, not -1$"):
         compare_scores({BOTH[0]: 60}, timeout=-1)

@@ -14,7 +14,7 @@ import sys
 import threading
 import time
 import tracemalloc
-from concurrent.futures import CancelledError
+from concurrent.futures import CancelledError, ThreadPoolExecutor
 from unittest import mock
 
 import psutil
@@ -369,37 +369,38 @@ def test_a_program_is_found_beside_a_library_that_is_found_by_its_name_or_on_the
 
 
 def test_calls_of_several_threads_do_not_stop_each_other(solver):
-    found = []
-    threads = [threading.Thread(target=lambda: found.append(solver.solve_all([HARD] * 4))) for _ in range(3)]
-    for thread in threads:
-        thread.start()
-    for _ in range(5):
-        with pytest.raises(TimeoutError):
-            solver.solve_all([HOPELESS] * 2, threads=2, timeout=0.05)
-    for thread in threads:
-        thread.join()
-    assert found == [[solver.solve(HARD)] * 4] * 3
+    with ThreadPoolExecutor(3) as pool:
+        calls = [pool.submit(solver.solve_all, [HARD] * 4) for _ in range(3)]
+        for _ in range(5):
+            with pytest.raises(TimeoutError):
+                solver.solve_all([HOPELESS] * 2, threads=2, timeout=0.05)
+    assert [call.result() for call in calls] == [[solver.solve(HARD)] * 4] * 3
 
 
 @pytest.mark.parametrize("name, threads, number", [*((*call, 9) for call in CALLS), ("solve", 1, 15)])
 def test_an_ended_process_is_reported_and_the_next_call_starts_another(name, threads, number, solver):
-    is_over = threading.Event()
-
-    def kill():
-        while not is_over.wait(0.1):
+    with ThreadPoolExecutor(1) as pool:
+        call = pool.submit(find, name, threads, solver, [EASY, HOPELESS, HOPELESS])
+        while not call.done():
+            time.sleep(0.1)
             for process in children():
                 with contextlib.suppress(ProcessLookupError):
                     os.kill(process, number)
-
-    killer = threading.Thread(target=kill)
-    killer.start()
-    try:
-        with pytest.raises(ChildProcessError, match=f"^the process that solved was ended by signal {number}$"):
-            find(name, threads, solver, [EASY, HOPELESS, HOPELESS])
-    finally:
-        is_over.set()
-        killer.join()
+    with pytest.raises(ChildProcessError, match=f"^the process that solved was ended by signal {number}$"):
+        call.result()
     assert Solver().solve(HARD) == Solver(entries=0).solve(HARD)
+
+
+@on_threads
+@pytest.mark.parametrize("does, timeout, error, why", [
+    ("kill -9 $$", None, ChildProcessError, "the process that solved was ended by signal 9"),
+    ("exec sleep 600", 0.3, TimeoutError, "not finished within 0.3 seconds")])
+def test_a_call_stops_if_its_program_does_not_tell_its_version(does, timeout, error, why, threads, tmp_path):
+    library = with_programs(tmp_path, None)
+    (tmp_path / "bin/ffosolve").write_text(f"#!/bin/sh\n{does}\n")
+    with pytest.raises(error, match=f"^{why}$"):
+        Solver(library).solve_all([HARD] * 2, threads=threads, timeout=timeout)
+    wait_until(lambda: not children(), children)
 
 
 def test_a_process_whose_call_is_left_before_it_gets_its_list_ends(solver, monkeypatch):
@@ -420,6 +421,8 @@ def test_an_ended_process_is_reported_even_if_its_status_is_lost(solver):
 @each_call
 def test_left_calls_end_in_time_and_keep_no_descriptors_no_dead_processes_and_no_memory(name, threads, solver):
     """Some of these calls end in time even on a busy machine."""
+    assert _processes.SolverCall(None, 0.05).wait_seconds() <= 0.05
+
     def all_kept():
         return psutil.Process().num_fds(), len(psutil.Process().children())
 
@@ -454,19 +457,18 @@ def test_a_forked_process_has_processes_of_its_own(solver):
 
 
 def test_processes_that_are_forked_while_programs_start_do_not_keep_calls_from_ending(solver):
-    found, forked, end = [], [], time.monotonic() + LATE / 3
-    threads = [threading.Thread(target=lambda: found.extend(solver.solve_iter([HARD] * 20))) for _ in range(3)]
-    for thread in threads:
-        thread.start()
-    while any(thread.is_alive() for thread in threads) and time.monotonic() < end:
-        if len(forked) < 50:
-            forked.append(os.fork() or (time.sleep(600), os._exit(0)))
-        time.sleep(0.01)
-    ended_in_time = len(found)
-    for child in forked:
-        os.kill(child, signal.SIGKILL)
-        os.waitpid(child, 0)
-    assert (ended_in_time, found) == (60, [solver.solve(HARD)] * 60)
+    forked, end = [], time.monotonic() + LATE / 3
+    with ThreadPoolExecutor(3) as pool:
+        calls = [pool.submit(lambda: list(solver.solve_iter([HARD] * 20))) for _ in range(3)]
+        while not all(call.done() for call in calls) and time.monotonic() < end:
+            if len(forked) < 50:
+                forked.append(os.fork() or (time.sleep(600), os._exit(0)))
+            time.sleep(0.01)
+        have_ended = [call.done() for call in calls]
+        for child in forked:
+            os.kill(child, signal.SIGKILL)
+            os.waitpid(child, 0)
+    assert (have_ended, [call.result() for call in calls]) == ([True] * 3, [[solver.solve(HARD)] * 20] * 3)
 
 
 @pytest.mark.parametrize("version", [None, "9.9.9"])
@@ -501,12 +503,10 @@ PROGRAM = f"""if True:
     solver, hard = Solver(max_empties=60), Position({HARD.own}, {HARD.opp})
 
     def begin():
+        solver.solve(hard)
         threading.Thread(target=solver.solve, args=[START], daemon=True).start()
         while not _processes.PROCESSES:
             time.sleep(0.5)
-        show()
-
-    def show():
         print(*(it.process.pid for it in _processes.PROCESSES), flush=True)
 
 """

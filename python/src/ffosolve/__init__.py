@@ -72,8 +72,8 @@ from ._arrays import masks_of, positions_from
 from ._boards import Board
 from ._games import Game, GameRefused, read_games
 from ._library import MOST_EMPTIES, MOST_ENTRIES, NO_SCORE, LibraryNotFound
-from ._lists import parse_lines, read_lines
-from ._positions import START, Discs, Position
+from ._positions import START, Discs, Position, parse_lines, read_lines
+from ._processes import to_thread
 from ._refusals import (
     BadSide, BadSquare, LineRefused, NoMemory, NoMove, NoPosition, OtherRefusal, Refused, SharedSquare, ShortBoard,
     Status, TooManyEmpties, TooManyEntries, UnequalLengths, UnknownScoring, UnknownSymmetry)
@@ -81,7 +81,6 @@ from ._score_comparison import ScoreComparison, WrongScore, compare_scores
 from ._solvers import Solver, table_entries
 from ._squares import square_name, square_number, square_names
 from ._symmetries import Symmetry
-from ._tasks import to_thread
 from ._text import ReadingWarning
 
 Line = Position  # what read_lines yields had this name in earlier versions

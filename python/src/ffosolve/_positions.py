@@ -1,14 +1,15 @@
-"""Positions, and the moves that lead from one to the next."""
+"""Positions, the moves that lead from one to the next, and lists with a position in each line."""
 import contextlib
 import copy
 import reprlib
-from typing import Any, Dict, Iterable, Iterator, List, Mapping, NamedTuple, Optional, Tuple, Type, TypeVar, Union
+from typing import (Any, Callable, Dict, Iterable, Iterator, List, Mapping, NamedTuple, Optional, Tuple, Type, TypeVar,
+                    Union)
 
 from ._answers import Answer, Kind, Scoring
 from ._boards import OTHER, SIDES, Board, checked_score, checked_side
 from ._library import CAnswer, CPosition, LibraryNotFound, loaded, search
-from ._obf import MOVES, Listed, parsed
-from ._refusals import NoMemory, NoMove, Refused, Status
+from ._obf import MOVES, Lines, Listed, Source, bytes_of, lines_of, parsed
+from ._refusals import LineRefused, NoMemory, NoMove, NoPosition, Refused, Status
 from ._rules import accept, c_position, c_positions, moves, size_of
 from ._squares import NAMES, mask_of, number_of, square_names, square_of
 from ._symmetries import Symmetry, canonical_form, image
@@ -344,3 +345,34 @@ def read_line(text: Union[str, bytes], number: Optional[int], kind: Type[P]) -> 
         raise NoMemory() from None
     fill(line, ((own, opp), side, None, listed, number))
     return line
+
+
+def read_lines(source: Source, refused: Optional[Callable[[LineRefused], object]] = None) -> Iterator[Position]:
+    """Yields the positions of lines of OBF text, in their order. `source` is a path, or an iterable of lines such as an
+    open file. Blank lines and comments are skipped. Any other line without a position raises ShortBoard, BadSquare or
+    BadSide, whose `line` is the line's number. If `refused` is given, it is called with the error, and reading goes on:
+
+        wrong = []
+        positions = list(read_lines("a.obf", refused=wrong.append))
+
+    Raises NoMemory, OSError if the file can't be read, and TypeError for another source. `parse_lines` reads a text.
+    """
+    return positions_in(lines_of(source), refused)
+
+
+def parse_lines(text: Union[str, bytes], refused: Optional[Callable[[LineRefused], object]] = None
+                ) -> Iterator[Position]:
+    """Yields the positions of the lines of a text, as `read_lines` does for a file."""
+    return positions_in(bytes_of(text).split(b"\n"), refused)
+
+
+def positions_in(lines: Lines, refused: Optional[Callable[[LineRefused], object]]) -> Iterator[Position]:
+    for number, text in enumerate(lines, 1):
+        try:
+            yield read_line(text, number, Position)
+        except NoPosition:
+            continue
+        except LineRefused as error:
+            if refused is None:
+                raise
+            refused(error)

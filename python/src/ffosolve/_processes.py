@@ -1,9 +1,9 @@
 """Makes a Solver's calls: brief ones by the library, and others, which may last, by the programs `ffosolve` and
 `ffoscores`, since these can be stopped. `help(ffosolve)` says how."""
 import contextlib
+import contextvars
 import ctypes
 import fcntl
-import functools
 import math
 import numbers
 import os
@@ -18,7 +18,7 @@ import threading
 import time
 import weakref
 from concurrent.futures import CancelledError
-from typing import Any, List, Optional
+from typing import Any, Callable, Dict, List, Optional, Tuple, TypeVar
 
 from ._answers import Kind, Scoring
 from ._library import MOST_EMPTIES, NO_SCORE, CMoveScores, folder_of, search, version_of
@@ -26,12 +26,14 @@ from ._obf import parsed
 from ._positions import Position
 from ._refusals import NoMemory, Status
 from ._squares import NAMES
-from ._tasks import is_cancelled
 from ._text import BOOK_HEADER
 
+T = TypeVar("T")
+Seconds = Optional[float]  # None stands for any time
 BRIEF, LIGHTEST = 4096, 8  # the most positions of a brief call, and their most empty squares
 CHECK_SECONDS = 0.2  # how often a waiting call finds out whether it has to stop, also by a signal to another thread
 STARTS = threading.RLock()  # is held while this process has ends of pipes that a forked process must not have
+CANCELLED = contextvars.ContextVar("cancelled", default=threading.Event())  # is set once nobody awaits the result
 
 
 def is_brief(count: int, empties: int) -> bool:
@@ -40,26 +42,38 @@ def is_brief(count: int, empties: int) -> bool:
     return count << 2 * max(0, empties - LIGHTEST) <= BRIEF
 
 
-@functools.lru_cache(maxsize=None)
-def program(name: str, library: ctypes.CDLL) -> str:
+def program(name: str, call: "SolverCall") -> str:
     """The path of the program `name` that has the library's version. It is in the library's folder, as in the wheel; in
-    the one above, as in a checkout; in `bin` beside the library's `lib`; or on the path. Raises FileNotFoundError."""
-    folder, wanted = folder_of(library), f"{name} {version_of(library)}"
+    the one above, as in a checkout; in `bin` beside the library's `lib`; or on the path. Raises FileNotFoundError,
+    ChildProcessError if somebody ended it before it told its version, and what `Process.output` raises."""
+    key = name, call.library
+    if key in PATHS:
+        return PATHS[key]
+    folder, wanted = folder_of(call.library), f"{name} {version_of(call.library)}"
     bin_folder = re.sub("/lib(64)?(/[^/]*-linux-gnu)?(/glibc-hwcaps/[^/]*)?$", "/bin", folder)
-    for place in (f"{folder}/{name}", f"{folder}/../{name}", f"{bin_folder}/{name}", name):
-        with STARTS, contextlib.suppress(OSError, subprocess.SubprocessError):
-            path = os.path.join(os.getcwd(), shutil.which(place) or "")
-            found = subprocess.check_output([path, "--version"], stdin=subprocess.DEVNULL, timeout=10)
-            if found.decode() == f"{wanted}\n":
-                return path
+    places = (f"{folder}/{name}", f"{folder}/../{name}", f"{bin_folder}/{name}", name)
+    for found in filter(None, (shutil.which(place) for place in places)):
+        status, printed, _ = Process([os.path.abspath(found), "--version"]).output("", call)
+        if printed == f"{wanted}\n".encode():
+            return PATHS.setdefault(key, os.path.abspath(found))
+        if not printed and status <= 0:
+            raise ended(status)
     raise FileNotFoundError(f"no process can be started: {wanted} is neither beside {folder} nor on the path")
 
 
-class SearchProcess:
-    """A program that reads a list and maybe a book. It ends with this object, or this process: then nothing reads its
-    errors any more, and the kernel kills it. Raises OSError if it can't be started."""
+PATHS: Dict[Tuple[str, ctypes.CDLL], str] = {}  # what `program` has found
 
-    def __init__(self, words: List[str], book: str) -> None:
+
+def ended(status: int, errors: str = "") -> ChildProcessError:
+    how = f"was ended by signal {-status}" if status < 0 else f"ended with status {status}: {errors}"
+    return ChildProcessError(f"the process that solved {how}")
+
+
+class Process:
+    """A running program that reads a list and maybe a book. It ends with this object, or this process: then nothing
+    reads its errors any more, and the kernel kills it. Raises OSError if it can't be started."""
+
+    def __init__(self, words: List[str], book: str = "") -> None:
         if sys.is_finalizing():
             raise OSError("Python is ending, so it can't start a process")
         masked = signal.pthread_sigmask(signal.SIG_BLOCK, {signal.SIGINT})  # Ctrl-C is for this process alone
@@ -79,9 +93,9 @@ class SearchProcess:
         finally:
             signal.pthread_sigmask(signal.SIG_SETMASK, masked)
 
-    def find(self, lines: str, call: "SolverCall") -> List[str]:
-        """Returns the rows that the program prints for a list, or kills it if `call` has to stop. Raises NoMemory, and
-        ChildProcessError if somebody ended the program."""
+    def output(self, lines: str, call: "SolverCall") -> Tuple[int, bytes, str]:
+        """Returns the program's status, what it prints for a list, and its errors; or kills it if `call` has to stop.
+        Raises what `wait_seconds` raises."""
         ready, printed, piece = select.poll(), b"", b"-"
         ready.register(self.process.stdout)
         try:
@@ -91,20 +105,28 @@ class SearchProcess:
                 if ready.poll(1000 * call.wait_seconds()):
                     piece = os.read(self.process.stdout.fileno(), 1 << 16)
                     printed += piece
-            status, errors = self.process.wait(), self.errors.read().decode().strip()
+            return self.process.wait(), printed, self.errors.read().decode(errors="replace").strip()
         finally:
             self.process.kill()
             with contextlib.suppress(BrokenPipeError), self.errors, self.process:
                 pass
+
+
+class SearchProcess(Process):
+    """A running program that solves a list."""
+
+    def find(self, lines: str, call: "SolverCall") -> List[str]:
+        """Returns the rows for a list. Raises NoMemory, what `output` raises, and ChildProcessError if somebody ended
+        the program."""
+        status, printed, errors = self.output(lines, call)
         if errors.endswith("out of memory"):
             raise NoMemory()
         if status or printed.count(b"\n") - 2 * printed.startswith(b"[1]") != lines.count("\n"):
-            how = f"was ended by signal {-status}" if status < 0 else f"ended with status {status}: {errors}"
-            raise ChildProcessError(f"the process that solved {how}")
+            raise ended(status, errors)
         return printed.decode().splitlines()
 
 
-PROCESSES: "weakref.WeakSet[SearchProcess]" = weakref.WeakSet()
+PROCESSES: "weakref.WeakSet[Process]" = weakref.WeakSet()
 
 
 def forget() -> None:
@@ -137,7 +159,7 @@ class SolverCall:
     cancelled, or it sets `is_left`. A program gets `threads`. Raises TypeError and ValueError for a wrong `timeout`;
     None stands for any time."""
 
-    def __init__(self, library: ctypes.CDLL, timeout: Optional[float] = None, threads: int = 1) -> None:
+    def __init__(self, library: ctypes.CDLL, timeout: Seconds = None, threads: int = 1) -> None:
         self.library, self.timeout, self.is_left, self.end = library, timeout, False, math.inf
         self.workers = min(threads - 1, 64)  # as many as a program takes
         self.turn: Any = threading.Lock() if threads > 1 else contextlib.nullcontext()
@@ -158,12 +180,12 @@ class SolverCall:
         return min(left, CHECK_SECONDS)
 
     def check(self) -> None:
-        if self.is_left or is_cancelled():
+        if self.is_left or CANCELLED.get().is_set():
             raise CancelledError
 
     def has_program(self) -> bool:
         with contextlib.suppress(OSError):
-            return bool(program("ffosolve", self.library))
+            return bool(program("ffosolve", self))
         return False
 
     def search(self, empties: int, name: str, scoring: Scoring, entries: int, positions: Any, found: Any) -> int:
@@ -176,17 +198,36 @@ class SolverCall:
             with self.turn:
                 try:
                     process = self.started(name, scoring, entries, asked[0], found[0])
-                except OSError:
-                    if self.timeout is not None:
+                except OSError as error:
+                    if self.timeout is not None or isinstance(error, ChildProcessError):
                         raise
+                    self.check()
                 else:
                     read_rows(process.find(lines, self), found)
                     return Status.DONE
         return search(self.library, name, scoring, entries, positions, found)
 
     def started(self, name: str, scoring: Scoring, entries: int, position: Position, claim: Any) -> SearchProcess:
-        path, book = program("ffoscores" if "move_scores" in name else "ffosolve", self.library), ""
+        path, book = program("ffoscores" if "move_scores" in name else "ffosolve", self), ""
         if name == "ffosolve_confirm" and abs(claim.score) <= 64:
             book = f"{BOOK_HEADER}{scoring}\n{position.canonical().to_obf(moves={'PS': claim.score})}\n"
         return SearchProcess([path, f"--workers={self.workers}", f"--table={entries}", f"--scoring={scoring}",
                               f"--max-empties={MOST_EMPTIES}"], book)
+
+
+async def to_thread(func: Callable[..., T], /, *args: Any, **kwargs: Any) -> T:
+    """Calls `func(*args, **kwargs)` in a thread and returns what it returns, as `asyncio.to_thread` does. If the task
+    that awaits this is cancelled, also by `asyncio.wait_for` or a TaskGroup, a Solver's call that `func` makes ends
+    within 0.2 seconds, and raises concurrent.futures.CancelledError in the thread:
+
+        answer = await asyncio.wait_for(ffosolve.to_thread(solver.solve, position), 60)
+    """
+    import asyncio  # which takes longer to import than all of this package
+
+    cancelled, context = threading.Event(), contextvars.copy_context()
+    context.run(CANCELLED.set, cancelled)
+    try:
+        return await asyncio.get_running_loop().run_in_executor(None, lambda: context.run(func, *args, **kwargs))
+    except BaseException:
+        cancelled.set()
+        raise

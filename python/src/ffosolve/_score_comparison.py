@@ -164,7 +164,11 @@ def solved(entries: List[ListEntry], solver: Solver, known: Optional[Known], thr
     for find, is_for in calls:
         rest = list(dict.fromkeys(it.position for it in taken if it.scores and lacks(it) and is_for(it)))
         left = None if timeout is None else max(0, call.end - time.monotonic())
-        exact.update(zip(rest, map(exact_of, rest, find(rest, threads=threads, timeout=left))))
+        try:
+            found = find(rest, threads=threads, timeout=left)
+        except TimeoutError:
+            raise TimeoutError(f"not finished within {timeout} seconds") from None
+        exact.update(zip(rest, map(exact_of, rest, found)))
     exact = {**dict.fromkeys((it.position for it in taken), {}), **exact}  # nothing is asked of those without scores
     for entry in entries:
         if not isinstance(entry.position, NoPosition):

@@ -11,7 +11,7 @@ from ._bulk import Batch, BatchOrRefusal, batches_of, in_order
 from ._games import Game, positions_of
 from ._library import MOST_EMPTIES, MOST_ENTRIES, NO_SCORE, CAnswer, CMoveScores, load, version_of
 from ._positions import P, Position
-from ._processes import SolverCall
+from ._processes import Seconds, SolverCall
 from ._refusals import Refused, TooManyEntries, checked_number
 from ._rules import accept, c_positions, checked_position, masks_and_empties, moves
 from ._squares import NAMES
@@ -84,14 +84,13 @@ class Solver:
         """The version of the shared library, such as "1.2.3"."""
         return version_of(self._library)
 
-    def solve(self, position: Position, *, threads: int = 1, timeout: Optional[float] = None) -> Answer:
+    def solve(self, position: Position, *, threads: int = 1, timeout: Seconds = None) -> Answer:
         """The answer for a position. From 16 empty squares on, several threads search it together. Raises SharedSquare,
         TooManyEmpties and NoMemory; ValueError for a mask below 0 or above 2**64 - 1; and TypeError for an object that
         is not a position."""
         return self._answers(self._call(timeout, threads), self._batch(position))[0]
 
-    def confirm(self, position: Position, claim: Answer, *, threads: int = 1, timeout: Optional[float] = None
-                ) -> Answer:
+    def confirm(self, position: Position, claim: Answer, *, threads: int = 1, timeout: Seconds = None) -> Answer:
         """The answer for a position, found by testing the claimed score first; the answer is exact even if the claim is
         wrong. If most claimed scores are right, this is faster than `solve` from 6 empty squares on. Raises the same as
         `solve`, and TypeError for a claim that is not an Answer."""
@@ -100,8 +99,7 @@ class Solver:
         call, batch = self._call(timeout, threads), self._batch(position)
         return self._answers(call, batch, "ffosolve_confirm", CAnswer(*claim))[0]
 
-    def best_line(self, position: Position, *, threads: int = 1, timeout: Optional[float] = None
-                  ) -> List[Tuple[str, int]]:
+    def best_line(self, position: Position, *, threads: int = 1, timeout: Seconds = None) -> List[Tuple[str, int]]:
         """Perfect play from a position to the end of the game: each move and its score for the side that makes it, such
         as [("H1", 62), ("PS", -62), ("A1", 62)]. Of several best moves, it has the first. Raises the same as `solve`.
         """
@@ -115,12 +113,12 @@ class Solver:
             answer = self._answers(call, self._batch(position), "ffosolve_confirm", CAnswer(*claim))[0]
         return line
 
-    def move_scores(self, position: Position, *, threads: int = 1, timeout: Optional[float] = None) -> Dict[str, int]:
+    def move_scores(self, position: Position, *, threads: int = 1, timeout: Seconds = None) -> Dict[str, int]:
         """Returns {square's name: score for the side to move} for all legal moves, in the order A1, B1, .. H8. The dict
         is empty if there is no legal move. One table serves all moves. Raises the same as `solve`."""
         return self._scores(self._call(timeout, threads), self._batch(position))[0]
 
-    def scored_line(self, position: Position, *, threads: int = 1, timeout: Optional[float] = None) -> str:
+    def scored_line(self, position: Position, *, threads: int = 1, timeout: Seconds = None) -> str:
         """The line that `ffoscores` prints for a position: an OBF line that lists all legal moves with their scores,
         the best ones first; or a pass, or the end of the game, with its score. Raises the same as `solve`."""
         call, batch = self._call(timeout, threads), self._batch(position)
@@ -130,39 +128,38 @@ class Solver:
             moves = [(ENDS[answer.kind], answer.score)]
         return as_position(position).to_obf(moves=moves)
 
-    def solve_all(self, positions: Iterable[Position], *, threads: int = 1, timeout: Optional[float] = None
-                  ) -> List[Answer]:
+    def solve_all(self, positions: Iterable[Position], *, threads: int = 1, timeout: Seconds = None) -> List[Answer]:
         """The answers for positions, in their order. The threads share a table for up to 15,000 positions; those with
         at most 14 empty squares may be solved in batches, each with its own table. Raises the same as `solve`.
         SharedSquare and TooManyEmpties come before any position is solved, and have the `index` of the first refused
         position."""
         return list(self._each(self._answers, positions, threads, timeout, at_once=True))
 
-    def solve_iter(self, positions: Iterable[Position], *, threads: int = 1, timeout: Optional[float] = None
+    def solve_iter(self, positions: Iterable[Position], *, threads: int = 1, timeout: Seconds = None
                    ) -> Iterator[Answer]:
         """Yields the answers for positions, in their order, and reads only some positions ahead. Raises the same as
         `solve`. SharedSquare and TooManyEmpties have the `index` of the refused position, and come after the answers
         for the positions before it; so does TimeoutError, `timeout` seconds after the call."""
         return self._each(self._answers, positions, threads, timeout)
 
-    def move_scores_all(self, positions: Iterable[Position], *, threads: int = 1, timeout: Optional[float] = None
+    def move_scores_all(self, positions: Iterable[Position], *, threads: int = 1, timeout: Seconds = None
                         ) -> List[Dict[str, int]]:
         """What `move_scores` returns for each position, in the same order; tables and errors are as for `solve_all`."""
         return list(self._each(self._scores, positions, threads, timeout, at_once=True))
 
-    def move_scores_iter(self, positions: Iterable[Position], *, threads: int = 1, timeout: Optional[float] = None
+    def move_scores_iter(self, positions: Iterable[Position], *, threads: int = 1, timeout: Seconds = None
                          ) -> Iterator[Dict[str, int]]:
         """Yields what `move_scores` returns for each position, in the way that `solve_iter` yields answers."""
         return self._each(self._scores, positions, threads, timeout)
 
-    def solve_arrays(self, own: Any, opp: Any, *, threads: int = 1, timeout: Optional[float] = None) -> Answers:
+    def solve_arrays(self, own: Any, opp: Any, *, threads: int = 1, timeout: Seconds = None) -> Answers:
         """The answers for positions in arrays of uint64, as `masks_of` returns them: `own`, the masks of the discs of
         the side to move, and `opp`, those of the other side. The result has three arrays of the same length: `score`
         and `kind` of int32, and `best` of uint64. Needs NumPy. Raises the same as `solve_all`, and TypeError and
         ValueError for other arrays."""
         return Answers(*self._in_arrays("ffosolve_solve_all", CAnswer, own, opp, threads, timeout))
 
-    def move_scores_arrays(self, own: Any, opp: Any, *, threads: int = 1, timeout: Optional[float] = None) -> Any:
+    def move_scores_arrays(self, own: Any, opp: Any, *, threads: int = 1, timeout: Seconds = None) -> Any:
         """The scores of all moves in positions. `own` and `opp` are as for `solve_arrays`. The result is an array of
         int8 with a row of 64 scores for each position, in the order A1, B1, .. H8, with NO_SCORE for an illegal move.
         Needs NumPy. Raises the same as `solve_arrays`."""
@@ -185,7 +182,7 @@ class Solver:
             raise TypeError(f"a game is a Game or the text of a transcript, not {reprlib.repr(game)}")
         return positions_of(game)
 
-    def _call(self, timeout: Optional[float], threads: int = 1) -> SolverCall:
+    def _call(self, timeout: Seconds, threads: int = 1) -> SolverCall:
         return SolverCall(self._library, timeout, checked_number("threads", threads, 1))
 
     def _batch(self, position: Iterable[int]) -> Batch:
@@ -194,7 +191,7 @@ class Solver:
         return Batch(c_positions([own, opp]), empties)
 
     def _each(self, solve: Callable[[SolverCall, BatchOrRefusal], List[Any]], positions: Iterable[Position],
-              threads: int, timeout: Optional[float], at_once: bool = False) -> Iterator[Any]:
+              threads: int, timeout: Seconds, at_once: bool = False) -> Iterator[Any]:
         """Yields what `solve` finds for positions. If `at_once`, reads all of them before the first call, and raises a
         Refused if one is refused."""
         call, threads = self._call(timeout, threads if at_once else 1), checked_number("threads", threads, 1)
@@ -205,8 +202,7 @@ class Solver:
                 raise batches[-1]
         return in_order(call, functools.partial(solve, call), batches, threads)
 
-    def _in_arrays(self, name: str, record: Any, own: Any, opp: Any, threads: int, timeout: Optional[float]
-                   ) -> List[Any]:
+    def _in_arrays(self, name: str, record: Any, own: Any, opp: Any, threads: int, timeout: Seconds) -> List[Any]:
         """Makes the call `name` of the library for arrays of positions. Returns an array for each member of `record`,
         the C structure that the library writes for a position."""
         call = self._call(timeout, threads)
