@@ -71,23 +71,38 @@ fn rows(lot: u64, number: u32) -> Vec<([usize; 8], f64)> {
     (0..number).map(|_| row()).collect()
 }
 
-fn main() {
-    let number: u32 = std::env::args().nth(1).and_then(|word| word.parse().ok()).expect("a number of games");
-    let lots: Vec<_> = (0..LOTS).map(|lot| std::thread::spawn(move || rows(lot, number / LOTS as u32))).collect();
-    let rows: Vec<_> = lots.into_iter().flat_map(|lot| lot.join().expect("no panic")).collect();
+/// The weights that make the sums of a row's states come nearest to its worth.
+fn fitted(rows: &[([usize; 8], f64)]) -> [f64; STATES] {
     let (mut weights, mut counts) = ([0.0; STATES], [0.0; STATES]);
     rows.iter().for_each(|(at, _)| at.iter().for_each(|&state| counts[state] += 1.0));
     for _ in 0..ROUNDS {
         let mut errors = weights.map(|weight: f64| -SHRINK * weight);
-        for (at, worth) in &rows {
+        for (at, worth) in rows {
             let error = worth - at.iter().map(|&state| weights[state]).sum::<f64>();
             at.iter().for_each(|&state| errors[state] += error);
         }
         (0..STATES).for_each(|state| weights[state] += errors[state] / (8.0 * counts[state] + SHRINK));
     }
+    weights
+}
+
+#[test]
+fn planted_weights_are_found_and_a_state_that_never_occurs_has_none() {
+    let planted = |state: usize| if state < 99 { f64::from(state as u8 * 2) - 99.0 } else { 0.0 };
+    let mut numbers = Numbers(1);
+    let rows: Vec<_> = (0..20_000).map(|_| [0; 8].map(|_| numbers.below(99) as usize)).collect();
+    let rows: Vec<_> = rows.into_iter().map(|at| (at, at.map(planted).iter().sum())).collect();
+    let weights = fitted(&rows);
+    assert!((0..STATES).all(|state| (weights[state] - planted(state)).abs() < 1.0), "{:?}", &weights[..100]);
+}
+
+fn main() {
+    let number: u32 = std::env::args().nth(1).and_then(|word| word.parse().ok()).expect("a number of games");
+    let lots: Vec<_> = (0..LOTS).map(|lot| std::thread::spawn(move || rows(lot, number / LOTS as u32))).collect();
+    let rows: Vec<_> = lots.into_iter().flat_map(|lot| lot.join().expect("no panic")).collect();
     println!("{HEAD} {number} games.\n{COMMENT}pub(crate) static WEIGHTS: [i8; {STATES}] = [");
     let mut line = String::from("   ");
-    for word in weights.map(|weight| format!(" {},", weight.round() as i8)) {
+    for word in fitted(&rows).map(|weight| format!(" {},", weight.round() as i8)) {
         if line.len() + word.len() > 99 {
             println!("{line}");
             line.truncate(3);

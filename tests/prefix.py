@@ -12,7 +12,6 @@ import pytest
 
 from .support import ROOT, build, need, run, stored, write
 
-TESTS = ROOT / "tests"
 VERSION = stored("VERSION").decode().strip()
 NUMBER = sum(int(part) * 100 ** place for place, part in enumerate(VERSION.split(".")[::-1]))
 LEVELS = ["x86-64-v2", "x86-64-v3"]
@@ -171,7 +170,7 @@ class Prefix:
 
     def cargo(self, *words, place="rust", **how):
         """Runs cargo in a folder of `work`, by default in a copy of the crate, next to which the examples are."""
-        need("cargo")
+        need("cargo", "rustc", "pkg-config")
         return self.make("cargo", *words, cwd=self.work / place, **how)
 
     def rust_client(self, name, source, **places):
@@ -188,15 +187,6 @@ class Prefix:
         self.make("cc", "-c", "calls.c", cwd=folder)
         self.make("ar", "rcs", "libffosolve.a", "calls.o", cwd=folder)
         return self.rust_client(name, source, FFOSOLVE_LIB_DIR=str(folder))
-
-    @functools.cached_property
-    def caller(self):
-        return self.compile(C, "caller", [TESTS / "library_calls.c"])
-
-    def called(self, *calls, **how):
-        """Returns the lines that tests/library_calls.c prints, one for each of `calls`. The comment at the top of that
-        file says how calls are written."""
-        return self.make(self.caller, text="\n".join(calls), **how).stdout.splitlines()
 
 
 PREFIX = Prefix()

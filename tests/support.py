@@ -26,9 +26,9 @@ def lack(what):
 
 
 def need(*tools):
-    """Skips the test if one of the commands `tools` is not installed."""
+    """Skips the test if one of `tools`, commands or absolute paths of files, is not installed."""
     for tool in tools:
-        if shutil.which(tool) is None:
+        if not (os.path.exists(tool) if "/" in tool else shutil.which(tool)):
             lack(tool)
 
 

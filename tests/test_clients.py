@@ -198,6 +198,7 @@ def test_each_program_of_the_documents_prints_what_is_shown(language, names):
 def test_the_packages_own_tests_pass_where_it_is_installed():
     """Runs those that need the installed files: examples of the help, types, processes and the library. The others test
     the package of the checkout."""
+    pytest.importorskip("mypy")
     assert (PREFIX.site / "ffosolve/py.typed").exists()
     some = "examples_of_the_help or mypy_sees or calls_of_several_threads or limits_and_versions"
     words = (sys.executable, "-m", "pytest", "-q", "-p", "no:cacheprovider", PREFIX.work / "python/tests", "-k", some)

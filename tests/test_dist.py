@@ -413,7 +413,7 @@ class System:
 
 
 def test_apt_installs_them_and_removes_all_of_them(dist, packages, folder):
-    need("dpkg-shlibdeps", "zsh", "fish")
+    need("dpkg-shlibdeps", "zsh", "fish", "/usr/share/bash-completion/bash_completion")
     system = System("")
     system.make(*APT, "--no-install-recommends", "install", *packages.values())
     system.make("test", "-d", f"{PYTHON}/ffosolve/__pycache__")

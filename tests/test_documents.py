@@ -17,7 +17,7 @@ DOCUMENTS = ["README.md", "CONTRIBUTING.md", *sorted(f"docs/{path.name}" for pat
 TEXTS = {name: stored(name).decode() for name in DOCUMENTS}
 MADE = re.compile(r"(?: -o |[^<>&\d]>|bin/ffosolve-many (?:--scheduler \S+ )?)([\w./-]+)")  # in a block `sh`
 # A line that declares NAME as a definition, field, function, constant, type or variant.
-DECLARES = (r"(?m)^ *(?:(?:[\w()]+ )*(?:NAME *:|(?:record|data|fn|const|struct|enum|trait|type) NAME\b)|NAME[,({]|"
+DECLARES = (r"(?m)^ *(?:(?:[\w()\"]+ )*(?:NAME *:|(?:record|data|fn|const|struct|enum|trait|type) NAME\b)|NAME[,({]|"
             r"pub use [^;]*\bNAME\b)")
 
 
@@ -105,6 +105,15 @@ def test_targets_of_links_exist():
     for name, text in TEXTS.items():
         links = [to for to in re.findall(r"\]\(([^)#]+)[^)]*\)", text) if "://" not in to]
         assert [to for to in links if not (ROOT / name).parent.joinpath(to).exists()] == [], name
+
+
+def test_names_of_what_is_proved_lead_to_files_that_declare_them():
+    proved = TEXTS["docs/guarantees.md"].split("## What is proved")[1].split("## What is only tested")[0]
+    links = re.findall(r"\[`(?:\w+::)*(\w+)`\]\(\.\./(crates/.*?)\)", proved)
+    assert [*re.findall(r"(?<!\[)`\w+::\w+", proved), *re.findall(r": `\w+`", proved)] == []
+    assert len(links) > 100
+    for name, place in links:
+        assert re.search(DECLARES.replace("NAME", name), stored(place).decode()), (name, place)
 
 
 def test_files_between_backticks_exist_unless_a_build_or_installation_makes_them():

@@ -12,7 +12,7 @@ import pytest
 from tests.prefix import (
     FIRST, FIRST_OBF, LEVELS, LONGEST, NUMBER, VERSION, completed_by_zsh, copied_checkout, files_below, names_of_files,
     path_without)
-from tests.support import NOBODY, ROOT, ends, is_v3, lack, need, run, stored, write
+from tests.support import NOBODY, ROOT, ends, is_v3, need, run, stored, write
 
 PREFIX = "/opt/a prefix"
 COMMANDS = ["ffosolve", "ffoscores", "ffosolve-many", "ffosolve-games"]
@@ -361,8 +361,7 @@ def offered(*words):
     (BASH, ["--scoring", "=", "d"], "discs"), (FISH, ["--scoring=d"], "--scoring=discs")), ids=("bash", "fish"))
 def test_a_shell_completes_options_values_files_and_commands(texts, shell, words, wanted):
     """Fish also describes each option in all words of the help."""
-    if shell is BASH and not Path("/usr/share/bash-completion/bash_completion").exists():
-        lack("bash_completion (Debian: bash-completion)")
+    need(*["/usr/share/bash-completion/bash_completion"] * (shell is BASH))
     files = sorted(path.name for path in Path().glob("fi*"))
     for name in (*COMMANDS, "bin/ffosolve"):
         options, described = options_of(texts, Path(name).name), offered(*shell, name, "--")

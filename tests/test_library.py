@@ -5,38 +5,69 @@ import itertools
 import random
 import re
 import subprocess
-from concurrent.futures import ThreadPoolExecutor
+from unittest import mock
 
 import pytest
 
 import ffosolve
 from ffosolve._refusals import REFUSALS, OtherRefusal
 from tests.games import random_positions
-from tests.prefix import CXX, LONGEST, NUMBER, PREFIX, STRICT, TESTS, VERSION, C
-from tests.support import built, limited, need, preload, run, stored, worked_rows
+from tests.library import LANGUAGES, Calls, declarations, module
+from tests.prefix import LONGEST, NUMBER, PREFIX, STRICT, VERSION, C
+from tests.support import built, limited, need, run, stored, worked_rows
 
 pytestmark = pytest.mark.usefixtures("installed")
 COMPILERS = [*itertools.product(("cc", "clang"), ("c90", "c99", "c11", "c17", "c2x"), ("c",)),
              *itertools.product(("c++", "clang++"), ("c++11", "c++14", "c++17", "c++20"), ("cpp",))]
-PROGRAM = """#include "ffosolve.h"
-int main(void) { return ffosolve_version() != FFOSOLVE_VERSION || ffosolve_status_text(FFOSOLVE_DONE)[0] != 'd'; }
-"""
 # The texts of the header that Python does not have.
 TEXTS_OF_LINES = {"SKIPPED": "no position: the line is blank or a comment", "SHORT_BOARD": "fewer than 64 squares",
                   "BAD_SQUARE": "bad square", "BAD_SIDE": "bad side"}
-# The values of the names in braces in tests/library_calls.txt: positions with two empty squares, before a pass, at the
-# end of a game, and refused ones; boards, numbers and texts.
-NAMES = {
-    "CORNERS": "0xfffffff7ffff7f7c 0x0000000800008002", "PASSED": "0x0000000800008002 0xfffffff7ffff7f7c",
-    "PASS": "0x7e 0xffffffffffffff80", "OVER": "0xffffffff 0xffff000000000000", "EMPTY": "0 0xffffffffffffffff",
-    "SHARED": "3 2", "WIDE": "1 6", "START": "0x0000000810000000 0x0000001008000000",
-    "BOARD": "-OXXXXX-XXXXXXXOXXXXXXXXXXXXXXXXXXXOXXXXXXXXXXXXXXXXXXXXXXXXXXXX",
-    "READ": "fffffff7ffff7f7c 800008002", "AS_WHITE": "800008002 fffffff7ffff7f7c",
-    "VERSION": VERSION, "NUMBER": NUMBER, "ENTRIES": ffosolve.MOST_ENTRIES, "MORE": ffosolve.MOST_ENTRIES + 1,
-    "TEXTS": ", ".join(TEXTS_OF_LINES.get(it.name) or REFUSALS[it].reason for it in ffosolve.Status if it.value),
+
+
+def position(own, opp):
+    return {"own": own, "opp": opp}
+
+
+def answer(score, kind, best):
+    return {"score": score, "kind": kind, "best": best}
+
+
+def scores(of):
+    """Returns a list of the scores in {square: score}, and of FFOSOLVE_NO_SCORE for other squares."""
+    return [of.get(square, 127) for square in range(64)]
+
+
+# Positions with two empty squares, before a pass, at the end of a game, at its start, and two that are refused.
+CORNERS, PASSED = position(0xfffffff7ffff7f7c, 0x800008002), position(0x800008002, 0xfffffff7ffff7f7c)
+PASS, OVER = position(0x7e, 0xffffffffffffff80), position(0xffffffff, 0xffff000000000000)
+EMPTY, START = position(0, 2 ** 64 - 1), position(0x810000000, 0x1008000000)
+SHARED, WIDE = position(3, 2), position(1, 6)
+BOARD = b"-OXXXXX-XXXXXXXOXXXXXXXXXXXXXXXXXXXOXXXXXXXXXXXXXXXXXXXXXXXXXXXX"  # of CORNERS
+CLAIM = answer(62, 0, 0x80)
+MORE = ffosolve.MOST_ENTRIES + 1
+# C code for a module that grants `granted` requests for memory, and refuses the next one.
+REFUSING = """#include <stdlib.h>
+static int granted;
+void *__real_malloc(size_t size);
+void *__wrap_malloc(size_t size) { return granted-- ? __real_malloc(size) : NULL; }
+"""
+# A program that makes each search for each position (OWN OPP) of its input, until one is refused.
+SEARCHES = """#include "ffosolve.h"
+#include <stdio.h>
+int main(void) {
+    ffosolve_position it;
+    ffosolve_answer answer = {0, 0, 1};
+    ffosolve_move_scores_of found;
+    int is_refused = 0;
+    while (!is_refused && scanf("%lu %lu", &it.own, &it.opp) == 2)
+        is_refused = ffosolve_solve(it, 0, 1024, &answer) || ffosolve_confirm(it, 1, 0, answer, &answer) ||
+                     ffosolve_move_scores(it, 2, 1024, found.scores, &found.moves) ||
+                     ffosolve_solve_all(&it, 1, 0, 1024, &answer, 1, NULL);
+    return is_refused;
 }
+"""
 LINES, COLUMNS = worked_rows("ffosolve/lines")
-MOVES = {**{ffosolve.square_name(number): f"0/{number}" for number in range(64)}, "PS": "1/64", "--": "2/64"}  # in C
+MOVES = {**{ffosolve.square_name(number): (0, number) for number in range(64)}, "PS": (1, 64), "--": (2, 64)}  # in C
 PIECES = b"| w|ps:-4;|--:0;|I1:+1|h8:64 ;|B2:+65;| |\t|%|;|:|?|-|X|O|b|\r|\0|\x80|\xff".split(b"|")
 STATUSES_IN_RUST = """
 fn main() {
@@ -82,23 +113,14 @@ def test_swig_wraps_the_header():
         assert name in made
 
 
-def test_cffi_reads_the_declarations_of_the_header():
-    cffi = pytest.importorskip("cffi")
-    head, end = 'extern "C" {\n#endif\n', "/* end of the declarations */"
-    declarations = PREFIX.text.split(head)[1].split(end)[0].replace("FFOSOLVE_MUST_USE", "")
-    reader = cffi.FFI()
-    reader.cdef(declarations)
-    library = reader.dlopen(str(PREFIX.shared))
-    assert library.ffosolve_limit(library.FFOSOLVE_LIMIT_ENTRIES) == library.FFOSOLVE_MOST_ENTRIES
-
-
 @pytest.mark.parametrize(("compiler", "standard", "language"), COMPILERS)
 def test_each_compiler_takes_the_header_in_each_standard_and_warns_if_a_status_is_ignored(compiler, standard, language):
     """Ignores the status of every function that returns one, whether it is in the library or inline in the header."""
     declared = re.findall(r"^(?:static __inline__ )?int32_t (ffosolve_\w+)\(([^)]*)\)", PREFIX.text, re.MULTILINE)
     names = {name for name, _ in declared}
     assert names >= {"ffosolve_solve", "ffosolve_solve_all_or_null", "ffosolve_read_line_or_null"}
-    source = PROGRAM + "".join(f"#undef {name}\n" for name in names)
+    source = '#include "ffosolve.h"\nint main(void) { return FFOSOLVE_VERSION == 0; }\n'
+    source += "".join(f"#undef {name}\n" for name in names)
     for name, parameters in declared:
         arguments = re.findall(r"(\w+)(?:\[\d+\])?(?:,|$)", parameters)
         source += f"void {name}_unused({parameters}) {{ {name}({', '.join(arguments)}); }}\n"
@@ -121,93 +143,154 @@ def test_a_status_has_one_name_number_and_text_in_each_language():
         assert in_rust == f"{of_calls.get(number, other)}; {of_lines.get(number, other)}"
 
 
-def call_of(template):
-    """Returns a call as library_calls.c reads it: with the values of NAMES, and the text for read_line in hexadecimal.
-    """
-    call = template.format_map(NAMES)
-    if call.startswith("read_line"):
-        call = call[:12] + call[12:].encode().decode("unicode_escape").encode().hex()
-    return call
+@pytest.fixture(scope="module", params=LANGUAGES)
+def call(request, installed):
+    declared = "const char *ffosolve_status_text(int32_t status);"
+    return Calls(f"calls_{request.param}", declared, language=request.param)
 
 
-@functools.cache
-def worked_calls():
-    """Returns the calls of tests/library_calls.txt, and the text that library_calls.c has to print for them according
-    to the header. A row is a call, ` = `, and what is printed; words with `|` between them are alternatives: each
-    combination is a call."""
-    calls, wanted = [], ""
-    for row in (TESTS / "library_calls.txt").read_text().splitlines():
-        template, printed = row.rsplit(" = ", 1)
-        for words in itertools.product(*(word.split("|") for word in template.split(" "))):
-            calls.append(call_of(" ".join(words)))
-            wanted += printed.format_map(NAMES) + "\n"
-    return calls, wanted
+def test_names_have_their_numbers_and_the_library_has_the_limits_and_the_version_of_the_header(call):
+    for kind, names in (("scoring", "WINNER DISCS SIGN"), ("kind", "MOVES PASS OVER"), ("side", "BLACK WHITE"),
+                        ("limits", "LIMIT_ENTRIES LIMIT_EMPTIES LIMIT_SCORINGS"),
+                        ("symmetry", " ".join(ffosolve.Symmetry.__members__))):
+        assert call.ffi.typeof(f"enum ffosolve_{kind}").elements == {
+            number: f"FFOSOLVE_{name}" for number, name in enumerate(names.split())}
+    limits = [ffosolve.MOST_ENTRIES, 60, 3, 0]
+    assert [call.lib.ffosolve_limit(number) for number in range(4)] == limits
+    assert [call.lib.FFOSOLVE_MOST_ENTRIES, call.lib.FFOSOLVE_MOST_EMPTIES] == limits[:2]
+    assert (call.lib.FFOSOLVE_NO_SCORE, call.lib.ffosolve_version()) == (127, NUMBER)
+    texts = [TEXTS_OF_LINES.get(it.name) or REFUSALS[it].reason for it in ffosolve.Status if it.value]
+    in_c = [call.ffi.string(call.lib.ffosolve_status_text(number)) for number in range(-1, len(texts) + 2)]
+    assert b", ".join(in_c).decode() == ", ".join(["unknown status", "done", *texts, "unknown status"])
 
 
-def printed_with(compiler, header, folder):
-    """Compiles library_nulls.c and library_calls.c with `header` into `folder`; returns the outputs of both."""
-    words = ("-I", header.parent, "-x", "none", PREFIX.archive)
-    nulls, calls = (PREFIX.compile(compiler, folder / name, [TESTS / f"library_{name}.c"], *words)
-                    for name in ("nulls", "calls"))
-    return PREFIX.make(nulls).stdout, PREFIX.make(calls, text="\n".join(worked_calls()[0])).stdout
+def test_a_position_gets_its_answer_or_the_scores_of_its_moves(call):
+    assert call("solve", PASSED, 0, 64) == [0, answer(-40, 0, 0x80)]
+    assert call("solve", PASSED, 1, 64) == [0, answer(-39, 0, 0x80)]
+    assert call("solve", PASSED, 2, 64) == [0, answer(-1, 0, 0x80)]
+    assert call("solve", PASS, 0, 0) == [0, answer(-64, 1, 0)]
+    assert call("solve", PASS, 2, ffosolve.MOST_ENTRIES) == [0, answer(-1, 1, 0)]
+    assert call("solve", OVER, 0, 64) == [0, answer(32, 2, 0)]
+    claims = [answer(*it) for it in itertools.product((62, 0, 1000, -64), (0, 1, 2, 7), (0x80, 0x81, 0))]
+    assert call("confirm", CORNERS, 0, 64, claims) == [0, answer(62, 0, 0x80)]
+    assert call("move_scores", CORNERS, 0, 64) == [0, *scores({0: 52, 7: 62}), 0x81]
+    assert call("move_scores", CORNERS, 2, 0) == [0, *scores({0: 1, 7: 1}), 0x81]
+    assert call("move_scores", [PASS, OVER], [0, 1, 2], [0, 64]) == [0, *scores({}), 0]
 
 
-@pytest.mark.parametrize("compiler", [C, CXX], ids=["C", "C++"])
-def test_calls_do_what_the_header_says(compiler):
-    assert printed_with(compiler, PREFIX.header, PREFIX.work) == ("777", worked_calls()[1])
+def test_a_list_gets_its_results_in_order(call):
+    answers = [answer(62, 0, 0x80), answer(-40, 0, 0x80), answer(-64, 2, 0)]
+    assert call("solve_all", (CORNERS, PASSED, EMPTY), 0, 64, 3) == [0, *answers]
+    assert call("solve_all", (CORNERS, PASSED), 1, 64, 2) == [0, answers[0], answer(-39, 0, 0x80)]
+    by_moves = (({0: 52, 7: 62}, 0x81), ({7: -40}, 0x80), ({}, 0))
+    found = [{"scores": scores(of), "moves": moves} for of, moves in by_moves]
+    assert call("move_scores_all", (CORNERS, PASSED, EMPTY), 0, 64, 3) == [0, *found]
+    assert call(["solve_all", "move_scores_all"], (), [0, 1, 2], [0, 64], 0) == [0]
 
 
-def test_each_wrong_header_is_noticed():
-    """Each wrong header has one fault: a number that is too great by 1, two members or parameters exchanged, or a
-    function that passes a null pointer on to the library."""
-    wrong = [
-        PREFIX.text[:found.start()] + found.expand(new) + PREFIX.text[found.end():]
-        for pattern, new in (
-            (r"(?<=[A-Z] = )\d+|(?<=MOST_\w{7} )\d+|(?<=NO_SCORE )\d+", r"\g<0> + 1"),
-            (r"(    \w+ \w+(?:\[64\])?;\n)(    \w+ \w+;\n)(?=.*\n?} ffosolve)", r"\2\1"),
-            (r"(size_t room),(\s+)(size_t \*at)\);", r"\3,\2\1);"),
-            (r"(\w+)(?: \|\| \w+)? \? \1 : (?:&\w+|\"\")", r"\1"),
-        )
-        for found in re.finditer(pattern, PREFIX.text)
-    ]
-    assert len(wrong) > 40
-
-    def is_noticed(number):
-        header = PREFIX.write(f"wrong-{number}/ffosolve.h", wrong[number])
-        try:
-            printed = printed_with([*C, "-Wno-unused-variable", "-Wno-unused-parameter"], header, header.parent)
-        except AssertionError:  # it can't be compiled
-            return True
-        return printed != ("777", worked_calls()[1])
-
-    with ThreadPoolExecutor() as pool:
-        for number, noticed in enumerate(pool.map(is_noticed, range(len(wrong)))):
-            assert noticed, wrong[number]
+def test_a_scoring_then_a_table_then_a_number_then_the_first_wrong_position_is_refused(call):
+    of_one, of_list = ["solve", "confirm", "move_scores"], ["solve_all", "move_scores_all"]
+    assert call(of_one, [SHARED, PASSED], [3, 2 ** 32 - 1], [64, MORE, 2 ** 64 - 1], CLAIM) == [1]
+    assert call(of_list, (SHARED,), 3, [MORE, 64], [0, 1]) == [1]
+    assert call(of_one, SHARED, [0, 1, 2], MORE, CLAIM) == [2]
+    assert call(of_list, (SHARED,), 2, MORE, [0, 1]) == [2]
+    assert call(of_list, [(CORNERS, it) for it in (PASSED, WIDE, SHARED)], 0, 64, [0, 1, 3]) == [3]
+    assert call("solve_all", (CORNERS, WIDE, SHARED), 0, 64, 2) == [3]
+    assert call(of_one, SHARED, [0, 1, 2], [0, 64], CLAIM) == [4]
+    assert call(of_list, (CORNERS, PASSED, SHARED), 0, 64, 3) == [4, 2]
+    assert call(of_one, WIDE, [0, 1, 2], [0, 64], CLAIM) == [5]
+    assert call(of_list, (CORNERS, WIDE, SHARED), 0, 64, 3) == [5, 1]
 
 
-@pytest.mark.parametrize(("requests", "call"), [
-    (2, "solve {CORNERS} 0 64"), (2, "confirm {CORNERS} 0 64 62 0 0x80"), (2, "move_scores {CORNERS} 0 64"),
-    (2, "solve_all 0 64 1 {CORNERS}"), (2, "move_scores_all 0 64 1 {CORNERS}"), (1, "read_line 0 {BOARD} X;A1:0"),
-    (0, "solve {CORNERS} 0 0"),
-])
-def test_a_call_without_memory_returns_its_status(requests, call):
-    """Refuses the program's requests for memory, one in each run. Those that are not the call's change nothing."""
-    call = call_of(call)
-    found = [PREFIX.called(call, env=preload(PREFIX.work, REFUSED=str(number))) for number in range(1, 6)]
-    assert sorted(found) == sorted([["7"]] * requests + [PREFIX.called(call)] * (5 - requests))
+def test_moves_images_and_canonical_positions_follow_the_rules(call):
+    assert call("moves", START) == [0, 0x102004080000]
+    assert call("moves", CORNERS) == [0, 0x81]
+    assert call("moves", position(0, 1)) == [0, 0]
+    assert call("play", START, 19) == [0, position(0x1000000000, 0x818080000)]
+    assert call("play", START, [0, 27, 63, 64, 255]) == [6]
+    assert call(["moves", "play", "canonical"], position(5, 4), 200) == [4]
+    images = [0x600, 0x6000, 0x6000000000000, 0x60000000000000, 0x20200, 0x404000, 0x2020000000000, 0x40400000000000]
+    assert [call("image", 0x600, number) for number in range(8)] == [[0, image] for image in images]
+    assert call("image", 0, [8, 255, 256, 2 ** 32 - 1]) == [12]
+    for of, canonical, symmetry in (
+        (position(0xffffffffffffff80, 0x7e), position(0x1ffffffffffffff, 0x7e00000000000000), 3),
+        (position(0xffffffffffffff80, 0x7c), position(0x1ffffffffffffff, 0x3e00000000000000), 3),
+        (position(0xffffffffffffff18, 0x66), position(0x18ffffffffffffff, 0x6600000000000000), 2),
+        (PASS, position(0x7e, 0xffffffffffffff01), 1),
+        (CORNERS, position(0x3efeffffefffffff, 0x4001000010000000), 3),
+        (WIDE, WIDE, 0),
+    ):
+        assert call("canonical", of) == [0, canonical, symmetry]
+
+
+def read_as(it, side, *moves, room=8):
+    """Returns what ffosolve_read_line gives for a position, its side to move (0 black, 1 white), and (score, kind,
+    square) for each listed move."""
+    listed = [{"score": score, "kind": kind, "square": square} for score, kind, square in moves[:room]]
+    return [0, {"position": it, "listed": len(moves), "side": side}, *listed]
+
+
+def test_a_line_is_read_with_as_many_moves_as_have_room_or_its_first_fault_is_found(call):
+    for room in range(4):
+        read = read_as(CORNERS, 0, (62, 0, 7), (52, 0, 0), room=room)
+        assert call("read_line", BOARD + b" X; H1:+62; a1:52;", room) == read
+    odd = b" \t" + BOARD + b"\tw;PS:-4;;--:0;H8:+64 ;h1:+65;note;A1:-64% B1:1;"
+    assert call("read_line", odd, 5) == read_as(PASSED, 1, (-4, 1, 64), (0, 2, 64), (64, 0, 63), (-64, 0, 0))
+    assert call("read_line", BOARD + b" X", 5) == read_as(CORNERS, 0)
+    assert call("read_line", BOARD + b"O", 5) == read_as(PASSED, 1)
+    assert call("read_line", [b"", b" \t", b"  % X"], 5) == [8]
+    assert call("read_line", BOARD[:62], 5) == [9, 62]
+    assert call("read_line", BOARD[:63], 5) == [9, 63]
+    assert call("read_line", b"?" + BOARD, 5) == [10, 1]
+    assert call("read_line", [BOARD, BOARD + b"\0"], 5) == [11, 65]
+    assert call("read_line", BOARD + b" ", 5) == [11, 66]
+    assert call("read_line", b" " + BOARD + b"  -; H1:+62;", 5) == [11, 68]
+
+
+@pytest.mark.parametrize("language", LANGUAGES)
+def test_the_header_passes_on_no_null_pointer_of_an_empty_list_or_text(language):
+    """In place of the library's calls, `called` gets what the inline functions of the header pass on."""
+    inline = re.findall(r"^static __inline__ int32_t (\w+)_or_null(\([^)]*\))", PREFIX.text, re.MULTILINE)
+    declared = re.sub(r"^\w+ \w+\([^;]*;", "", declarations(), flags=re.MULTILINE) + "".join(
+        f'int32_t {name}_or_null{of}; extern "Python+C" int32_t {name}{of};' for name, of in inline)
+    undefined = "".join(f"#undef {name}\n" for name, _ in inline)
+    ffi, lib = module(f"nulls_{language}", declared, undefined, language=language)
+    called, null, line = mock.Mock(return_value=7), ffi.NULL, ffi.new("ffosolve_line *")
+    for name, _ in inline:
+        ffi.def_extern(name)(called)
+        given = (null, 0, line, null, 0, null) if "line" in name else (null, 0, 2, 65, null, 0, null)
+        assert getattr(lib, f"{name}_or_null")(*given) == 7
+    passed = [[it if isinstance(it, int) else it != null for it in call.args] for call in called.call_args_list]
+    assert passed == [[True, 0, 2, 65, True, 0, True]] * 2 + [[True, 0, True, True, 0, True]]
+
+
+def test_a_call_without_memory_returns_its_status():
+    """Each call is made five times: the first request for memory is refused, the second one, and so on."""
+    call = Calls("memory", "extern int granted;", REFUSING, "-Wl,--wrap=malloc")
+
+    def made(granted, words):
+        call.lib.granted = granted
+        return call(*words)
+
+    for requests, *words in (
+        (2, "solve", CORNERS, 0, 64), (2, "confirm", CORNERS, 0, 64, CLAIM), (2, "move_scores", CORNERS, 0, 64),
+        (2, "solve_all", (CORNERS,), 0, 64, 1), (2, "move_scores_all", (CORNERS,), 0, 64, 1),
+        (1, "read_line", BOARD + b" X;A1:0", 0), (0, "solve", CORNERS, 0, 0),
+    ):
+        found = [made(granted, words) for granted in range(5)]
+        assert found == [[7]] * requests + [[0, *found[-1][1:]]] * (5 - requests)
 
 
 def test_the_stack_that_the_header_names_is_enough():
     """Calls for 14 empty squares return on a stack of 32 KiB. On one of 128 KiB, a call for the first position of a
     game does not crash within two seconds."""
     assert "32 KiB are enough for 14 empty squares and 128 KiB for 60" in re.sub(r"\s+", " ", PREFIX.text)
-    calls = "solve {} {} 0 1024", "confirm {} {} 1 0 0 0 1", "move_scores {} {} 2 1024", "solve_all 0 1024 1 {} {}"
-    calls = [call.format(*position) for position in random_positions(20, [14]) for call in calls]
-    printed = PREFIX.called(*calls, env={}, preexec_fn=limited(RLIMIT_STACK=32 << 10))
-    assert [line[:2] for line in printed] == ["0 "] * len(calls)
+    program = PREFIX.compile(C, "searches", [PREFIX.write("searches.c", SEARCHES)])
+    text = "".join(f"{own} {opp}\n" for own, opp in random_positions(20, [14]))
+    PREFIX.make(program, text=text, env={}, preexec_fn=limited(RLIMIT_STACK=32 << 10))
+    how = {"text": "{own} {opp}\n".format(**START), "preexec_fn": limited(RLIMIT_STACK=128 << 10), "timeout": 2}
     with pytest.raises(subprocess.TimeoutExpired):
-        call = call_of("solve {START} 0 1024")
-        PREFIX.called(call, env={}, preexec_fn=limited(RLIMIT_STACK=128 << 10), timeout=2)
+        PREFIX.run(program, env={}, **how)
 
 
 def read(source, shown, reader=ffosolve.parse_lines):
@@ -226,11 +309,11 @@ def row(it):
 
 
 def in_c(it):
-    """Returns what library_calls.c prints for the same line, given room for eight listed moves."""
+    """Returns what the call ffosolve_read_line gives for the same line, with room for eight listed moves."""
     if isinstance(it, ffosolve.LineRefused):
-        return f"{it.status:d} at {it.at}"
-    listed = "".join(f" {MOVES[move]}/{score}" for move, score in it.listed[:8])
-    return f"0 {it.own:x} {it.opp:x} {'XO'.index(it.side)} {len(it.listed)}{listed}"
+        return [it.status, it.at]
+    listed = [(score, *MOVES[move]) for move, score in it.listed]
+    return read_as(position(it.own, it.opp), "XO".index(it.side), *listed)
 
 
 @pytest.fixture(scope="module")
@@ -247,13 +330,13 @@ def text():
 
 
 @pytest.mark.filterwarnings("ignore::ffosolve.ReadingWarning")
-def test_python_and_c_read_worked_and_odd_lines_alike(text):
+def test_python_and_c_read_worked_and_odd_lines_alike(call, text):
     worked = {number: cell.decode() for number, cell in enumerate(COLUMNS["read"], 1) if cell}
     for lines, wanted in ((b"\n".join(LINES), worked), (text, read(text, row))):
         assert read(lines, row) == wanted
         assert read((line + b"\n" for line in lines.split(b"\n")), row, ffosolve.read_lines) == wanted
-        printed = PREFIX.called(*("read_line 8 " + line.removesuffix(b"\r").hex() for line in lines.split(b"\n")))
-        assert {number: words for number, words in enumerate(printed, 1) if words != "8"} == read(lines, in_c)
+        found = [call("read_line", line.removesuffix(b"\r"), 8) for line in lines.split(b"\n")]
+        assert {number: what for number, what in enumerate(found, 1) if what != [8]} == read(lines, in_c)
 
 
 @pytest.mark.filterwarnings("ignore::ffosolve.ReadingWarning")

@@ -1,11 +1,11 @@
 """Python is clean for mypy and flake8, shell for shellcheck. Their settings are in setup.cfg and .shellcheckrc. No
-modules of the package for Python import each other in a circle."""
+modules of the package for Python import each other in a circle, or those above them in docs/architecture.md."""
 import ast
 import collections
 import graphlib
 import re
 
-from tests.support import ROOT, need, run, write
+from tests.support import ROOT, need, run, stored, write
 
 
 def scripts(language):
@@ -40,11 +40,16 @@ def imported(module):
             yield from (file if file.exists() else place / "__init__.py" for file in files)
 
 
-def test_no_modules_import_each_other_in_a_circle():
-    modules = (ROOT / "python/src/ffosolve").rglob("*.py")
-    order = [*graphlib.TopologicalSorter({module: imported(module) for module in modules}).static_order()]
-    places = [order.index(ROOT / "python/src/ffosolve" / f"{name}.py") for name in ("_obf", "_positions", "__init__")]
-    assert places == sorted(places)
+def test_modules_import_from_their_row_of_the_map_in_architecture_or_lower_ones_and_never_in_a_circle():
+    package = ROOT / "python/src/ffosolve"
+    uses = {module: [*imported(module)] for module in package.rglob("*.py")}
+    graphlib.TopologicalSorter(uses).prepare()
+    rows = stored("docs/architecture.md").decode().split("its row or lower ones:\n\n```text\n")[1].split("\n```")[0]
+    depths = {package / f"{name}.py": depth for depth, row in enumerate(rows.split("\n"))
+              for name in row.partition("   ")[0].split()}
+    assert depths.keys() == {module for module in uses if module.name != "__init__.py"}
+    for module, depth in depths.items():
+        assert [it for it in uses[module] if depths.get(it, depth) < depth] == [], module
 
 
 def test_a_name_of_the_package_stands_for_one_thing():
@@ -57,12 +62,6 @@ def test_a_name_of_the_package_stands_for_one_thing():
             named.update({getattr(node, "name", None), *(getattr(it, "id", None) for it in names)})
     assert named["Position"] == 1
     assert {name for name, count in named.items() if name and count > 1} == {"NAME", "USAGE", "WHAT", "MORE", "main"}
-
-
-def test_no_test_module_imports_another():
-    tests = [path for folder in ("tests", "python/tests") for path in (ROOT / folder).glob("test_*.py")]
-    assert len(tests) > 20
-    assert [path.name for path in tests if re.search(r"(?m)^ *(from|import) .*\btest_", path.read_text())] == []
 
 
 def test_shell():

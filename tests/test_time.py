@@ -5,7 +5,7 @@ import timeit
 import pytest
 
 from ffosolve import MOST_ENTRIES, Position
-from tests.prefix import PREFIX
+from tests.library import Calls
 from tests.support import SECONDS, built, ends, limited, run, stored, write
 
 pytestmark = pytest.mark.usefixtures("installed")
@@ -13,7 +13,7 @@ KINDS = stored("examples", "kinds.obf").decode()
 HARD = b"-XXO-O--OXXXOO--OXXOXO--OXXXXO--OOOOXOO--OOXOXOOXOOO-OXXO--O--O- X\n"  # 18 empty squares
 ADVISED = b"-XOOOO-X-XOOOOX--OOXOOXX-OOXXOXO-OXOXXO-OOOXOOX-OOXOOO--OX--O--- X\n"  # a third of the time with a book
 MOVES = b"-------X--XX-XX-X-XXXX---XOOXOOX-OOXOOOOOOOOOXXXXOOOXOO--OOOOOOO X\n"  # 18 empty squares
-AGAIN = 8  # how often a position is repeated, at most as often as library_calls.c has room
+AGAIN = 8  # how often a position is repeated
 LIMIT = 64 << 20  # bytes of memory: enough for the default table, not for the greatest
 OUT_OF_MEMORY = {"ffosolve": (1, "", "ffosolve: out of memory\n"), "ffoscores": (3, "", "ffoscores: out of memory\n")}
 
@@ -53,30 +53,27 @@ def test_a_right_book_saves_time_with_workers_with_progress_and_of_several_files
 # With threads, several may begin with the same position.
 @pytest.mark.parametrize(("name", "workers", "times"), [("ffosolve", 0, 30), ("ffoscores", 0, 15), ("ffosolve", 3, 10),
                                                         ("ffoscores", 3, 10)])
-def test_a_run_takes_a_tenth_of_the_time_without_a_table(name, workers, times):
+def test_a_table_makes_a_run_at_least_ten_times_as_fast(name, workers, times):
     words = (built(name), "--workers", workers)
     how = {"input": (HARD + ADVISED) * 3 * AGAIN, "check": True, "timeout": 3 * SECONDS}
     assert is_shorter(lambda: run(*words, **how), lambda: run(*words, "--table", 0, **how), times, repeat=1)
 
 
-def masks(line):
-    return "{0.own} {0.opp}".format(Position.from_obf(line))
-
-
-CALLED, MOVED = masks(HARD), masks(MOVES)
+CALLED, MOVED = (dict(zip(("own", "opp"), Position.from_obf(line))) for line in (HARD, MOVES))
+CLAIMS = {score: {"score": score, "kind": 0, "best": 0} for score in (-8, -6, 20)}  # of CALLED; -8 is right
 
 
 @pytest.mark.parametrize(("slow", "quick", "times"), [
-    pytest.param(f"solve {CALLED} 0 0", f"solve {CALLED} 0 65536", 2, id="a table for solve"),
-    pytest.param(f"confirm {CALLED} 0 0 -6 0 0", f"confirm {CALLED} 0 65536 -6 0 0", 2, id="a table for confirm"),
-    pytest.param(f"move_scores {MOVED} 0 0", f"move_scores {MOVED} 0 65536", 2, id="a table for move_scores"),
-    pytest.param(f"solve {CALLED} 0 0", f"confirm {CALLED} 0 0 -8 0 0", 2, id="a right claim"),
-    pytest.param(f"confirm {CALLED} 0 0 20 0 0", f"confirm {CALLED} 0 0 -8 0 0", 2, id="no wrong claim"),
-    *(pytest.param("\n".join([f"{name} 0 65536 1 {CALLED}"] * AGAIN),
-                   f"{name} 0 65536 {AGAIN}" + f" {CALLED}" * AGAIN, 3, id=f"one table for {name}")
-      for name in ("solve_all", "move_scores_all")),
+    pytest.param(("solve", CALLED, 0, 0), ("solve", CALLED, 0, 65536), 2, id="a table for solve"),
+    pytest.param(("confirm", CALLED, 0, 0, CLAIMS[-6]), ("confirm", CALLED, 0, 65536, CLAIMS[-6]), 2,
+                 id="a table for confirm"),
+    pytest.param(("move_scores", MOVED, 0, 0), ("move_scores", MOVED, 0, 65536), 2, id="a table for move_scores"),
+    pytest.param(("solve", CALLED, 0, 0), ("confirm", CALLED, 0, 0, CLAIMS[-8]), 2, id="a right claim"),
+    pytest.param(("confirm", CALLED, 0, 0, CLAIMS[20]), ("confirm", CALLED, 0, 0, CLAIMS[-8]), 2, id="no wrong claim"),
+    *(pytest.param(([name] * AGAIN, (CALLED,), 0, 65536, 1), (name, (CALLED,) * AGAIN, 0, 65536, AGAIN), 3,
+                   id=f"one table for {name}") for name in ("solve_all", "move_scores_all")),
 ])
 def test_calls_take_less_time_with(slow, quick, times):
-    """In library_calls.txt's words; CALLED is worth -8."""
-    assert {line[:2] for line in PREFIX.called(slow, quick)} == {"0 "}
-    assert is_shorter(lambda: PREFIX.called(quick), lambda: PREFIX.called(slow), times)
+    call = Calls("timed")
+    assert (call(*slow)[0], call(*quick)[0]) == (0, 0)
+    assert is_shorter(lambda: call(*quick), lambda: call(*slow), times)

@@ -50,7 +50,7 @@ fn is_result(word: &str) -> bool {
     of_both || word == "1/2-1/2" || word == "*" || is_number(word.strip_prefix(['+', '-']).unwrap_or(word))
 }
 
-/// The length of what a text begins with, and whether that is a word for `words_of`. `is_apart` says whether a blank, a
+/// The length of a text's first token, and whether that is a word for `words_of`. `is_apart` says whether a blank, a
 /// comma or nothing precedes the text.
 fn token(text: &str, is_apart: bool) -> (usize, bool) {
     let length_before = |rest: &str| text.len() - rest.len();
