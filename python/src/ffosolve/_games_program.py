@@ -252,7 +252,8 @@ def wrong_scores(game: Game, discs: Optional[int]) -> Iterator[str]:
 def check(options: argparse.Namespace, messages: Messages) -> Iterator[bytes]:
     """Does what `compare` does, with scores that ffosolve-many finds. With --cut, lets it cut lists; yields nothing."""
     found, copies = scored_games(options, messages), new_paths(options)
-    scores = exact_scores(folders_of(found, options), options.lines or 10, options.many)
+    folders = folders_of(found, options)
+    scores = exact_scores(folders, options.lines or 10, options.many) if folders else {}
     if "--cut" not in options.many:
         yield from compared(found, copies, scores, options, messages)
 

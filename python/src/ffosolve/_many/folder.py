@@ -91,7 +91,7 @@ class Run:
 
     def __init__(self, folder: Path, task: Task, source: Path, name: str, files: Files, is_remote: bool) -> None:
         """Begins or continues a run. `files` are the programs and any --book-in. If other machines solve it, it
-        `is_remote`: then they stay in memory, since no program has to run in its folder."""
+        `is_remote`: then these are in memory if no program runs in its folder."""
         self.folder, self.task, self.name = folder, task, name
         self.statuses: Dict[str, int] = {}  # the program's, for each solved part's digest
         with refusing("read", name), source.open("rb") as file:
@@ -106,7 +106,7 @@ class Run:
                 if part.digest not in self.statuses:
                     self.check(part, content_of(self.path(part)))
             code = Path(solve.__file__).read_bytes()
-            self.pack = Pack(code.decode(), task, contents if is_remote else {}, self.place)
+            self.pack = Pack(code.decode(), task, {}, self.place)
             try:
                 (self.place / "results").mkdir(0o755, exist_ok=True)
                 path = self.place / "list"
@@ -114,6 +114,8 @@ class Run:
                     with source.open("rb") as file:
                         write_whole({str(path): file}, replaces=True, mode=os.fstat(file.fileno()).st_mode & 0o644)
                 self.keep_files({**files, "solve.py": (code, 0o666)})
+                if is_remote and self.pack.test():
+                    self.pack = Pack(code.decode(), task, contents, self.place)
                 self.test()
                 self.keep_files({"task": (sealed(FORM, json.dumps(task, indent=1).encode()), 0o666)})
             except OSError:  # such as on a full disk, which does not matter if all parts are solved
