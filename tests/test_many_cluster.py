@@ -356,7 +356,7 @@ def test_a_full_disk_ends_the_run_and_it_goes_on_when_there_is_room(cluster, cas
     words = ("--scheduler=scheduler.json", *WORDS)
     run(case.MANY, "--cut", *WORDS)
     full = limited(RLIMIT_FSIZE=len(case.one) // 15 + 400)  # some records are longer
-    case.many(*words, preexec_fn=full, status=3, message="ffosolve-many: cannot write work: File too large\n")
+    case.many(*words, preexec_fn=full, status=3, message="ffosolve-many: cannot write work/results/")
     cluster.leaves_nothing()
     solved = run(case.MANY, "--cut", *WORDS, text=True).stdout.split()[2]
     case.many(*words, message=f"in 15 parts, {solved} of them solved before")
