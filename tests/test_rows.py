@@ -151,6 +151,11 @@ def test_an_error_in_any_file_is_reported_before_anything_is_printed(names, word
     os.close(folder)
 
 
+def test_more_empty_squares_than_the_limit_are_refused():
+    report = b"[1]\n1 refused: 2 empties, limit 1\nsolved 0 refused 1\n"
+    ends((0, report, b""), built(), "--max-empties", "1", input=TWO)
+
+
 def test_a_too_large_file_is_read_only_to_one_byte_past_the_limit_and_refused_even_if_nothing_can_be_reported():
     with open("large.obf", "wb") as large:
         large.truncate(256 << 20)

@@ -1,12 +1,69 @@
-""".ci/run adds up the counts of `rt ci` and pytest."""
+"""conftest.py, which refuses what no test may do, and .ci/run, which adds up the counts of `rt ci` and pytest."""
 import os
+import re
+import signal
+import sys
 from pathlib import Path
 
 import pytest
 
-from tests.support import ROOT, ends, run, write
+from tests.support import ROOT, SECONDS, ends, need, processes_in, run, stored, wait_until, write
 
 NO_CI = {name: text for name, text in os.environ.items() if name != "CI"}
+FAULTS = """import os, pathlib, pytest, subprocess, time, unittest
+def test_good():
+    assert os.system("kill -INT $$") == 2  # an interrupt is not ignored
+def test_wrong():
+    assert 1 + 1 == 3
+def test_hangs():
+    time.sleep(100)
+def test_changes():
+    pathlib.Path(__file__).parents[1].joinpath("new").touch()
+def test_skips():
+    pytest.skip("no-such is missing")
+class Some(unittest.TestCase):
+    def test_leaves(self):
+        subprocess.run(["sh", "-c", "setsid sleep 1000 &"])
+"""
+
+
+@pytest.fixture
+def project(folder):
+    need("git")
+    run("git", "init", "-q", check=True)
+    run("cp", "setup.cfg", ".gitignore", folder, cwd=ROOT, check=True)
+    write("conftest.py", re.sub("^pytest_plugins = .*", "", stored("conftest.py").decode(), flags=re.M))
+    return folder
+
+
+@pytest.mark.parametrize("ci, skipped, counts", (
+    ({}, set(), "2 failed, 3 passed, 2 skipped, 2 errors"),
+    ({"CI": "true"}, {"test_faults.py::test_skips", "test_missing.py"}, "3 failed, 3 passed, 3 errors"),
+))
+def test_each_fault_of_a_test_is_reported(project, ci, skipped, counts):
+    write("tests/test_faults.py", FAULTS)
+    write("tests/test_missing.py", "import pytest\npytest.importorskip('no_such')\n")
+    words = (sys.executable, "-m", "pytest", "-n", "2", "-o", "timeout=12", "-o", "testpaths=tests")
+    ran = run("sh", "-c", 'trap "" INT; exec "$@"', "sh", *words, env={**NO_CI, **ci}, text=True, timeout=5 * SECONDS)
+    found = set(re.findall(r"^(?:FAILED|ERROR) (?:tests/)?(\S+)", ran.stdout, re.M))
+    wrong = {"test_faults.py::test_wrong", "test_faults.py::test_hangs", "git", "test_faults.py::Some::test_leaves"}
+    assert (ran.returncode, found) == (1, wrong | skipped), ran.stdout
+    assert re.search(rf"^=+ {counts} in .*=\Z", ran.stdout.strip(), re.M), ran.stdout
+    for text in ("?? new", "Timeout >12.0s", "'sleep', '1000'", *(["no-such is missing, but with CI=true"] * bool(ci))):
+        assert text in ran.stdout
+
+
+@pytest.mark.parametrize("kill, number", ((os.killpg, signal.SIGINT), (os.kill, signal.SIGTERM)))
+def test_an_interrupt_from_the_terminal_and_a_signal_to_pytest_alone_end_all_processes(project, start, kill, number):
+    waits = "touch begun; setsid sleep 1000"
+    write("tests/test_waits.py", f"import subprocess\ndef test_a():\n    subprocess.run({waits!r}, shell=True)\n")
+    runner = start(sys.executable, "-m", "pytest", "-n", "2", "tests/test_waits.py", start_new_session=True)
+    wait_until(Path("begun").exists)
+    kill(runner.pid, number)
+    assert runner.wait(timeout=SECONDS) != 0
+    wait_until(lambda: not processes_in(project))
+
+
 GOOD = ("7 passed, 0 failed", 0)
 PASSED = ("==== 7 passed in 3.20s ====", 0)
 NOT_COUNTED = ("0 passed, 0 failed", "killed", "7 passed, 0 failed\\nand more", "== no tests ran in 0.1s ==", "\\n")

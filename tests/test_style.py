@@ -64,6 +64,12 @@ def test_a_name_of_the_package_stands_for_one_thing():
     assert {name for name, count in named.items() if name and count > 1} == {"NAME", "USAGE", "WHAT", "MORE", "main"}
 
 
+def test_no_test_module_imports_another():
+    tests = [path for folder in ("tests", "python/tests") for path in (ROOT / folder).glob("test_*.py")]
+    assert len(tests) > 20
+    assert [path.name for path in tests if re.search(r"(?m)^ *(from|import) .*\btest_", path.read_text())] == []
+
+
 def test_shell():
     accepts("shellcheck", "share/completions/bash", *scripts("(ba)?sh"))
 

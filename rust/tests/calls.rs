@@ -95,16 +95,26 @@ fn the_mover_has_a_colour_that_no_comparison_sees() {
     assert_eq!(HashSet::from([at, at.with_side(Side::Black)]).len(), 1);
 }
 
-/// The tests of the repository read many more transcripts with this crate.
 #[test]
-fn transcripts_are_played_and_their_first_wrong_word_is_refused() {
+fn transcripts_are_played() {
     let (positions, moves) = first_game();
     let (start, last) = (Position::start(), positions[positions.len() - 1]);
     assert!(moves.contains(&"--".to_owned()));
     let without_passes = moves.concat().replace("--", "");
-    for text in [&moves.join(" "), &without_passes] {
-        assert_eq!(start.positions(text).as_ref(), Ok(&positions), "{text}");
-        assert_eq!(start.play_all(text), Ok(last));
+    let number = |at| format!("{}{}", at + 1, [".", ")", ":"][at % 3]);
+    let numbered: String = moves.iter().enumerate().map(|(at, word)| format!("{} {word},", number(at))).collect();
+    let glued = numbered.replace([' ', ','], "");
+    let texts = [
+        moves.join(" "),
+        without_passes.to_lowercase(),
+        moves.join("-"),
+        numbered + "33-31 % f5",
+        format!("[Event \"f5\"] [Black \"Ann\"]\n{glued} (40:24)"),
+        glued.replace("--", "pass") + "---PA",
+    ];
+    for text in texts {
+        assert_eq!(start.positions(&text).as_ref(), Ok(&positions), "{text}");
+        assert_eq!(start.play_all(&text), Ok(last));
     }
     let (first, rest) = without_passes.split_at(40);
     assert_eq!(start.play_all(first).and_then(|middle| middle.play_all(rest)), Ok(last));
@@ -113,9 +123,26 @@ fn transcripts_are_played_and_their_first_wrong_word_is_refused() {
         assert_eq!(at_pass().play_all(text), Ok(at_pass().passed()), "{text}");
     }
     assert_eq!(at_pass().play_all("-"), Ok(at_pass()));
-    let error = start.play_all("F5z9d6").expect_err("no square");
-    assert_eq!(error, TranscriptError { number: 2, word: "z9".to_owned() });
-    assert_eq!(error.to_string(), "move 2: z9 is not a legal move");
+}
+
+#[test]
+fn the_first_word_of_a_transcript_that_is_no_legal_move_is_refused() {
+    for (text, number, word) in [
+        ("f5d6d6", 3, "d6"),
+        ("f5 pass", 2, "pass"),
+        ("e3", 1, "e3"),
+        ("F5z9d6", 2, "z9"),
+        ("f5 d", 2, "d"),
+        ("f5 12 +2 d6", 2, "+2"),
+        ("f5 ++", 2, "++"),
+        ("f5d6c33d3", 4, "3d"),
+        ("f5 [d6] c3", 2, "[d"),
+        ("f5\u{e4}\u{f6}", 2, "\u{e4}\u{f6}"),
+    ] {
+        let error = Position::start().play_all(text).expect_err(text);
+        assert_eq!(error, TranscriptError { number, word: word.to_owned() });
+        assert_eq!(error.to_string(), format!("move {number}: {word} is not a legal move"));
+    }
     assert!(at_pass().play_all("p9").is_err());
 }
 
