@@ -74,7 +74,7 @@ not_long g line long e =
 
 -- at least 20 bytes are read to find a header
 module _ (room : ℕ) (enough : 20 ≤ room) where
-  -- a line that is cut there, or is not cut, is the same header
+  -- a line is a header if and only if its first `room` bytes are
   cut_line : (g : Scoring) (line : List ℕ) → (strip_carriage_return (take room line) ≡ header g) ↔ (strip_carriage_return line ≡ header g)
   cut_line g line = by (nat_lt room (length line)) refl
     where

@@ -58,13 +58,13 @@ fn ffoscores_command<'a>(alloc: Global, names: &'a [&'a str]) -> Result<Command<
 }
 
 /// Reads the words of a command line of `ffoscores`, the program's name first. The error is
-/// `Memory` if memory was refused. Any other error has clap's error, which is also the help or
-/// the version if the words ask for one.
+/// `Memory` if memory was refused. Any other error is clap's; clap returns the help and the
+/// version as errors, too.
 pub fn read_list_options(alloc: Global, words: &[&str]) -> Result<ListOptions, OptionFault>
     // For words that clap takes, the only error is `Memory`.
     ensures taken { IsTakenBy ffoscores (map (λ word. word.now) words.now)
         → IfErr result (λ fault. fault ≡ Memory) }
-    // Any other error has a fault that clap defines for the words.
+    // Any other error holds a fault that clap, as defined, finds in the words.
     ensures refused { IfErr result (IsFaultFor ffoscores (map (λ word. word.now) words.now)) }
     // Clap takes the words, and the settings and names are those of the matches that it defines.
     ensures asked { IfOk result

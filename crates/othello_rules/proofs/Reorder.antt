@@ -22,7 +22,7 @@ same_list-true (x ∷ xs) (y ∷ ys) h =
     let p : (eqb x y ≡ true) × (same_list xs ys ≡ true) = and_parts (eqb x y) (same_list xs ys) h in
     rw (eqb-true x y p.0, same_list-true xs ys p.1) refl
 
--- the second list without the first number, if that is in it
+-- the list without the first occurrence of the number; None if it has none
 unfoldable pub without : ℕ → List ℕ → Option (List ℕ)
 without x [] = None
 without x (y ∷ ys) = cond (eqb x y) (Some ys) (option_map (λ zs. y ∷ zs) (without x ys))

@@ -1,4 +1,4 @@
-//! The first line of a book.
+//! The first line of a book (docs/book-format.md).
 
 ghost use Rattle.std.specs.Prelude.{◌≡◌, [], ◌∷◌, ◌++◌, OnOk, IfSome, Some};
 ghost use Rattle.std.specs.Io.KnownBytes.{Appends};

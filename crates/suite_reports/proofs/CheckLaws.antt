@@ -1,4 +1,4 @@
--- The moves of a line that agrees although it has to list every best one.
+-- A line that agrees under --complete lists exactly the best moves.
 use Rattle.std.proofs.Common.{◌≡◌, ◌<◌, ◌&&◌, ℕ, ℤ, Bool, true, false, cond, List, [], ◌∷◌, refl, subst, sym}
 use Rattle.std.specs.Ordering.{int_eq}
 use Rattle.std.proofs.lemmas.Bool.{and_parts, eqb-true, false≢true}

@@ -56,7 +56,7 @@ fn is_due(last: Duration, progress: Progress) -> bool
         && progress.total != Some(progress.solved)
 }
 
-// Where the lines go, and the time of the run at which the last one came.
+// The stream for the lines, and when the last one was written, counted from the start of the run.
 #[derive(Drop)]
 struct Lines<'a, E: Write> {
     errors: &'a mut E,

@@ -209,8 +209,8 @@ fn a_desk_on_one_thread(rt: HostRuntime) {
     }
 }
 
-// Whether a new client's submit is refused with this fault. `Err` if it is refused memory, which
-// comes first.
+// Whether a new client's submit is refused with this fault. `Err` if memory is refused; that is
+// tested first.
 fn is_refused<R: Wait>(
     rt: &R,
     desk: &Desk,

@@ -109,7 +109,7 @@ fn failing_input_is_reported(rt: HostRuntime) -> Result<(), Fail> {
     Ok(())
 }
 
-// A writer that takes all, and fails when it is to pass it on.
+// A writer that accepts all bytes; its flush fails.
 #[derive(Drop)]
 struct HoldingWriter {}
 

@@ -21,8 +21,8 @@ fn the_value_in_windows(rt: HostRuntime) {
     assert!(rt; value_in(&table, position, 0, 1) >= 1);
 }
 
-// What is claimed of each position: scores that are too high or too low by this much, some scores
-// whatever the right one is, and moves.
+// What is claimed of each position: scores that are too high or too low by this much, some fixed
+// scores, and moves.
 const CHANGES: [i8; 7] = [0, 1, -1, 2, -2, 127, -127];
 
 const SCORES: [i8; 3] = [-128, 52, 100];
