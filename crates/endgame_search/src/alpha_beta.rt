@@ -190,15 +190,12 @@ fn search_by_worth<T: Bounds>(table: &T, position: Pos, moves: u64, bound: i8) -
     }
     judge_children(table, position, bound, &mut children);
     sort_children(&mut children);
-    if position.empties() < FEWEST_SHARED || children.len() >= 64 {
+    // Fewer than 64 squares are empty where there is a move.
+    if children.len() >= 64 {
         return search_children(table, position, &children, BELOW_ALL_SCORES, bound);
     }
     search_shared_children(table, position, &children, bound)
 }
-
-// The fewest empty squares of a position whose children threads share out among them. With fewer, a
-// thread has searched a child by the time that it has looked what others search.
-const FEWEST_SHARED: u8 = 14;
 
 // How many children, the eldest ones, each thread searches in their order, by the empty squares of
 // their parent. If none of them is worth more than the bound, all others most likely have to be
@@ -206,8 +203,8 @@ const FEWEST_SHARED: u8 = 14;
 // squares, the more a child costs that need not be searched.
 fn eldest_children(empties: u8) -> u8 {
     match empties {
-        0..=17 => 1,
-        18..=20 => 2,
+        0..=15 => 1,
+        16..=20 => 2,
         _ => 3,
     }
 }

@@ -12,8 +12,8 @@ use crate::move_order::Child;
 use bound_table::{Bounds, Foreseen};
 use othello_bits::Pos;
 
-// The fewest empty squares of a position whose children are sorted by what they are worth. With
-// fewer, to foresee that takes more time than it saves.
+// The fewest empty squares of a position whose children are sorted by what they are worth, and shared
+// out among threads. With fewer, to foresee that takes more time than it saves.
 pub(crate) const FEWEST_JUDGED: u8 = 12;
 
 // How many plies are foreseen after a move, by the empty squares before it.
@@ -74,20 +74,18 @@ impl Look {
         (worth.clamp(self.enough, MOST_WORTH) - self.enough) as u16
     }
 
-    // The same, as a thread has noted it if `is_noted`; otherwise as it is foreseen.
+    // The same, as a thread has noted it, otherwise as it is foreseen.
     #[inline(always)]
-    fn find<T: Bounds>(self, table: &T, child: Child, is_noted: bool) -> u16
+    fn find<T: Bounds>(self, table: &T, child: Child) -> u16
         requires replies { child.replies ≡ moves_of child.position }
         requires least { negsuc 1999 ≤ℤ self.enough }
         requires most { self.enough ≤ℤ pos 2000 }
         ensures { result < 8192 }
     {
-        if is_noted {
-            if let Foreseen::Worth(worth) = table.foreseen(&child.position, self.respect) {
-                return worth.min(8191);
-            }
+        match table.foreseen(&child.position, self.respect) {
+            Foreseen::Worth(worth) => worth.min(8191),
+            _ => self.foresee(table, child),
         }
-        self.foresee(table, child)
     }
 
     // Notes what each child is worth, but for those that another thread notes.
@@ -106,10 +104,6 @@ impl Look {
     }
 }
 
-// The fewest empty squares of a position whose children's worths are noted. With fewer, to evaluate
-// a child takes no longer than to find it noted.
-const FEWEST_NOTED: u8 = 16;
-
 // Gives each child of a position its place in the order of a search for moves that are worth more
 // than the bound, if many squares are empty; with fewer it stays that by mobility. Nothing is sorted.
 pub(crate) fn judge_children<T: Bounds>(table: &T, position: Pos, bound: i8, children: &mut [Child])
@@ -121,11 +115,8 @@ pub(crate) fn judge_children<T: Bounds>(table: &T, position: Pos, bound: i8, chi
         return;
     }
     let look = Look::at(empties, bound);
-    let is_noted = empties >= FEWEST_NOTED;
-    if is_noted {
-        look.note(table, position, children);
-    }
+    look.note(table, position, children);
     for child in children.iter_mut() {
-        *child = child.judged(look.find(table, *child, is_noted));
+        *child = child.judged(look.find(table, *child));
     }
 }

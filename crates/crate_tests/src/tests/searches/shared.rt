@@ -15,10 +15,14 @@ use std::test::Fail;
 const MOST_MOVES: usize = 9;
 
 // The mover's discs and the opponent's, the number of moves, and how many eldest children are searched
-// in any case. With 16, 18 and 21 empty squares.
-const ROWS: [(Discs, usize, usize); 3] = [
+// in any case. With 12, 15, 16, 18 and 21 empty squares.
+const ROWS: [(Discs, usize, usize); 5] = [
+    // -O-X--O- -OOXXOXX OOXOO-XX XOXOOXXX OOOOOOX- -OOOOOXX OOOOOOO- X-XXXO-O
+    ((0x1d00_c040_e5c4_d808, 0xa07f_3e3f_1a1b_2642), 8, 1),
+    // -----X-- X----XOO OOOOOOX- -OOOOOOX -OOXXOOO XXOXOOOO XXXOOOOO XX-OOOOO
+    ((0x307_0b18_8040_2120, 0xf8f8_f4e6_7e3f_c000), 9, 1),
     // -------O X--XO-OX OXX-OOX- OOXXOXO- OOXXOXXX OOOOOXOO OOO-XXOO -XOXX-XO
-    ((0x5a30_20ec_2c46_8900, 0x84c7_df13_5331_5080), 9, 1),
+    ((0x5a30_20ec_2c46_8900, 0x84c7_df13_5331_5080), 9, 2),
     // --XX---- --XXXO-O OXOOOOO- X--OOOXX --XOOOXX X-XOXOOX -XXOOXXX --XOOOOO
     ((0x4e6_95c4_c102_1c0c, 0xf818_6838_387d_a000), 9, 2),
     // --OO-X-O ---OXXOX X-OXOOO- OXOXXOXO OOOXOXOO -OOXXXXO --XX-X-- --XX----

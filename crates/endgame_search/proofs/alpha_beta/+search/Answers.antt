@@ -221,7 +221,7 @@ search_by_worth-search_children-requires g t c κs within =
       (
         within,
         (
-          subst (UnlistedAreAtMost r p (negsuc 64)) (sym c.deref-then-empties-lt-FEWEST_SHARED.ensures.0) unlisted,
+          subst (UnlistedAreAtMost r p (negsuc 64)) (sym c.deref-then-len-ge64.ensures.0) unlisted,
           (
             omega (arith, ints),
             (
