@@ -17,8 +17,8 @@ const LOTS: u64 = 16; // of games, each with a thread
 const ROUNDS: u32 = 300;
 const HEAD: &str = "//! What the squares at a corner are worth, in eighths of a disc: made by bench/weights.rs, of";
 const COMMENT: &str = "
-// By the state of four squares of an edge, the corner first, and of the four beside them: the sum of
-// 3^i for a disc of the mover on square i, and of twice that for one of the opponent.
+// The index is the state of eight squares: 0 to 3 on an edge, from the corner on, and 4 to 7 beside
+// them. A disc of the mover on square i adds 3^i to it, one of the opponent 2 * 3^i.
 ";
 const SHRINK: f64 = 8.0; // a weight is fitted as if it were 0 in this number of further positions
 

@@ -81,7 +81,7 @@ fn read_start<R: Read>(reader: &mut R, front: &mut [u8]) -> io::Result<usize>
     Err(io::Error::from(ErrorKind::Interrupted))
 }
 
-// What a regular file is whose bytes this reader has.
+// The kind of a regular file whose bytes this reader gives: `Empty`, `Book` or `Other`.
 fn found_from<R: Read>(reader: &mut R) -> io::Result<Found>
     ensures free { IfOk result (λ found. IfSome (R.remaining reader.old)
         (λ text. IsFree found ↔ GivesWay (lines_of text))) }

@@ -60,13 +60,13 @@ merge own opp from middle to x y z hx hy e = subst (IsLeast own opp from to) (sy
           first = hx.first;
         }
 
--- the keys are those of the images of the position
 pub apart-both : (s : Sym) (p : PosView) → AreApart p → AreApart (both_images s p)
 apart-both s p fine = apart-from (mask_image s p.own) (mask_image s p.opp) (mask_image_lt s p.own) (mask_image_lt s p.opp) (meet_image s p fine)
 
 discs_of-image : (s : Sym) (m : Side) (p : PosView) → AreApart p → discs_of (image s (position_of m p)) ≡ both_images s p
 discs_of-image s m p fine = ap discs_of (image-position_of s m p) ∙ discs_of-position_of m (both_images s p) (apart-both s p fine)
 
+-- the key of an image of the masks is the pair of that image of the position
 key-pair : (s : Sym) (m : Side) (p : PosView) → AreApart p → image_pair (position_of m p) s ≡ key (image_with p.own p.opp s)
 key-pair s m p fine = (λ k. (discs_of-image s m p fine k).own * 2 ^ 64 + (discs_of-image s m p fine k).opp)
 

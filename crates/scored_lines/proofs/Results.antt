@@ -1,4 +1,4 @@
--- Clauses of a result, from clauses of its success.
+-- From what holds of a result in one case, `Ok` or `Err`, to what follows from it in that case.
 use Rattle.std.proofs.Common.{refl}
 use Rattle.std.specs.Prelude.{Result, Ok, Err, IfOk, IsOk, OnErr, OnOk}
 

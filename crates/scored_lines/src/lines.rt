@@ -177,7 +177,7 @@ fn write_item<T: Bounds, W: Write>(
     }
 }
 
-// Writes the texts of a text's lines. Returns whether all lines are right.
+// Writes what is printed for each line of a text. Returns whether all lines are right.
 fn write_items<T: Bounds, W: Write>(
     table: &T,
     alloc: Global,

@@ -29,12 +29,12 @@ AreScored g y = All (λ (t : TaskView). t.scoring ≡ g) y.1
 abbrev pub IsPartFault : RunFault → Type 0
 IsPartFault fault = (fault ≡ Memory) ⊎ (fault ≡ Mixed)
 
--- the result is the part of the text, or the fault of memory or of a desk
+-- the result is the part of the text, or the fault is `Memory` or `Mixed`
 abbrev pub GivesPart : Scoring → Criteria → List ℕ → Result Part RunFault → Type 0
 GivesPart g by text (Ok part) = part_view_of part ≡ part_view g by text
 GivesPart g by text (Err fault) = IsPartFault fault
 
--- the results are the parts of the texts, in their order, or the fault of memory or of a desk
+-- the results are the parts of the texts, in their order, or the fault is `Memory` or `Mixed`
 abbrev pub GivesParts : Scoring → Criteria → List (List ℕ) → Result (Vec Part Global) RunFault → Type 0
 GivesParts g by texts (Ok parts) = map part_view_of parts.items ≡ map (part_view g by) texts
 GivesParts g by texts (Err fault) = IsPartFault fault

@@ -45,8 +45,9 @@ impl Clock for MovedClock {
     }
 }
 
-// How many milliseconds after the one before it each job ends. Three jobs end less than five
-// seconds after a line, two of them in its fifth second or later as whole seconds are counted.
+// How many milliseconds after the one before it each job ends. No line may come at job 4, which ends
+// 4.999 seconds after one, nor at jobs 6 and 7: the line before came at 10.9 seconds, and they end at
+// 15.1 and 15.899.
 const PAUSES: [u64; 11] = [4_999, 1, 1, 4_998, 901, 4_200, 799, 1, 24_100, 1, 9_999];
 
 const LINES: &[u8] = b"\
