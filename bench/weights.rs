@@ -10,7 +10,7 @@
 #[path = "peer.rs"]
 mod peer;
 
-use peer::{Pos, Scoring, Table, order, search_window, simple_worth, squares, states};
+use peer::{Pos, Scoring, Table, children, order, search_window, simple_worth, states};
 
 const STATES: usize = 6561;
 const LOTS: u64 = 16; // of games, each with a thread
@@ -47,12 +47,11 @@ fn position(numbers: &mut Numbers, empties: u32) -> Option<Pos> {
             }
         }
         let is_random = p.empties() > first || p.empties() <= last;
-        let children = squares(p.moves()).map(|square| (square, p.after(square, p.flips(square))));
-        let key = |&(square, child): &(u32, Pos)| match is_random {
+        let key = |&(child, square): &(Pos, u32)| match is_random {
             true => numbers.below(1 << 16),
             false => order(child.moves(), square) + numbers.below(noise),
         };
-        p = children.min_by_key(key)?.1;
+        p = children(p).into_iter().min_by_key(key)?.0;
     }
     (p.empties() == empties).then_some(p)
 }
