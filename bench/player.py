@@ -56,10 +56,9 @@ def random_lines(number, least, most, seed=1):
     while found < number:
         empties = least + found % (most - least + 1)
         for own, opp, is_black, _ in random_game(rng):
-            if (own | opp).bit_count() == 64 - empties:
-                if moves(own, opp) or moves(opp, own):
-                    yield line(own, opp, is_black)
-                    found += 1
+            if (own | opp).bit_count() == 64 - empties and (moves(own, opp) or moves(opp, own)):
+                yield line(own, opp, is_black)
+                found += 1
                 break
 
 

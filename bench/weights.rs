@@ -10,7 +10,8 @@
 #[path = "peer.rs"]
 mod peer;
 
-use peer::{Pos, Scoring, Table, order, search_window, simple_worth, squares, states};
+use peer::{Pos, Scoring, Table, children, order, search_window, simple_worth, states};
+use std::iter::repeat_with;
 
 const STATES: usize = 6561;
 const LOTS: u64 = 16; // of games, each with a thread
@@ -34,9 +35,10 @@ impl Numbers {
     }
 }
 
-/// Plays a game until `empties` squares are empty and the side to move has a move. The first 6 to 30 moves and the last
+/// Plays a game until 10 to 13 squares are empty and the side to move has a move. The first 6 to 30 moves and the last
 /// ones are random; the others leave the opponent about the least mobility. None if the game ends before.
-fn position(numbers: &mut Numbers, empties: u32) -> Option<Pos> {
+fn position(numbers: &mut Numbers) -> Option<Pos> {
+    let empties = 10 + numbers.below(4);
     let (first, last, noise) = (30 + numbers.below(25), empties + numbers.below(5), 16 * (1 + numbers.below(40)));
     let mut p = Pos { own: 0x0000_0008_1000_0000, opp: 0x0000_0010_0800_0000 };
     while p.empties() > empties || p.moves() == 0 {
@@ -47,12 +49,11 @@ fn position(numbers: &mut Numbers, empties: u32) -> Option<Pos> {
             }
         }
         let is_random = p.empties() > first || p.empties() <= last;
-        let children = squares(p.moves()).map(|square| (square, p.after(square, p.flips(square))));
-        let key = |&(square, child): &(u32, Pos)| match is_random {
+        let key = |&(child, square): &(Pos, u32)| match is_random {
             true => numbers.below(1 << 16),
             false => order(child.moves(), square) + numbers.below(noise),
         };
-        p = children.min_by_key(key)?.1;
+        p = children(p).into_iter().min_by_key(key)?.0;
     }
     (p.empties() == empties).then_some(p)
 }
@@ -61,14 +62,11 @@ fn position(numbers: &mut Numbers, empties: u32) -> Option<Pos> {
 fn rows(lot: u64, number: u32) -> Vec<([usize; 8], f64)> {
     let mut numbers = Numbers(0x9e37_79b9_7f4a_7c15_u64.wrapping_mul(2 * lot + 1));
     let table = Table::new(65_536, Scoring::Winner);
-    let mut row = || loop {
-        let empties = 10 + numbers.below(4);
-        if let Some(p) = position(&mut numbers, empties) {
-            let value = search_window(&table, p, 0, -65, 65);
-            return (states(p), f64::from(8 * value - simple_worth(p, p.moves())));
-        }
+    let row = |p: Pos| {
+        let value = search_window(&table, p, 0, -65, 65);
+        (states(p), f64::from(8 * value - simple_worth(p, p.moves())))
     };
-    (0..number).map(|_| row()).collect()
+    repeat_with(|| position(&mut numbers)).flatten().take(number as usize).map(row).collect()
 }
 
 /// The weights that make the sums of a row's states come nearest to its worth.

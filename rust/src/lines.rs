@@ -75,9 +75,7 @@ impl Line {
             };
             (what, found.score as i8)
         });
-        let raw::Position { own, opp } = line.position;
-        let position = Position::new(own, opp).expect("a line has one disc on a square").with_side(side);
-        Ok(Line { position, side, listed: listed.collect() })
+        Ok(Line { position: Position { masks: line.position, side }, side, listed: listed.collect() })
     }
 }
 

@@ -8,9 +8,8 @@ use std::hash::{Hash, Hasher};
 /// prints `Position(LINE)`, with its OBF line.
 #[derive(Clone, Copy)]
 pub struct Position {
-    own: u64,
-    opp: u64,
-    side: Side,
+    pub(crate) masks: raw::Position,
+    pub(crate) side: Side,
 }
 
 impl Position {
@@ -21,14 +20,15 @@ impl Position {
     /// `SharedSquare` if the masks share a bit.
     pub const fn new(own: u64, opp: u64) -> Result<Position, Error> {
         match own & opp {
-            0 => Ok(Position { own, opp, side: Side::Black }),
+            0 => Ok(Position { masks: raw::Position { own, opp }, side: Side::Black }),
             _ => Err(Error::SharedSquare),
         }
     }
 
     /// The position in which a game begins.
     pub const fn start() -> Position {
-        Position { own: 0x0000_0008_1000_0000, opp: 0x0000_0010_0800_0000, side: Side::Black }
+        let masks = raw::Position { own: 0x0000_0008_1000_0000, opp: 0x0000_0010_0800_0000 };
+        Position { masks, side: Side::Black }
     }
 
     /// The position with the same masks in which the mover has this colour.
@@ -53,7 +53,7 @@ impl Position {
             Side::Black => ('X', 'O'),
             Side::White => ('O', 'X'),
         };
-        let letter = |square: u32| match (self.own >> square & 1, self.opp >> square & 1) {
+        let letter = |square: u32| match (self.masks.own >> square & 1, self.masks.opp >> square & 1) {
             (1, _) => own,
             (_, 1) => opp,
             _ => '-',
@@ -63,30 +63,31 @@ impl Position {
 
     /// The mover's discs.
     pub const fn own(self) -> Squares {
-        Squares(self.own)
+        Squares(self.masks.own)
     }
 
     /// The other side's discs.
     pub const fn opp(self) -> Squares {
-        Squares(self.opp)
+        Squares(self.masks.opp)
     }
 
     /// The squares without a disc.
     pub const fn empties(self) -> Squares {
-        Squares(!(self.own | self.opp))
+        Squares(!(self.masks.own | self.masks.opp))
     }
 
     /// The position after a pass, in which the other side is to move.
     #[must_use]
     pub const fn passed(self) -> Position {
-        Position { own: self.opp, opp: self.own, side: self.side.other() }
+        let raw::Position { own, opp } = self.masks;
+        Position { masks: raw::Position { own: opp, opp: own }, side: self.side.other() }
     }
 
     /// The legal moves.
     pub fn moves(self) -> Squares {
         let mut moves = 0;
         // SAFETY: the pointer is to a number of this call's own.
-        let status = unsafe { raw::ffosolve_moves(self.raw(), &mut moves) };
+        let status = unsafe { raw::ffosolve_moves(self.masks, &mut moves) };
         debug_assert_eq!(status, 0, "the masks of a position share no square");
         Squares(moves)
     }
@@ -108,8 +109,8 @@ impl Position {
     pub fn play(self, square: Square) -> Result<Position, Error> {
         let mut after = raw::Position::default();
         // SAFETY: the pointer is to a position of this call's own.
-        match unsafe { raw::ffosolve_play(self.raw(), square.number(), &mut after) } {
-            0 => Ok(Position { own: after.own, opp: after.opp, side: self.side.other() }),
+        match unsafe { raw::ffosolve_play(self.masks, square.number(), &mut after) } {
+            0 => Ok(Position { masks: after, side: self.side.other() }),
             _ => Err(Error::NoMove),
         }
     }
@@ -118,7 +119,8 @@ impl Position {
     /// best moves are its best moves.
     #[must_use]
     pub fn image(self, symmetry: Symmetry) -> Position {
-        Position { own: self.own().image(symmetry).0, opp: self.opp().image(symmetry).0, side: self.side }
+        let masks = raw::Position { own: self.own().image(symmetry).0, opp: self.opp().image(symmetry).0 };
+        Position { masks, ..self }
     }
 
     /// The canonical position, which is the same for all eight images of a position, and which books hold; and the
@@ -127,19 +129,15 @@ impl Position {
     pub fn canonical(self) -> (Position, Symmetry) {
         let (mut canonical, mut symmetry) = (raw::Position::default(), 0);
         // SAFETY: the pointers are to a position and a number of this call's own.
-        let status = unsafe { raw::ffosolve_canonical(self.raw(), &mut canonical, &mut symmetry) };
+        let status = unsafe { raw::ffosolve_canonical(self.masks, &mut canonical, &mut symmetry) };
         debug_assert_eq!(status, 0, "the masks of a position share no square");
-        (Position { own: canonical.own, opp: canonical.opp, ..self }, Symmetry::ALL[symmetry as usize])
-    }
-
-    pub(crate) const fn raw(self) -> raw::Position {
-        raw::Position { own: self.own, opp: self.opp }
+        (Position { masks: canonical, ..self }, Symmetry::ALL[symmetry as usize])
     }
 }
 
 impl PartialEq for Position {
     fn eq(&self, other: &Position) -> bool {
-        self.raw() == other.raw()
+        self.masks == other.masks
     }
 }
 
@@ -147,7 +145,7 @@ impl Eq for Position {}
 
 impl Hash for Position {
     fn hash<H: Hasher>(&self, state: &mut H) {
-        self.raw().hash(state);
+        self.masks.hash(state);
     }
 }
 

@@ -144,7 +144,7 @@ impl Solver {
         let claim = raw::Answer { score: claim.score.into(), ..Default::default() }; // nothing but the score matters
         let (mut answer, entries) = (raw::Answer::default(), self.entries_for(&[position])?);
         // SAFETY: the pointer is to an answer of this call's own.
-        let status = unsafe { raw::ffosolve_confirm(position.raw(), self.scoring as u32, entries, claim, &mut answer) };
+        let status = unsafe { raw::ffosolve_confirm(position.masks, self.scoring as u32, entries, claim, &mut answer) };
         Error::of_status(status, 0).map(|()| Answer::of_raw(answer))
     }
 
@@ -197,7 +197,7 @@ impl Solver {
         let mut parts: Vec<_> = parts.map(|part| (part, vec![unset; part.len()])).collect();
         let solve = |(part, found): &mut (&[Position], Vec<R>)| {
             let (entries, mut at, count) = (self.entries_for(part)?, 0, part.len());
-            let masks: Vec<_> = part.iter().map(|position| position.raw()).collect();
+            let masks: Vec<_> = part.iter().map(|position| position.masks).collect();
             let (scoring, from) = (self.scoring as u32, masks.as_ptr());
             // SAFETY: both lists have `count` elements, and are this call's own.
             let status = unsafe { call(from, count, scoring, entries, found.as_mut_ptr(), count, &mut at) };
