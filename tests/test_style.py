@@ -4,8 +4,9 @@ import ast
 import collections
 import graphlib
 import re
+import symtable
 
-from tests.support import ROOT, need, run, stored, write
+from tests.support import ROOT, ends, need, run, stored, write
 
 
 def scripts(language):
@@ -56,12 +57,17 @@ def test_a_name_of_the_package_stands_for_one_thing():
     """Each program has a name, a help in three pieces, and a function that runs it."""
     named = collections.Counter()
     for module in (ROOT / "python/src/ffosolve").rglob("*.py"):
-        for node in ast.parse(module.read_text()).body:
-            targets = getattr(node, "targets", [getattr(node, "target", None)])
-            names = [it for target in targets for it in getattr(target, "elts", [target])]
-            named.update({getattr(node, "name", None), *(getattr(it, "id", None) for it in names)})
+        symbols = symtable.symtable(module.read_text(), str(module), "exec").get_symbols()
+        named.update(it.get_name() for it in symbols if it.is_assigned())
     assert named["Position"] == 1
-    assert {name for name, count in named.items() if name and count > 1} == {"NAME", "USAGE", "WHAT", "MORE", "main"}
+    assert {name for name, count in named.items() if count > 1} == {"NAME", "USAGE", "WHAT", "MORE", "main"}
+
+
+def test_no_line_of_the_crates_has_more_than_160_columns():
+    """A wrong body is one line of its file, however long it is."""
+    need("git")
+    long = ("git", "grep", "-InE", "^.{161}", "--", "crates", ":!crates/*/must-fail/*")
+    ends((1, "", ""), "env", "LC_ALL=C.UTF-8", *long, cwd=ROOT)
 
 
 def test_no_test_module_imports_another():
