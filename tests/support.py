@@ -20,16 +20,11 @@ SECONDS = 55  # the time limit of a command or a wait, unless a test sets its ow
 MOST_BYTES = 1_048_576  # the size of the largest file that the programs read, as documented
 
 
-def lack(what):
-    """Skips the test: `what` is missing."""
-    pytest.skip(f"{what} is missing")
-
-
 def need(*tools):
     """Skips the test if one of `tools`, commands or absolute paths of files, is not installed."""
     for tool in tools:
         if not (os.path.exists(tool) if "/" in tool else shutil.which(tool)):
-            lack(tool)
+            pytest.skip(f"{tool} is missing")
 
 
 def stored(*path):
@@ -71,7 +66,7 @@ def unshared():
     """The words before a command that may mount file systems and change its root. Skips the test if that is refused."""
     words = ("unshare", *["--map-root-user"] * bool(os.getuid()), "--mount")
     if run(*words, "mount", "-t", "tmpfs", "none", "/tmp").returncode:
-        lack("a right to mount file systems")
+        pytest.skip("a right to mount file systems is missing")
     return words
 
 

@@ -46,11 +46,6 @@ SPOIL = "echo 'rt: the kept work of ffosolve cannot be used: remove it'; exit 1\
 # A fake linker and assembler: copies its first input to its output.
 COPY = '#!/bin/sh\nwhile [ "$1" != -o ]; do shift; done\ncp "$3" "$2" && chmod +x "$2"\n'
 LEVEL = LEVELS[is_v3()]
-# What make says if the command `false` is to be the Python for the tests.
-MODULES = ("psutil", "pytest", "pytest-timeout", "pytest-xdist")
-INSTALL = f"apt-get install {' '.join(f'python3-{name}' for name in MODULES)}\n"
-NO_MODULES = "".join(f"false has no {name}; Debian's package python3-{name} has it for /usr/bin/python3\n"
-                     for name in MODULES)
 HOW = {"text": True, "cwd": "/"}
 
 
@@ -228,22 +223,24 @@ def test_later_runs_say_that_they_wait_and_only_one_builds_if_the_first_fails(ch
 
 
 def test_a_missing_tool_is_reported_and_so_is_another_kit_which_is_tried(folder, checkout):
-    ran = checkout.use(PATH="/usr/bin:/bin")
-    is_refused(ran, "rt (rattle-kit-13b or rattle-kit-13f) is not on the path", before="")
+    no_rt = "rt (rattle-kit-13b or rattle-kit-13f) is not on the path"
+    no_ld = "ld is missing; Debian's package binutils has it\n"
+    modules = ("psutil", "pytest", "pytest-timeout", "pytest-xdist")
+    no_modules = "".join(f"false has no {name}; Debian's package python3-{name} has it for /usr/bin/python3\n"
+                         for name in modules)
+    packages = " ".join(f"python3-{name}" for name in modules)
+    is_refused(checkout.use(PATH="/usr/bin:/bin"), no_rt, before="")
     ran = checkout.use(PATH=f"{checkout.tools}:{path_without('make', folder)}")
     assert (ran.returncode, ran.stdout, ran.stderr.count("\n")) == (4, "", 1), ran
     assert "make" in ran.stderr
-    no_rt = "rt (rattle-kit-13b or rattle-kit-13f) is not on the path"
-    no_ld = "ld is missing; Debian's package binutils has it\n"
-    without_ld = f"PATH={checkout.tools}:{path_without('ld', folder)}"
+    without = ("PYTHON=false", f"PATH={checkout.tools}:{path_without('ld', folder)}")
     for error, *words in (*((no_rt, target, "PATH=/usr/bin:/bin") for target in ("look", "check", "all")),
-                          (f"{no_ld}{NO_MODULES}{INSTALL.replace('install', 'install binutils')}", "check",
-                           "PYTHON=false", without_ld),
-                          (f"{no_ld}apt-get install binutils\n", "all", "PYTHON=false", without_ld)):
+                          (f"{no_ld}{no_modules}apt-get install binutils {packages}\n", "check", *without),
+                          (f"{no_ld}apt-get install binutils\n", "all", *without)):
         ran = checkout.make(*words)
         assert (ran.returncode, ran.stdout) == (2, ""), ran
         assert ran.stderr.startswith(error), ran
-    assert {*INSTALL.split()} <= {*stored("README.md").decode().split()}
+    assert {"apt-get", "install", *packages.split()} <= {*stored("README.md").decode().split()}
     assert checkout.builds() == 0
     for builds, kit in enumerate(("rattle-kit-13b", "rattle-kit-13f", "rattle-kit-14a", "rattle-kit-13"), 1):
         printed = checkout.after(f"echo {builds} >src/main.rt", builds, builds, KIT=kit)

@@ -15,7 +15,7 @@ import pytest
 import ffosolve
 from tests.games import NAMES, masks_after, random_games, squares_of, transcript_rows
 from tests.prefix import CXX, PIP, PREFIX, VERSION, C
-from tests.support import ROOT, built, ends, lack, need, preload, run, stored
+from tests.support import ROOT, built, ends, need, preload, run, stored
 
 pytestmark = pytest.mark.usefixtures("installed")
 PAGE = "docs/check-evaluation.md"  # its program reads a list of positions, and their scores
@@ -292,7 +292,7 @@ def test_the_compiler_that_the_manifest_names_takes_all_of_a_copy_of_the_crate_a
     oldest = re.search(r'^rust-version = "(.+)"$', (crate / "Cargo.toml").read_text(), re.MULTILINE)[1]
     folders = [folder for folder in os.get_exec_path() if os.path.exists(f"{folder}/rustc")
                and run(f"{folder}/rustc", "--version", text=True).stdout.startswith(f"rustc {oldest}.")]
-    folder = folders[0] if folders else lack(f"rustc {oldest}")
+    folder = folders[0] if folders else pytest.skip(f"rustc {oldest} is missing")
     places = {"RUSTC": f"{folder}/rustc", "CARGO_TARGET_DIR": str(PREFIX.work / "oldest/target")}
     words = "check", "--quiet", "--all-targets"
     PREFIX.make(f"{folder}/cargo", *words, cwd=crate, env={**PREFIX.environment, **places})

@@ -14,7 +14,7 @@ import pytest
 from tests.prefix import (
     FIRST, FIRST_OBF, LEVELS, VERSION, completed_by_zsh, copied_checkout, files_below, path_without,
     print_what_is_shown)
-from tests.support import ROOT, ends, is_v3, lack, need, run, stored, unshared, write
+from tests.support import ROOT, ends, is_v3, need, run, stored, unshared, write
 
 COMMIT = "GIT_COMMITTER_DATE='1700000000 +0000' git -c user.name=a -c user.email=a@b commit -q -m one"
 COMMIT_ALL = f"git init -q; git add -A; {COMMIT}"
@@ -267,7 +267,7 @@ def test_the_wheel_has_the_same_bytes_again(dist, wheel):
 
 def test_an_empty_environment_needs_only_the_wheel(dist, wheel, folder):
     if run("/usr/bin/python3", "-m", "venv", "empty", timeout=300).returncode:
-        lack("venv for /usr/bin/python3 (Debian: python3-venv)")
+        pytest.skip("venv for /usr/bin/python3 (Debian: python3-venv) is missing")
     pip, before = ("empty/bin/pip", "--disable-pip-version-check", "-q"), {*folder.glob("empty/**/*")}
     run(*pip, "install", "--no-index", wheel, timeout=300, check=True)
     package, = folder.glob("empty/lib/*/site-packages/ffosolve")
@@ -327,7 +327,7 @@ def packages(dist):
     need("dpkg-checkbuilddeps")
     missing = run("dpkg-checkbuilddeps", ROOT / "debian/control", text=True)
     if missing.returncode:
-        lack(missing.stderr)
+        pytest.skip(missing.stderr)
     names = {name: f"{name}_{dist.version}_{'all' if name.startswith('python3') else 'amd64'}.deb" for name in PACKAGES}
     made("deb", dist.first, *names.values())
     return {name: dist.first / "out" / names[name] for name in PACKAGES}
@@ -447,7 +447,7 @@ def test_an_empty_debian_upgrades_the_single_package_of_before_and_goes_back(dis
     need("debootstrap")
     system, empty = System(str(folder / "empty")), folder / "empty"
     if run("debootstrap", "--variant=minbase", "bookworm", empty, timeout=800).returncode:
-        lack("a mirror of Debian, or a right that debootstrap needs,")
+        pytest.skip("a mirror of Debian, or a right that debootstrap needs, is missing")
     for package in packages.values():
         run("dpkg-deb", "-x", package, "one", check=True)
     fields = f"Package: ffosolve\nVersion: {VERSION}\nArchitecture: amd64\nMaintainer: A <a@b>\nDescription: a\n"
