@@ -173,16 +173,6 @@ def test_the_example_in_rust_runs():
     answers_of(PREFIX.work / "target/debug/examples/answers")
 
 
-def command_of(language, block):
-    """Builds a block of code, unless it is in Python; returns the words of a command that runs the block."""
-    if language == "python":
-        return PREFIX.site and sys.executable, "-c", block
-    if language == "rust":
-        program = f"fn main() -> Result<(), Box<dyn std::error::Error>> {{\n{block}Ok(())\n}}\n"
-        return [PREFIX.rust_client("readme", program)]
-    return [PREFIX.compile(C if language == "c" else CXX, "shown", [PREFIX.write(f"shown.{language}", block)])]
-
-
 @pytest.mark.parametrize("language, names", [
     ("c", []), ("cpp", []), *(("python", [name]) for name in ("README.md", "docs/library.md", PAGE)), ("rust", []),
 ])
@@ -192,7 +182,14 @@ def test_each_program_of_the_documents_prints_what_is_shown(language, names):
     PREFIX.write("list.scores", run(built("ffoscores"), input=listed.encode()).stdout)
     block, wanted = shown(language, *names)
     assert wanted != ""
-    assert PREFIX.make(*command_of(language, block)).stdout == wanted
+    if language == "python":
+        command = [PREFIX.site and sys.executable, "-c", block]
+    elif language == "rust":
+        program = f"fn main() -> Result<(), Box<dyn std::error::Error>> {{\n{block}Ok(())\n}}\n"
+        command = [PREFIX.rust_client("readme", program)]
+    else:
+        command = [PREFIX.compile(C if language == "c" else CXX, "shown", [PREFIX.write(f"shown.{language}", block)])]
+    assert PREFIX.make(*command).stdout == wanted
 
 
 def test_the_packages_own_tests_pass_where_it_is_installed():

@@ -4,7 +4,6 @@ import functools
 import itertools
 import random
 import re
-import subprocess
 from unittest import mock
 
 import pytest
@@ -12,7 +11,7 @@ import pytest
 import ffosolve
 from ffosolve._refusals import REFUSALS, OtherRefusal
 from tests.games import random_positions
-from tests.library import LANGUAGES, Calls, declarations, module
+from tests.library import LANGUAGES, Calls, declarations
 from tests.prefix import LONGEST, NUMBER, PREFIX, STRICT, VERSION, C
 from tests.support import built, limited, need, run, stored, worked_rows
 
@@ -145,7 +144,7 @@ def test_a_status_has_one_name_number_and_text_in_each_language():
 
 @pytest.fixture(scope="module", params=LANGUAGES)
 def call(request, installed):
-    declared = "const char *ffosolve_status_text(int32_t status);"
+    declared = declarations() + "const char *ffosolve_status_text(int32_t status);"
     return Calls(f"calls_{request.param}", declared, language=request.param)
 
 
@@ -254,19 +253,19 @@ def test_the_header_passes_on_no_null_pointer_of_an_empty_list_or_text(language)
     declared = re.sub(r"^\w+ \w+\([^;]*;", "", declarations(), flags=re.MULTILINE) + "".join(
         f'int32_t {name}_or_null{of}; extern "Python+C" int32_t {name}{of};' for name, of in inline)
     undefined = "".join(f"#undef {name}\n" for name, _ in inline)
-    ffi, lib = module(f"nulls_{language}", declared, undefined, language=language)
-    called, null, line = mock.Mock(return_value=7), ffi.NULL, ffi.new("ffosolve_line *")
+    made = Calls(f"nulls_{language}", declared, undefined, language=language)
+    called, null, line = mock.Mock(return_value=7), made.ffi.NULL, made.ffi.new("ffosolve_line *")
     for name, _ in inline:
-        ffi.def_extern(name)(called)
+        made.ffi.def_extern(name)(called)
         given = (null, 0, line, null, 0, null) if "line" in name else (null, 0, 2, 65, null, 0, null)
-        assert getattr(lib, f"{name}_or_null")(*given) == 7
+        assert getattr(made.lib, f"{name}_or_null")(*given) == 7
     passed = [[it if isinstance(it, int) else it != null for it in call.args] for call in called.call_args_list]
     assert passed == [[True, 0, 2, 65, True, 0, True]] * 2 + [[True, 0, True, True, 0, True]]
 
 
 def test_a_call_without_memory_returns_its_status():
     """Each call is made five times: the first request for memory is refused, the second one, and so on."""
-    call = Calls("memory", "extern int granted;", REFUSING, "-Wl,--wrap=malloc")
+    call = Calls("memory", declarations() + "extern int granted;", REFUSING, "-Wl,--wrap=malloc")
 
     def made(granted, words):
         call.lib.granted = granted
@@ -288,9 +287,8 @@ def test_the_stack_that_the_header_names_is_enough():
     program = PREFIX.compile(C, "searches", [PREFIX.write("searches.c", SEARCHES)])
     text = "".join(f"{own} {opp}\n" for own, opp in random_positions(20, [14]))
     PREFIX.make(program, text=text, env={}, preexec_fn=limited(RLIMIT_STACK=32 << 10))
-    how = {"text": "{own} {opp}\n".format(**START), "preexec_fn": limited(RLIMIT_STACK=128 << 10), "timeout": 2}
-    with pytest.raises(subprocess.TimeoutExpired):
-        PREFIX.run(program, env={}, **how)
+    how = {"text": "{own} {opp}\n".format(**START), "preexec_fn": limited(RLIMIT_STACK=128 << 10)}
+    assert PREFIX.run("timeout", "2", program, env={}, **how).returncode == 124
 
 
 def read(source, shown, reader=ffosolve.parse_lines):

@@ -22,8 +22,7 @@ EASY = [*stored("examples", "first.obf").splitlines(True)[1:], b"--OOOOO" + b"X"
 
 
 def solve(*words, **how):
-    """Runs ffosolve, with its book on standard error. Returns ((report, book), the number of threads that it started).
-    """
+    """Runs ffosolve, its book on standard error. Returns ((report, book), the number of threads that it started)."""
     words = (built(), "--book-out", "/dev/stderr", *words)
     ran = run(*words, env=preload(Path.cwd(), COUNTED="yes"), check=True, **how)
     return (ran.stdout, ran.stderr.replace(b"thread ", b"")), ran.stderr.count(b"thread ")
@@ -50,14 +49,11 @@ def test_64_files_with_64_workers_always_have_the_same_report():
         assert solve(*words)[0] == wanted
 
 
-CASES = [*itertools.product(("winner", "discs", "sign"), (0, 16, 65_536))]
-
-
-@pytest.mark.parametrize("case", range(len(CASES)))
-def test_threads_that_share_a_position_give_the_report_and_book_of_one_thread(case):
-    scoring, entries = CASES[case]
+@pytest.mark.parametrize("at, settings", enumerate(itertools.product(("winner", "discs", "sign"), (0, 16, 65_536))))
+def test_threads_that_share_a_position_give_the_report_and_book_of_one_thread(at, settings):
+    scoring, entries = settings
     words = ("--scoring", scoring, "--table", entries, "--workers")
-    for line in positions(200, 14, 18).splitlines(True)[case::len(CASES)]:
+    for line in positions(200, 14, 18).splitlines(True)[at::9]:  # a ninth of them for each of the settings
         wanted, _ = solve(*words, 0, input=line)
         assert wanted[0].endswith(b"solved 1 refused 0\n")
         for workers in (1, 3, 7):
