@@ -322,9 +322,8 @@ def test_rust_reads_transcripts_as_the_table_says_and_others_as_python():
     assert 100 < sum(" " in line for _, line in wanted[count:]) < 400
     program = PREFIX.rust_client("played", PLAYED_IN_RUST)
     printed = PREFIX.make(program, text="".join(f"{text}\0" for text, _ in wanted)).stdout.splitlines()
-    assert len(printed) == len(wanted)
-    for at, ((text, line), found) in enumerate(zip(wanted, printed)):
-        assert (found if at < count or " " in line else found.split(" ")[0]) == line, text
+    for (text, line), found in zip(wanted, printed, strict=True):
+        assert f"{found} ".startswith(f"{line} "), text
 
 
 def test_a_folder_without_the_library_is_refused_and_pkg_config_asked_only_if_none_is_named():

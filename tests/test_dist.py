@@ -191,9 +191,8 @@ def test_the_commands_of_the_documents_run_on_the_path(dist, folder):
 
 def test_ffosolve_many_has_the_programs_of_both_levels(dist, folder):
     ends((0, FIRST, ""), dist.unpacked / "bin/ffosolve-many", "--quiet", "work", FIRST_OBF, env=dist.without_rt)
-    programs = [path.read_bytes() for path in sorted(Path("work").glob("ffosolve-?"))]
-    wanted = [dist.unpacked / f"lib/ffosolve/ffosolve-{level}" for level in LEVELS[::-1]]
-    assert programs == [path.read_bytes() for path in wanted]
+    for level, program in zip(LEVELS[::-1], sorted(Path("work").glob("ffosolve-?")), strict=True):
+        assert program.read_bytes() == (dist.unpacked / f"lib/ffosolve/ffosolve-{level}").read_bytes()
 
 
 def test_the_program_for_the_level_that_the_loader_reports_replaces_its_starter(dist, folder, start):

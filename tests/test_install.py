@@ -236,15 +236,16 @@ def test_the_loader_picks_the_library_of_the_best_level(installed, monkeypatch):
         assert f"libffosolve.so.1 => {PREFIX.folder}/{lib}/libffosolve.so.1 " in ran.stdout, ran
 
 
-def test_programs_pages_library_and_texts_have_the_version_of_the_file_version(installed):
+def test_programs_pages_library_and_texts_have_the_version_of_the_file_version(place):
     assert re.search(r"\A\d+\.\d+\.\d+\Z", VERSION)
+    place.install()
     for name in COMMANDS:
-        ends((0, f"{name} {VERSION}\n", ""), PREFIX.folder / "bin" / name, "--version")
-        page = (PREFIX.folder / f"share/man/man1/{name}.1").read_text()
+        ends((0, f"{name} {VERSION}\n", ""), place.root / "bin" / name, "--version")
+        page = (place.root / f"share/man/man1/{name}.1").read_text()
         assert page.startswith(f'.TH {name.upper()} 1 "" "ffosolve {VERSION}"'), page[:99]
     for path, text in (
-        (PREFIX.header, f'_VERSION_TEXT "{VERSION}"\n#define FFOSOLVE_VERSION {NUMBER}\n'),
-        (PREFIX.libraries / "cmake/ffosolve/ffosolve-config-version.cmake", f'set(PACKAGE_VERSION "{VERSION}")\n'),
+        (place.root / "include/ffosolve.h", f'_VERSION_TEXT "{VERSION}"\n#define FFOSOLVE_VERSION {NUMBER}\n'),
+        (place.root / "lib/cmake/ffosolve/ffosolve-config-version.cmake", f'set(PACKAGE_VERSION "{VERSION}")\n'),
         (ROOT / "CHANGELOG.md", f"\n## [{VERSION}] - "),
     ):
         assert text in path.read_text(), path
