@@ -44,11 +44,18 @@ def worked_rows(name):
 
 def run(*words, **how):
     """Runs a command and returns its CompletedProcess. By default, its input is empty, its output is captured as bytes,
-    and it is killed after SECONDS. `how` are keyword arguments of subprocess.run, which change this or add to it."""
+    and it is killed after SECONDS. `how` are keyword arguments of subprocess.run, which change this or add to it. Skips
+    the test if the command is a name, not a path, and not installed."""
     if how.get("input") is None:
         how.setdefault("stdin", subprocess.DEVNULL)
     how = {"stdout": subprocess.PIPE, "stderr": subprocess.PIPE, "timeout": SECONDS, **how}
-    return subprocess.run([word if isinstance(word, bytes) else str(word) for word in words], **how)
+    words = [word if isinstance(word, bytes) else str(word) for word in words]
+    try:
+        return subprocess.run(words, **how)
+    except FileNotFoundError:
+        if "/" not in words[0]:
+            need(words[0])
+        raise
 
 
 def write(path, text, mode=None):
@@ -158,7 +165,6 @@ def preload(folder, **variables):
     has `variables`, which choose what these functions do. The first call for a `folder` compiles preload.c into it."""
     library = folder / "preload.so"
     if not library.exists():
-        need("cc")
         run("cc", "-shared", "-fPIC", "-O1", "-o", library, ROOT / "tests/preload.c", "-ldl", check=True)
     return {**os.environ, "LD_PRELOAD": str(library), **variables}
 

@@ -116,7 +116,6 @@ def answers_of(*command, count=LARGE):
 
 
 def test_examples_in_c_and_cxx_are_built_by_pkg_config():
-    need("pkg-config")
     assert PREFIX.make("pkg-config", "--modversion", "ffosolve").stdout.strip() == VERSION
     flags = shlex.split(PREFIX.make("pkg-config", "--cflags", "--libs", "ffosolve").stdout)
     source = PREFIX.shipped / "examples/c/answers.c"
@@ -129,7 +128,6 @@ def test_examples_in_c_and_cxx_are_built_by_cmake():
     """The CMake code of docs/library.md links one program with the static library; CMAKE, the text around it, finds the
     package once more, and links two with the shared library. The command cmake fails if the code asks for a newer or
     exactly another version than is installed, and without the static library."""
-    need("cmake")
     (first, second, _), (block, _) = VERSION.split("."), shown("cmake")
     for name in ("answers.c", "answers.cpp"):
         PREFIX.write(f"cmake/{name}", (PREFIX.shipped / "examples/c/answers.c").read_text())
@@ -209,7 +207,6 @@ def test_pip_installs_the_packages_program():
 
 
 def test_a_library_of_another_version_or_without_a_call_is_refused():
-    need("cc")
     older, lacking = "has version 20000, not 1.x.y", "is not this package's library"
     for missing, number, why in (("", 10203, ""), ("", 20000, older), ("ffosolve_play", 10203, lacking)):
         calls = PREFIX.calls - {missing}
@@ -253,14 +250,12 @@ def test_the_wheel_and_the_source_archive_are_fit_to_be_published():
     assert fields["Version"] == ffosolve.__version__
     assert fields["Description-Content-Type"] == "text/markdown"
     assert fields.get_payload() == inspect.getdoc(ffosolve) + "\n"
-    need("twine")
     ran = run("twine", "check", "--strict", *paths)
     assert (ran.returncode, ran.stdout.count(b"PASSED")) == (0, 2), ran
 
 
 @pytest.mark.parametrize("features", [(), ("--features", "shared")])
 def test_the_crates_own_tests_pass_with_either_library(features):
-    need("readelf")
     ran = PREFIX.cargo("test", "--no-run", *features)
     assert "warning" not in ran.stderr
     program = re.search(r"Executable tests/calls.rs \((.*)\)", ran.stderr)[1]

@@ -48,7 +48,7 @@ def made(target, folder, *names, **how):
 def dist(shared_folder):
     """Archives of two checkouts that differ in path, times, umask, locale and time zone; the first archive, unpacked;
     their versions and names; and an environment without rt."""
-    need("make", "git", "rt")
+    need("rt")
     first = copied_checkout(shared_folder / "a")
     run("sh", "-euc", f"git init -q; git add VERSION; {COMMIT}; {COMMIT_ALL}", cwd=first, check=True)
     second = shutil.copytree(first, shared_folder / "another place")
@@ -212,7 +212,6 @@ def test_the_program_for_the_level_that_the_loader_reports_replaces_its_starter(
 
 def needs_libc_alone(path):
     """Asserts that a program or library needs no shared library but libc.so.6, and no glibc newer than 2.34."""
-    need("readelf")
     printed = run("readelf", "-d", "-V", path, text=True).stdout
     versions = re.findall(r"GLIBC_([\d.]+)", printed)
     assert max(tuple(map(int, version.split("."))) for version in versions) <= (2, 34), path
@@ -275,7 +274,7 @@ def test_an_empty_environment_needs_only_the_wheel(dist, wheel, folder):
         needs_libc_alone(path)
     for library in libraries[is_v3()::-1]:  # the other one, too, as if the processor were of the lower level
         env = {"PATH": f"{folder}/empty/bin:/usr/bin:/bin"}
-        found = is_used(partial(run, env=env, text=True), dist.version, package.parent)
+        found = is_used(partial(run, "env", env=env, text=True), dist.version, package.parent)
         assert found == (str(library), str(library.parent))
         library.unlink()
     run(*pip, "uninstall", "-y", "ffosolve", check=True)
@@ -323,7 +322,6 @@ def test_a_change_that_is_not_committed_is_refused(dist):
 @pytest.fixture(scope="module")
 def packages(dist):
     """Returns the paths of the packages for Debian, by their names."""
-    need("dpkg-checkbuilddeps")
     missing = run("dpkg-checkbuilddeps", ROOT / "debian/control", text=True)
     if missing.returncode:
         pytest.skip(missing.stderr)
@@ -333,7 +331,6 @@ def packages(dist):
 
 
 def test_lintian_finds_nothing_but_functions_that_gcc_would_guard(packages):
-    need("lintian")
     words = ("lintian", "--display-info", "--pedantic", "--tag-display-limit", "0", "--allow-root")
     ran = run(*words, *packages.values(), text=True, timeout=300)
     tags = set(re.findall("^(.: .*?: .*?)(?: .*)?$", ran.stdout, re.M))
@@ -443,7 +440,6 @@ def test_apt_installs_them_and_removes_all_of_them(dist, packages, folder):
 
 def test_an_empty_debian_upgrades_the_single_package_of_before_and_goes_back(dist, packages, folder):
     """Up to version 1.1, one package had the files of all."""
-    need("debootstrap")
     system, empty = System(str(folder / "empty")), folder / "empty"
     if run("debootstrap", "--variant=minbase", "bookworm", empty, timeout=800).returncode:
         pytest.skip("a mirror of Debian, or a right that debootstrap needs, is missing")

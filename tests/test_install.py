@@ -22,7 +22,6 @@ LESSER = ("qemu-x86_64", "-cpu", "Nehalem")  # runs a command on a processor of 
 
 @pytest.fixture(scope="module")
 def checkout(shared_folder):
-    need("make", "git")
     return copied_checkout(shared_folder / "a checkout")
 
 
@@ -89,7 +88,6 @@ def test_everything_is_installed_for_everybody(place):
 def test_in_other_folders_everything_is_found(place, bins, libs, include):
     """The scripts find package and library without the documents, too, and the files for pkg-config and CMake name the
     folder of the header. pkg-config names no folder of the system."""
-    need("pkg-config")
     place.install(f"BINDIR={bins}", "MANDIR=/m", f"LIBDIR={libs}", f"INCLUDEDIR={include}")
     flags = [f"-{letter}{folder}" for letter, folder in zip("IL", (include, libs)) if not folder.startswith("/usr/")]
     bins, libs, include = (Path(f"{place.stage}{folder}") for folder in (bins, libs, include))
@@ -198,7 +196,6 @@ def test_without_programs_and_rt_nothing_is_installed(place, folder):
 
 
 def test_programs_run_on_their_level_and_the_loader_reports_a_lower_one(place):
-    need("qemu-x86_64", "readelf")
     for level, lesser in zip(LEVELS, ("core2duo,+cx16,+lahf-lm", "Nehalem")):
         place.install(f"CPU={level}")
         for name in ("ffosolve", "ffoscores"):
@@ -212,7 +209,6 @@ def test_programs_run_on_their_level_and_the_loader_reports_a_lower_one(place):
 
 
 def test_libffosolve_a_is_for_the_lower_level(place):
-    need("qemu-x86_64", "cc")
     masks, wanted = ((ROOT / f"examples/{name}.txt").read_text().splitlines()[:4] for name in ("masks", "answers"))
     for level in LEVELS:
         place.install(f"CPU={level}")
@@ -225,7 +221,6 @@ def test_libffosolve_a_is_for_the_lower_level(place):
 
 
 def test_the_loader_picks_the_library_of_the_best_level(installed, monkeypatch):
-    need("qemu-x86_64", "readelf")
     for level, lib in zip(LEVELS, ("lib", "lib/glibc-hwcaps/x86-64-v3")):
         library = PREFIX.folder / lib / "libffosolve.so"
         assert re.search(rf"ISA needed: .*{level}\n", run("readelf", "-n", library, text=True).stdout)
@@ -320,7 +315,6 @@ def options_of(texts, name):
 
 
 def test_manual_pages_show_each_option_without_a_warning(texts):
-    need("man")
     for name in COMMANDS:
         page = texts / f"share/man/man1/{name}.1"
         shown = run("man", "--warnings", "-E", "ascii", "-l", page, text=True)
@@ -342,7 +336,6 @@ def test_the_manual_page_of_ffosolve_games_has_its_commands_and_their_statuses(t
 def offered(*words):
     """Runs `words`: BASH or FISH, and a command's words, of which the last is to be completed. Returns {completion:
     description} of the completions that the shell prints."""
-    need(words[0])
     ran = run(*words, text=True)
     assert (ran.returncode, ran.stderr) == (0, "")
     return dict(line.partition("\t")[::2] for line in sorted(ran.stdout.splitlines()) if line)

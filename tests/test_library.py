@@ -13,7 +13,7 @@ from ffosolve._refusals import REFUSALS, OtherRefusal
 from tests.games import random_positions
 from tests.library import LANGUAGES, Calls, declarations
 from tests.prefix import LONGEST, NUMBER, PREFIX, STRICT, VERSION, C
-from tests.support import built, limited, need, run, stored, worked_rows
+from tests.support import built, limited, run, stored, worked_rows
 
 pytestmark = pytest.mark.usefixtures("installed")
 COMPILERS = [*itertools.product(("cc", "clang"), ("c90", "c99", "c11", "c17", "c2x"), ("c",)),
@@ -81,7 +81,6 @@ fn main() {
 
 def test_it_exports_and_the_crate_declares_exactly_the_calls_of_the_header():
     assert set(re.findall(r"pub fn (ffosolve_\w+)", stored("rust/src/raw.rs").decode())) == PREFIX.calls
-    need("nm")
     for words in (["-D", PREFIX.shared], ["-g", PREFIX.archive]):
         exported = {*re.findall(r" T (\w+)", PREFIX.make("nm", "--defined-only", *words).stdout)}
         assert exported == PREFIX.calls
@@ -89,7 +88,6 @@ def test_it_exports_and_the_crate_declares_exactly_the_calls_of_the_header():
 
 
 def test_the_shared_object_has_its_names_and_needs_only_the_c_library():
-    need("readelf")
     major = VERSION.split(".")[0]
     for name in ("libffosolve.so", f"libffosolve.so.{major}"):
         assert (PREFIX.libraries / name).resolve().name == f"libffosolve.so.{VERSION}"
@@ -101,7 +99,6 @@ def test_the_shared_object_has_its_names_and_needs_only_the_c_library():
 
 
 def test_swig_wraps_the_header():
-    need("swig")
     include = '%include "stdint.i"\n%include "ffosolve.h"\n'
     PREFIX.write("wrap.i", '%module wrap\n%{\n#include "ffosolve.h"\n%}\n' + include)
     PREFIX.make("swig", "-Wall", "-Werror", "-python", f"-I{PREFIX.header.parent}", "wrap.i")
