@@ -15,7 +15,7 @@ from tests.library import LANGUAGES, Calls, declarations
 from tests.prefix import LONGEST, NUMBER, PREFIX, STRICT, VERSION, C
 from tests.support import built, limited, run, stored, worked_rows
 
-pytestmark = pytest.mark.usefixtures("installed")
+pytestmark = [pytest.mark.usefixtures("installed"), pytest.mark.filterwarnings("ignore::ffosolve.ReadingWarning")]
 COMPILERS = [*itertools.product(("cc", "clang"), ("c90", "c99", "c11", "c17", "c2x"), ("c",)),
              *itertools.product(("c++", "clang++"), ("c++11", "c++14", "c++17", "c++20"), ("cpp",))]
 # The texts of the header that Python does not have.
@@ -322,7 +322,6 @@ def text():
     return b"\n".join(lines)
 
 
-@pytest.mark.filterwarnings("ignore::ffosolve.ReadingWarning")
 def test_python_and_c_read_worked_and_odd_lines_alike(call, text):
     worked = {number: cell.decode() for number, cell in enumerate(COLUMNS["read"], 1) if cell}
     for lines, wanted in ((b"\n".join(LINES), worked), (text, read(text, row))):
@@ -332,7 +331,6 @@ def test_python_and_c_read_worked_and_odd_lines_alike(call, text):
         assert {number: what for number, what in enumerate(found, 1) if what != [8]} == read(lines, in_c)
 
 
-@pytest.mark.filterwarnings("ignore::ffosolve.ReadingWarning")
 def test_the_report_of_odd_lines_is_what_python_finds(text):
     ran = run(built(), "--max-empties=20", input=text, check=True, timeout=LONGEST)
     report = ran.stdout.decode().splitlines()[1:-1]

@@ -6,14 +6,13 @@ import graphlib
 import re
 import symtable
 
-from tests.support import ROOT, ends, need, run, stored, write
+from tests.prefix import names_of_files
+from tests.support import ROOT, run, stored, write
 
 
 def scripts(language):
-    """Returns the paths of files whose first line names an interpreter; the pattern `language` matches its name."""
-    found = (path for folder in "bin bench packaging python scripts share tests .ci".split()
-             for path in (ROOT / folder).rglob("*") if path.is_file())
-    return [path for path in found if re.match(rf"#!.*\b{language}\n".encode(), path.read_bytes())]
+    """Returns the names of files whose first line names an interpreter; the pattern `language` matches its name."""
+    return [name for name in names_of_files() if re.match(rf"#!.*\b{language}\n".encode(), stored(name))]
 
 
 def accepts(*words):
@@ -64,9 +63,9 @@ def test_a_name_of_the_package_stands_for_one_thing():
 
 def test_no_line_of_the_crates_has_more_than_160_columns():
     """A wrong body is one line of its file, however long it is."""
-    need("git")
-    long = ("git", "grep", "-InE", "^.{161}", "--", "crates", ":!crates/*/must-fail/*")
-    ends((1, "", ""), "env", "LC_ALL=C.UTF-8", *long, cwd=ROOT)
+    for name in names_of_files():
+        if name.startswith("crates/") and "/must-fail/" not in name:
+            assert max(map(len, stored(name).decode().split("\n"))) <= 160, name
 
 
 def test_no_test_module_imports_another():
