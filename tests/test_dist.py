@@ -16,6 +16,7 @@ from tests.prefix import (
     print_what_is_shown)
 from tests.support import ROOT, ends, is_v3, need, run, stored, unshared, write
 
+MAKE = ("make", "-s", f"PYTHON={sys.executable}")
 COMMIT = "GIT_COMMITTER_DATE='1700000000 +0000' git -c user.name=a -c user.email=a@b commit -q -m one"
 COMMIT_ALL = f"git init -q; git add -A; {COMMIT}"
 PACKAGES = ["ffosolve", "libffosolve-dev", "libffosolve1", "python3-ffosolve"]
@@ -32,15 +33,11 @@ print(os.path.dirname(ffosolve._processes.program("ffosolve", solver._call(None)
 """
 
 
-def make(target, folder, **how):
-    return run("make", "-s", "-C", folder, target, f"PYTHON={sys.executable}", text=True, timeout=300, **how)
-
-
 def made(target, folder, *names, **how):
     """Runs make for a target in the checkout `folder`. Asserts that make prints only that it made the files `names` in
     out; returns the first one's path."""
-    paths, ran = [folder / "out" / name for name in names], make(target, folder, **how)
-    assert (ran.returncode, ran.stdout, ran.stderr) == (0, "".join(f"made: {path}\n" for path in paths), "")
+    paths = [folder / "out" / name for name in names]
+    ends((0, "".join(f"made: {path}\n" for path in paths), ""), *MAKE, "-C", folder, target, timeout=300, **how)
     return paths[0]
 
 
@@ -302,7 +299,7 @@ def test_without_a_commit_no_package_is_made(folder, target):
     run("cp", "-r", *(ROOT / name for name in ("Makefile", "packaging", "VERSION", "python")), "copy", check=True)
     for before, environment in (("true", {"PATH": path_without("git", folder)}), ("true", {}), ("git init -q", {})):
         run("sh", "-euc", before, cwd="copy", check=True)
-        ran = make(target, "copy", env={**os.environ, **environment})
+        ran = run(*MAKE, "-C", "copy", target, env={**os.environ, **environment}, text=True)
         assert (ran.returncode, ran.stdout) == (2, ""), ran
         assert "a package needs a git commit, which it names\n" in ran.stderr, ran
 
@@ -312,7 +309,7 @@ def test_a_change_that_is_not_committed_is_refused(dist):
     content = archive.read_bytes()
     archive.unlink()
     write(dist.second / "README.md", "\n")
-    ran = make("dist", dist.second)
+    ran = run(*MAKE, "-C", dist.second, "dist", text=True)
     assert (ran.returncode, ran.stdout) == (2, "")
     assert ran.stderr.startswith("not committed: M README.md\n"), ran.stderr
     assert not archive.exists()
