@@ -19,27 +19,21 @@ def declarations():
     return text.replace("FFOSOLVE_MUST_USE", "")
 
 
-def module(name, declared, source, *words, language="c"):
-    """Makes a module of the header and the C code `source`, linked by `words`. Returns its (ffi, lib), which have what
-    `declared` declares."""
-    maker, include = pytest.importorskip("cffi").FFI(), sysconfig.get_path("include")
-    need(f"{include}/Python.h")  # Debian: python3-dev
-    maker.cdef(declared)
-    maker.set_source(name, f'#include "ffosolve.h"\n{source}')
-    maker.emit_c_code(str(PREFIX.work / f"{name}.c"))
-    compiler = [*LANGUAGES[language], "-shared", "-fPIC", "-I", include, "-I", PREFIX.header.parent]
-    path = PREFIX.compile(compiler, f"{name}.so", [f"{name}.c"], "-x", "none", *words)
-    made = importlib.util.module_from_spec(importlib.util.spec_from_file_location(name, path))
-    return made.ffi, made.lib
-
-
 class Calls:
     """call(NAME, *INPUTS) calls ffosolve_NAME of the installed libffosolve.a."""
 
-    def __init__(self, name, declared="", source="", *words, language="c"):
-        """`declared`, `source` and `words` are as for `module`, beside the header's declarations and the library."""
-        declared, words = declarations() + declared, (PREFIX.archive, *words)
-        self.ffi, self.lib = module(name, declared, source, *words, language=language)
+    def __init__(self, name, declared, source="", *words, language="c"):
+        """Makes a module of the header, the C code `source` and the library, linked by `words`, too. Its `ffi` and
+        `lib` have what `declared` declares."""
+        maker, include = pytest.importorskip("cffi").FFI(), sysconfig.get_path("include")
+        need(f"{include}/Python.h")  # Debian: python3-dev
+        maker.cdef(declared)
+        maker.set_source(name, f'#include "ffosolve.h"\n{source}')
+        maker.emit_c_code(str(PREFIX.work / f"{name}.c"))
+        compiler = [*LANGUAGES[language], "-shared", "-fPIC", "-I", include, "-I", PREFIX.header.parent]
+        path = PREFIX.compile(compiler, f"{name}.so", [f"{name}.c"], "-x", "none", PREFIX.archive, *words)
+        made = importlib.util.module_from_spec(importlib.util.spec_from_file_location(name, path))
+        self.ffi, self.lib = made.ffi, made.lib
 
     def __call__(self, *words):
         """Makes the call for each combination of `words`, of which a list has alternatives. Returns what `made`

@@ -20,16 +20,11 @@ SECONDS = 55  # the time limit of a command or a wait, unless a test sets its ow
 MOST_BYTES = 1_048_576  # the size of the largest file that the programs read, as documented
 
 
-def lack(what):
-    """Skips the test: `what` is missing."""
-    pytest.skip(f"{what} is missing")
-
-
 def need(*tools):
     """Skips the test if one of `tools`, commands or absolute paths of files, is not installed."""
     for tool in tools:
         if not (os.path.exists(tool) if "/" in tool else shutil.which(tool)):
-            lack(tool)
+            pytest.skip(f"{tool} is missing")
 
 
 def stored(*path):
@@ -49,11 +44,18 @@ def worked_rows(name):
 
 def run(*words, **how):
     """Runs a command and returns its CompletedProcess. By default, its input is empty, its output is captured as bytes,
-    and it is killed after SECONDS. `how` are keyword arguments of subprocess.run, which change this or add to it."""
+    and it is killed after SECONDS. `how` are keyword arguments of subprocess.run, which change this or add to it. Skips
+    the test if the command is a name, not a path, and not installed."""
     if how.get("input") is None:
         how.setdefault("stdin", subprocess.DEVNULL)
     how = {"stdout": subprocess.PIPE, "stderr": subprocess.PIPE, "timeout": SECONDS, **how}
-    return subprocess.run([word if isinstance(word, bytes) else str(word) for word in words], **how)
+    words = [word if isinstance(word, bytes) else str(word) for word in words]
+    try:
+        return subprocess.run(words, **how)
+    except FileNotFoundError:
+        if "/" not in words[0]:
+            need(words[0])
+        raise
 
 
 def write(path, text, mode=None):
@@ -71,7 +73,7 @@ def unshared():
     """The words before a command that may mount file systems and change its root. Skips the test if that is refused."""
     words = ("unshare", *["--map-root-user"] * bool(os.getuid()), "--mount")
     if run(*words, "mount", "-t", "tmpfs", "none", "/tmp").returncode:
-        lack("a right to mount file systems")
+        pytest.skip("a right to mount file systems is missing")
     return words
 
 
@@ -163,7 +165,6 @@ def preload(folder, **variables):
     has `variables`, which choose what these functions do. The first call for a `folder` compiles preload.c into it."""
     library = folder / "preload.so"
     if not library.exists():
-        need("cc")
         run("cc", "-shared", "-fPIC", "-O1", "-o", library, ROOT / "tests/preload.c", "-ldl", check=True)
     return {**os.environ, "LD_PRELOAD": str(library), **variables}
 

@@ -46,11 +46,6 @@ SPOIL = "echo 'rt: the kept work of ffosolve cannot be used: remove it'; exit 1\
 # A fake linker and assembler: copies its first input to its output.
 COPY = '#!/bin/sh\nwhile [ "$1" != -o ]; do shift; done\ncp "$3" "$2" && chmod +x "$2"\n'
 LEVEL = LEVELS[is_v3()]
-# What make says if the command `false` is to be the Python for the tests.
-MODULES = ("psutil", "pytest", "pytest-timeout", "pytest-xdist")
-INSTALL = f"apt-get install {' '.join(f'python3-{name}' for name in MODULES)}\n"
-NO_MODULES = "".join(f"false has no {name}; Debian's package python3-{name} has it for /usr/bin/python3\n"
-                     for name in MODULES)
 HOW = {"text": True, "cwd": "/"}
 
 
@@ -66,7 +61,7 @@ class Checkout:
         needs = "".join(f"{name}: othello_rules\n" for name in users)
         write(self.root / "crates.txt", f"# low first\nothello_rules: std\n{needs}")
         files = ("bin", "packaging", "include", "scripts", "Makefile", "VERSION")
-        run("cp", "-r", *(ROOT / name for name in files), self.root, check=True)
+        run("cp", "-r", *files, self.root, cwd=ROOT, check=True)
         self.rt, self.link = write(self.tools / "rt", RT), write(self.kit / "bin/rattle-link", COPY)
         write(self.kit / "toolchain/bin/clang", COPY)
         self.starts = write(folder / "starts", "")
@@ -87,27 +82,18 @@ class Checkout:
     def builds(self):
         return self.starts.read_text().count("start")
 
-    def started(self, ran, text, words="<w>", builds=None):
+    def started(self, ran, text, builds, words="<w>"):
         """Asserts that the run `ran` started a program that was built from the source `text` and printed its arguments
-        as `words`, and that there were `builds` builds so far (None: any). Returns the run's standard error."""
+        as `words`, and that there were `builds` builds so far. Returns the run's standard error."""
         assert (ran.returncode, ran.stdout) == (3, f"made of {text}\n{words}/\nread\n"), ran.stderr
-        assert self.builds() == builds or builds is None
+        assert self.builds() == builds
         return ran.stderr
 
     def after(self, change, text, builds, **environment):
         """Runs the shell command `change` in the folder of the crate ffosolve, then `script`. Checks this run with
         `started`, which gets `text` and `builds`, and returns the run's standard error."""
         run("sh", "-euc", change, cwd=self.root / "crates/ffosolve", check=True)
-        return self.started(self.use(**environment), text, builds=builds)
-
-    def on_a_terminal(self, keys, go=False):
-        """Runs `script` on a terminal while the fake rt waits. When the first crate is named, ends the wait if `go` is
-        true, and types `keys`. Returns (output, status)."""
-        how = {**HOW, "stdin": subprocess.PIPE, "env": {**os.environ, "ACTS": WAIT}}
-        ran = self.start("script", "-qec", f"exec '{self.script}' w", "/dev/null", **how)
-        output = "".join(iter(ran.stdout.readline, "ffosolve: 0 min, 0 of 2 crates proved, now othello_rules\n"))
-        go and Path("starts.go").touch()
-        return output + ran.communicate(keys, timeout=SECONDS)[0], ran.returncode
+        return self.started(self.use(**environment), text, builds)
 
 
 @pytest.fixture
@@ -127,8 +113,7 @@ def is_refused(ran, words, before="(.*\n)*"):
 
 
 def test_the_first_use_of_each_program_builds_it_and_later_ones_only_run_it(folder, checkout):
-    """Runs ffosolve by its path, ffosolve and ffoscores through symlinks, and `sh ffosolve` in the folder bin/."""
-    printed = checkout.started(checkout.use("one", "a b"), 1, "<one><a b>", builds=1)
+    printed = checkout.started(checkout.use("one", "a b"), 1, builds=1, words="<one><a b>")
     assert all(line.startswith("ffosolve: ") for line in printed.splitlines()), printed
     for words in ("minutes", "GB", str(checkout.log), "ffosolve: 0 min, 0 of 2 crates proved, now othello_rules\n"
                   "ffosolve: 0 min, 1 of 2 crates proved, now ffosolve\n"):
@@ -228,22 +213,24 @@ def test_later_runs_say_that_they_wait_and_only_one_builds_if_the_first_fails(ch
 
 
 def test_a_missing_tool_is_reported_and_so_is_another_kit_which_is_tried(folder, checkout):
-    ran = checkout.use(PATH="/usr/bin:/bin")
-    is_refused(ran, "rt (rattle-kit-13b or rattle-kit-13f) is not on the path", before="")
+    no_rt = "rt (rattle-kit-13b or rattle-kit-13f) is not on the path"
+    no_ld = "ld is missing; Debian's package binutils has it\n"
+    modules = ("psutil", "pytest", "pytest-timeout", "pytest-xdist")
+    no_modules = "".join(f"false has no {name}; Debian's package python3-{name} has it for /usr/bin/python3\n"
+                         for name in modules)
+    packages = " ".join(f"python3-{name}" for name in modules)
+    is_refused(checkout.use(PATH="/usr/bin:/bin"), no_rt, before="")
     ran = checkout.use(PATH=f"{checkout.tools}:{path_without('make', folder)}")
     assert (ran.returncode, ran.stdout, ran.stderr.count("\n")) == (4, "", 1), ran
     assert "make" in ran.stderr
-    no_rt = "rt (rattle-kit-13b or rattle-kit-13f) is not on the path"
-    no_ld = "ld is missing; Debian's package binutils has it\n"
-    without_ld = f"PATH={checkout.tools}:{path_without('ld', folder)}"
+    without = ("PYTHON=false", f"PATH={checkout.tools}:{path_without('ld', folder)}")
     for error, *words in (*((no_rt, target, "PATH=/usr/bin:/bin") for target in ("look", "check", "all")),
-                          (f"{no_ld}{NO_MODULES}{INSTALL.replace('install', 'install binutils')}", "check",
-                           "PYTHON=false", without_ld),
-                          (f"{no_ld}apt-get install binutils\n", "all", "PYTHON=false", without_ld)):
+                          (f"{no_ld}{no_modules}apt-get install binutils {packages}\n", "check", *without),
+                          (f"{no_ld}apt-get install binutils\n", "all", *without)):
         ran = checkout.make(*words)
         assert (ran.returncode, ran.stdout) == (2, ""), ran
         assert ran.stderr.startswith(error), ran
-    assert {*INSTALL.split()} <= {*stored("README.md").decode().split()}
+    assert {"apt-get", "install", *packages.split()} <= {*stored("README.md").decode().split()}
     assert checkout.builds() == 0
     for builds, kit in enumerate(("rattle-kit-13b", "rattle-kit-13f", "rattle-kit-14a", "rattle-kit-13"), 1):
         printed = checkout.after(f"echo {builds} >src/main.rt", builds, builds, KIT=kit)
@@ -308,7 +295,7 @@ def test_a_full_disk_is_reported_and_the_next_run_builds(checkout):
     for filled in (40960, 20000):
         words = [*unshared(), "sh", "-c", small, "sh", filled, checkout.script]
         is_refused(run(*words, **{**HOW, "cwd": checkout.root}), "written")
-    checkout.started(checkout.use(), 1)
+    checkout.started(checkout.use(), 1, builds=3)
 
 
 def test_in_a_checkout_of_another_user_a_built_program_runs_and_no_other_is_built(checkout):
@@ -345,11 +332,16 @@ def test_a_signal_ends_the_build_and_the_run_that_waits(checkout):
 
 
 def test_on_a_terminal_progress_is_shown_and_ctrl_c_ends_all(checkout):
-    output, status = checkout.on_a_terminal("\x03")
-    assert status == 128 + signal.SIGINT, output
-    wait_until(lambda: not processes_in(checkout.root))
-    output, status = checkout.on_a_terminal("\x04", go=True)
-    assert ("made of 1" in output, status) == (True, 3), output
+    """Keys are typed when the first crate is named: Ctrl-C, or the end of the input for the program."""
+    how = {**HOW, "stdin": subprocess.PIPE, "env": {**os.environ, "ACTS": WAIT}}
+    for keys, goes_on, status in (("\x03", False, 128 + signal.SIGINT), ("\x04", True, 3)):
+        ran = checkout.start("script", "-qec", f"exec '{checkout.script}' w", "/dev/null", **how)
+        output = "".join(iter(ran.stdout.readline, "ffosolve: 0 min, 0 of 2 crates proved, now othello_rules\n"))
+        if goes_on:
+            Path("starts.go").touch()
+        output += ran.communicate(keys, timeout=SECONDS)[0]
+        assert ("made of 1" in output, ran.returncode) == (goes_on, status), output
+        wait_until(lambda: not processes_in(checkout.root))
 
 
 def test_each_level_is_proved_once_and_a_new_version_only_links_the_library_again(checkout):

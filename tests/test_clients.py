@@ -15,7 +15,7 @@ import pytest
 import ffosolve
 from tests.games import NAMES, masks_after, random_games, squares_of, transcript_rows
 from tests.prefix import CXX, PIP, PREFIX, VERSION, C
-from tests.support import ROOT, built, ends, lack, need, preload, run, stored
+from tests.support import ROOT, built, ends, need, preload, run, stored
 
 pytestmark = pytest.mark.usefixtures("installed")
 PAGE = "docs/check-evaluation.md"  # its program reads a list of positions, and their scores
@@ -116,7 +116,6 @@ def answers_of(*command, count=LARGE):
 
 
 def test_examples_in_c_and_cxx_are_built_by_pkg_config():
-    need("pkg-config")
     assert PREFIX.make("pkg-config", "--modversion", "ffosolve").stdout.strip() == VERSION
     flags = shlex.split(PREFIX.make("pkg-config", "--cflags", "--libs", "ffosolve").stdout)
     source = PREFIX.shipped / "examples/c/answers.c"
@@ -129,7 +128,6 @@ def test_examples_in_c_and_cxx_are_built_by_cmake():
     """The CMake code of docs/library.md links one program with the static library; CMAKE, the text around it, finds the
     package once more, and links two with the shared library. The command cmake fails if the code asks for a newer or
     exactly another version than is installed, and without the static library."""
-    need("cmake")
     (first, second, _), (block, _) = VERSION.split("."), shown("cmake")
     for name in ("answers.c", "answers.cpp"):
         PREFIX.write(f"cmake/{name}", (PREFIX.shipped / "examples/c/answers.c").read_text())
@@ -173,16 +171,6 @@ def test_the_example_in_rust_runs():
     answers_of(PREFIX.work / "target/debug/examples/answers")
 
 
-def command_of(language, block):
-    """Builds a block of code, unless it is in Python; returns the words of a command that runs the block."""
-    if language == "python":
-        return PREFIX.site and sys.executable, "-c", block
-    if language == "rust":
-        program = f"fn main() -> Result<(), Box<dyn std::error::Error>> {{\n{block}Ok(())\n}}\n"
-        return [PREFIX.rust_client("readme", program)]
-    return [PREFIX.compile(C if language == "c" else CXX, "shown", [PREFIX.write(f"shown.{language}", block)])]
-
-
 @pytest.mark.parametrize("language, names", [
     ("c", []), ("cpp", []), *(("python", [name]) for name in ("README.md", "docs/library.md", PAGE)), ("rust", []),
 ])
@@ -192,7 +180,14 @@ def test_each_program_of_the_documents_prints_what_is_shown(language, names):
     PREFIX.write("list.scores", run(built("ffoscores"), input=listed.encode()).stdout)
     block, wanted = shown(language, *names)
     assert wanted != ""
-    assert PREFIX.make(*command_of(language, block)).stdout == wanted
+    if language == "python":
+        command = [PREFIX.site and sys.executable, "-c", block]
+    elif language == "rust":
+        program = f"fn main() -> Result<(), Box<dyn std::error::Error>> {{\n{block}Ok(())\n}}\n"
+        command = [PREFIX.rust_client("readme", program)]
+    else:
+        command = [PREFIX.compile(C if language == "c" else CXX, "shown", [PREFIX.write(f"shown.{language}", block)])]
+    assert PREFIX.make(*command).stdout == wanted
 
 
 def test_the_packages_own_tests_pass_where_it_is_installed():
@@ -212,7 +207,6 @@ def test_pip_installs_the_packages_program():
 
 
 def test_a_library_of_another_version_or_without_a_call_is_refused():
-    need("cc")
     older, lacking = "has version 20000, not 1.x.y", "is not this package's library"
     for missing, number, why in (("", 10203, ""), ("", 20000, older), ("ffosolve_play", 10203, lacking)):
         calls = PREFIX.calls - {missing}
@@ -256,14 +250,12 @@ def test_the_wheel_and_the_source_archive_are_fit_to_be_published():
     assert fields["Version"] == ffosolve.__version__
     assert fields["Description-Content-Type"] == "text/markdown"
     assert fields.get_payload() == inspect.getdoc(ffosolve) + "\n"
-    need("twine")
     ran = run("twine", "check", "--strict", *paths)
     assert (ran.returncode, ran.stdout.count(b"PASSED")) == (0, 2), ran
 
 
 @pytest.mark.parametrize("features", [(), ("--features", "shared")])
 def test_the_crates_own_tests_pass_with_either_library(features):
-    need("readelf")
     ran = PREFIX.cargo("test", "--no-run", *features)
     assert "warning" not in ran.stderr
     program = re.search(r"Executable tests/calls.rs \((.*)\)", ran.stderr)[1]
@@ -292,7 +284,7 @@ def test_the_compiler_that_the_manifest_names_takes_all_of_a_copy_of_the_crate_a
     oldest = re.search(r'^rust-version = "(.+)"$', (crate / "Cargo.toml").read_text(), re.MULTILINE)[1]
     folders = [folder for folder in os.get_exec_path() if os.path.exists(f"{folder}/rustc")
                and run(f"{folder}/rustc", "--version", text=True).stdout.startswith(f"rustc {oldest}.")]
-    folder = folders[0] if folders else lack(f"rustc {oldest}")
+    folder = folders[0] if folders else pytest.skip(f"rustc {oldest} is missing")
     places = {"RUSTC": f"{folder}/rustc", "CARGO_TARGET_DIR": str(PREFIX.work / "oldest/target")}
     words = "check", "--quiet", "--all-targets"
     PREFIX.make(f"{folder}/cargo", *words, cwd=crate, env={**PREFIX.environment, **places})
@@ -325,9 +317,8 @@ def test_rust_reads_transcripts_as_the_table_says_and_others_as_python():
     assert 100 < sum(" " in line for _, line in wanted[count:]) < 400
     program = PREFIX.rust_client("played", PLAYED_IN_RUST)
     printed = PREFIX.make(program, text="".join(f"{text}\0" for text, _ in wanted)).stdout.splitlines()
-    assert len(printed) == len(wanted)
-    for at, ((text, line), found) in enumerate(zip(wanted, printed)):
-        assert (found if at < count or " " in line else found.split(" ")[0]) == line, text
+    for (text, line), found in zip(wanted, printed, strict=True):
+        assert f"{found} ".startswith(f"{line} "), text
 
 
 def test_a_folder_without_the_library_is_refused_and_pkg_config_asked_only_if_none_is_named():

@@ -42,7 +42,6 @@ def test_a_crates_test_passes_or_reports_only_out_of_memory_at_each_refused_requ
 
 @pytest.mark.timeout(2700)
 def test_all_tests_are_in_one_crate_and_pass():
-    need("rt")
     sources = {path: path.read_text().count("#[test]") for path in ROOT.glob("crates/*/src/**/*.rt")}
     crate = ROOT / "crates/crate_tests"
     assert [path for path, count in sources.items() if count and crate not in path.parents] == []

@@ -14,8 +14,9 @@ import pytest
 from tests.prefix import (
     FIRST, FIRST_OBF, LEVELS, VERSION, completed_by_zsh, copied_checkout, files_below, path_without,
     print_what_is_shown)
-from tests.support import ROOT, ends, is_v3, lack, need, run, stored, unshared, write
+from tests.support import ROOT, ends, is_v3, need, run, stored, unshared, write
 
+MAKE = ("make", "-s", f"PYTHON={sys.executable}")
 COMMIT = "GIT_COMMITTER_DATE='1700000000 +0000' git -c user.name=a -c user.email=a@b commit -q -m one"
 COMMIT_ALL = f"git init -q; git add -A; {COMMIT}"
 PACKAGES = ["ffosolve", "libffosolve-dev", "libffosolve1", "python3-ffosolve"]
@@ -32,15 +33,11 @@ print(os.path.dirname(ffosolve._processes.program("ffosolve", solver._call(None)
 """
 
 
-def make(target, folder, **how):
-    return run("make", "-s", "-C", folder, target, f"PYTHON={sys.executable}", text=True, timeout=300, **how)
-
-
 def made(target, folder, *names, **how):
     """Runs make for a target in the checkout `folder`. Asserts that make prints only that it made the files `names` in
     out; returns the first one's path."""
-    paths, ran = [folder / "out" / name for name in names], make(target, folder, **how)
-    assert (ran.returncode, ran.stdout, ran.stderr) == (0, "".join(f"made: {path}\n" for path in paths), "")
+    paths = [folder / "out" / name for name in names]
+    ends((0, "".join(f"made: {path}\n" for path in paths), ""), *MAKE, "-C", folder, target, timeout=300, **how)
     return paths[0]
 
 
@@ -48,7 +45,7 @@ def made(target, folder, *names, **how):
 def dist(shared_folder):
     """Archives of two checkouts that differ in path, times, umask, locale and time zone; the first archive, unpacked;
     their versions and names; and an environment without rt."""
-    need("make", "git", "rt")
+    need("rt")
     first = copied_checkout(shared_folder / "a")
     run("sh", "-euc", f"git init -q; git add VERSION; {COMMIT}; {COMMIT_ALL}", cwd=first, check=True)
     second = shutil.copytree(first, shared_folder / "another place")
@@ -191,9 +188,8 @@ def test_the_commands_of_the_documents_run_on_the_path(dist, folder):
 
 def test_ffosolve_many_has_the_programs_of_both_levels(dist, folder):
     ends((0, FIRST, ""), dist.unpacked / "bin/ffosolve-many", "--quiet", "work", FIRST_OBF, env=dist.without_rt)
-    programs = [path.read_bytes() for path in sorted(Path("work").glob("ffosolve-?"))]
-    wanted = [dist.unpacked / f"lib/ffosolve/ffosolve-{level}" for level in LEVELS[::-1]]
-    assert programs == [path.read_bytes() for path in wanted]
+    for level, program in zip(LEVELS[::-1], sorted(Path("work").glob("ffosolve-?")), strict=True):
+        assert program.read_bytes() == (dist.unpacked / f"lib/ffosolve/ffosolve-{level}").read_bytes()
 
 
 def test_the_program_for_the_level_that_the_loader_reports_replaces_its_starter(dist, folder, start):
@@ -213,7 +209,6 @@ def test_the_program_for_the_level_that_the_loader_reports_replaces_its_starter(
 
 def needs_libc_alone(path):
     """Asserts that a program or library needs no shared library but libc.so.6, and no glibc newer than 2.34."""
-    need("readelf")
     printed = run("readelf", "-d", "-V", path, text=True).stdout
     versions = re.findall(r"GLIBC_([\d.]+)", printed)
     assert max(tuple(map(int, version.split("."))) for version in versions) <= (2, 34), path
@@ -267,7 +262,7 @@ def test_the_wheel_has_the_same_bytes_again(dist, wheel):
 
 def test_an_empty_environment_needs_only_the_wheel(dist, wheel, folder):
     if run("/usr/bin/python3", "-m", "venv", "empty", timeout=300).returncode:
-        lack("venv for /usr/bin/python3 (Debian: python3-venv)")
+        pytest.skip("venv for /usr/bin/python3 (Debian: python3-venv) is missing")
     pip, before = ("empty/bin/pip", "--disable-pip-version-check", "-q"), {*folder.glob("empty/**/*")}
     run(*pip, "install", "--no-index", wheel, timeout=300, check=True)
     package, = folder.glob("empty/lib/*/site-packages/ffosolve")
@@ -276,7 +271,7 @@ def test_an_empty_environment_needs_only_the_wheel(dist, wheel, folder):
         needs_libc_alone(path)
     for library in libraries[is_v3()::-1]:  # the other one, too, as if the processor were of the lower level
         env = {"PATH": f"{folder}/empty/bin:/usr/bin:/bin"}
-        found = is_used(partial(run, env=env, text=True), dist.version, package.parent)
+        found = is_used(partial(run, "env", env=env, text=True), dist.version, package.parent)
         assert found == (str(library), str(library.parent))
         library.unlink()
     run(*pip, "uninstall", "-y", "ffosolve", check=True)
@@ -304,7 +299,7 @@ def test_without_a_commit_no_package_is_made(folder, target):
     run("cp", "-r", *(ROOT / name for name in ("Makefile", "packaging", "VERSION", "python")), "copy", check=True)
     for before, environment in (("true", {"PATH": path_without("git", folder)}), ("true", {}), ("git init -q", {})):
         run("sh", "-euc", before, cwd="copy", check=True)
-        ran = make(target, "copy", env={**os.environ, **environment})
+        ran = run(*MAKE, "-C", "copy", target, env={**os.environ, **environment}, text=True)
         assert (ran.returncode, ran.stdout) == (2, ""), ran
         assert "a package needs a git commit, which it names\n" in ran.stderr, ran
 
@@ -314,7 +309,7 @@ def test_a_change_that_is_not_committed_is_refused(dist):
     content = archive.read_bytes()
     archive.unlink()
     write(dist.second / "README.md", "\n")
-    ran = make("dist", dist.second)
+    ran = run(*MAKE, "-C", dist.second, "dist", text=True)
     assert (ran.returncode, ran.stdout) == (2, "")
     assert ran.stderr.startswith("not committed: M README.md\n"), ran.stderr
     assert not archive.exists()
@@ -324,17 +319,15 @@ def test_a_change_that_is_not_committed_is_refused(dist):
 @pytest.fixture(scope="module")
 def packages(dist):
     """Returns the paths of the packages for Debian, by their names."""
-    need("dpkg-checkbuilddeps")
     missing = run("dpkg-checkbuilddeps", ROOT / "debian/control", text=True)
     if missing.returncode:
-        lack(missing.stderr)
+        pytest.skip(missing.stderr)
     names = {name: f"{name}_{dist.version}_{'all' if name.startswith('python3') else 'amd64'}.deb" for name in PACKAGES}
     made("deb", dist.first, *names.values())
     return {name: dist.first / "out" / names[name] for name in PACKAGES}
 
 
 def test_lintian_finds_nothing_but_functions_that_gcc_would_guard(packages):
-    need("lintian")
     words = ("lintian", "--display-info", "--pedantic", "--tag-display-limit", "0", "--allow-root")
     ran = run(*words, *packages.values(), text=True, timeout=300)
     tags = set(re.findall("^(.: .*?: .*?)(?: .*)?$", ran.stdout, re.M))
@@ -444,10 +437,9 @@ def test_apt_installs_them_and_removes_all_of_them(dist, packages, folder):
 
 def test_an_empty_debian_upgrades_the_single_package_of_before_and_goes_back(dist, packages, folder):
     """Up to version 1.1, one package had the files of all."""
-    need("debootstrap")
     system, empty = System(str(folder / "empty")), folder / "empty"
     if run("debootstrap", "--variant=minbase", "bookworm", empty, timeout=800).returncode:
-        lack("a mirror of Debian, or a right that debootstrap needs,")
+        pytest.skip("a mirror of Debian, or a right that debootstrap needs, is missing")
     for package in packages.values():
         run("dpkg-deb", "-x", package, "one", check=True)
     fields = f"Package: ffosolve\nVersion: {VERSION}\nArchitecture: amd64\nMaintainer: A <a@b>\nDescription: a\n"

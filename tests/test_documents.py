@@ -28,7 +28,6 @@ def ignored(names):
 
 @pytest.mark.parametrize("name", TEXTS)
 def test_commands_print_what_is_shown_and_leave_only_ignored_files(folder, name):
-    need("git")
     built()
     for linked in set(os.listdir(ROOT)).difference(ignored(os.listdir(ROOT))):
         if not linked.startswith("."):

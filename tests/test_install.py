@@ -10,11 +10,11 @@ from unittest import mock
 import pytest
 
 from tests.prefix import (
-    FIRST, FIRST_OBF, LEVELS, LONGEST, NUMBER, VERSION, completed_by_zsh, copied_checkout, files_below, names_of_files,
-    path_without)
+    FIRST, FIRST_OBF, LEVELS, LONGEST, NUMBER, PREFIX, VERSION, completed_by_zsh, copied_checkout, files_below,
+    names_of_files, path_without)
 from tests.support import NOBODY, ROOT, ends, is_v3, need, run, stored, write
 
-PREFIX = "/opt/a prefix"
+STAGED = "/opt/a prefix"  # the prefix of a Place
 COMMANDS = ["ffosolve", "ffoscores", "ffosolve-many", "ffosolve-games"]
 DOCUMENTS = "README.md|LICENSE|CHANGELOG.md|VERSION|(docs|examples|python|rust|crates/[^/]*/specs)/"
 LESSER = ("qemu-x86_64", "-cpu", "Nehalem")  # runs a command on a processor of the lower level
@@ -22,7 +22,6 @@ LESSER = ("qemu-x86_64", "-cpu", "Nehalem")  # runs a command on a processor of 
 
 @pytest.fixture(scope="module")
 def checkout(shared_folder):
-    need("make", "git")
     return copied_checkout(shared_folder / "a checkout")
 
 
@@ -32,13 +31,13 @@ def times(paths):
 
 
 class Place:
-    """The folder `stage`, into which make installs from the checkout `source`, and in it `root`, that of PREFIX."""
+    """The folder `stage`, into which make installs from the checkout `source`, and in it `root`, that of STAGED."""
 
     def __init__(self, source, stage):
-        self.source, self.stage, self.root = source, stage, Path(f"{stage}{PREFIX}")
+        self.source, self.stage, self.root = source, stage, Path(f"{stage}{STAGED}")
 
     def make(self, *words, **how):
-        words = ["make", "-s", "-C", self.source, f"PREFIX={PREFIX}", f"DESTDIR={self.stage}", *words]
+        words = ["make", "-s", "-C", self.source, f"PREFIX={STAGED}", f"DESTDIR={self.stage}", *words]
         return run(*words, text=True, timeout=LONGEST, **how)
 
     def install(self, *words, **how):
@@ -53,13 +52,6 @@ def place(checkout, folder):
     variables = {"PATH": os.environ["PATH"], "HOME": str(folder), "TMPDIR": str(folder)}
     with mock.patch.dict(os.environ, variables, clear=True):
         yield Place(checkout, folder / "stage")
-
-
-@pytest.fixture(scope="module")
-def root(checkout, shared_folder):
-    """The folder of a prefix, one for all tests that change nothing there."""
-    run("make", "-s", "-C", checkout, "install", f"PREFIX={shared_folder}/a prefix", check=True)
-    return shared_folder / "a prefix"
 
 
 def refused(ran, words):
@@ -90,13 +82,12 @@ def test_everything_is_installed_for_everybody(place):
 
 
 @pytest.mark.parametrize("bins, libs, include", (
-    ("/b", "/usr/lib/x86_64-linux-gnu", "/usr/include"), (f"{PREFIX}/bin", f"{PREFIX}/lib64", "/i"),
-    (f"{PREFIX}/bin", f"{PREFIX}/lib", f"{PREFIX}/include"), (f"{PREFIX}/b/b", f"{PREFIX}/lib/here", f"{PREFIX}/i"),
+    ("/b", "/usr/lib/x86_64-linux-gnu", "/usr/include"), (f"{STAGED}/bin", f"{STAGED}/lib64", "/i"),
+    (f"{STAGED}/bin", f"{STAGED}/lib", f"{STAGED}/include"), (f"{STAGED}/b/b", f"{STAGED}/lib/here", f"{STAGED}/i"),
 ))
 def test_in_other_folders_everything_is_found(place, bins, libs, include):
     """The scripts find package and library without the documents, too, and the files for pkg-config and CMake name the
     folder of the header. pkg-config names no folder of the system."""
-    need("pkg-config")
     place.install(f"BINDIR={bins}", "MANDIR=/m", f"LIBDIR={libs}", f"INCLUDEDIR={include}")
     flags = [f"-{letter}{folder}" for letter, folder in zip("IL", (include, libs)) if not folder.startswith("/usr/")]
     bins, libs, include = (Path(f"{place.stage}{folder}") for folder in (bins, libs, include))
@@ -205,7 +196,6 @@ def test_without_programs_and_rt_nothing_is_installed(place, folder):
 
 
 def test_programs_run_on_their_level_and_the_loader_reports_a_lower_one(place):
-    need("qemu-x86_64", "readelf")
     for level, lesser in zip(LEVELS, ("core2duo,+cx16,+lahf-lm", "Nehalem")):
         place.install(f"CPU={level}")
         for name in ("ffosolve", "ffoscores"):
@@ -219,7 +209,6 @@ def test_programs_run_on_their_level_and_the_loader_reports_a_lower_one(place):
 
 
 def test_libffosolve_a_is_for_the_lower_level(place):
-    need("qemu-x86_64", "cc")
     masks, wanted = ((ROOT / f"examples/{name}.txt").read_text().splitlines()[:4] for name in ("masks", "answers"))
     for level in LEVELS:
         place.install(f"CPU={level}")
@@ -231,27 +220,27 @@ def test_libffosolve_a_is_for_the_lower_level(place):
             assert (ran.returncode == 0, ran.stdout.splitlines()[:4] == wanted) == (is_for, is_for), ran
 
 
-def test_the_loader_picks_the_library_of_the_best_level(root, monkeypatch):
-    need("qemu-x86_64", "readelf")
+def test_the_loader_picks_the_library_of_the_best_level(installed, monkeypatch):
     for level, lib in zip(LEVELS, ("lib", "lib/glibc-hwcaps/x86-64-v3")):
-        library = root / lib / "libffosolve.so"
+        library = PREFIX.folder / lib / "libffosolve.so"
         assert re.search(rf"ISA needed: .*{level}\n", run("readelf", "-n", library, text=True).stdout)
-    monkeypatch.setenv("LD_LIBRARY_PATH", str(root / "lib"))
+    monkeypatch.setenv("LD_LIBRARY_PATH", str(PREFIX.libraries))
     list_libraries = ("/lib64/ld-linux-x86-64.so.2", "--preload", "libffosolve.so.1", "--list", "/usr/bin/true")
     for words, lib in ((), "lib/glibc-hwcaps/x86-64-v3" if is_v3() else "lib"), (LESSER, "lib"):
         ran = run(*words, *list_libraries, text=True)
-        assert f"libffosolve.so.1 => {root}/{lib}/libffosolve.so.1 " in ran.stdout, ran
+        assert f"libffosolve.so.1 => {PREFIX.folder}/{lib}/libffosolve.so.1 " in ran.stdout, ran
 
 
-def test_programs_pages_library_and_texts_have_the_version_of_the_file_version(root):
+def test_programs_pages_library_and_texts_have_the_version_of_the_file_version(place):
     assert re.search(r"\A\d+\.\d+\.\d+\Z", VERSION)
+    place.install()
     for name in COMMANDS:
-        ends((0, f"{name} {VERSION}\n", ""), root / "bin" / name, "--version")
-        page = (root / f"share/man/man1/{name}.1").read_text()
+        ends((0, f"{name} {VERSION}\n", ""), place.root / "bin" / name, "--version")
+        page = (place.root / f"share/man/man1/{name}.1").read_text()
         assert page.startswith(f'.TH {name.upper()} 1 "" "ffosolve {VERSION}"'), page[:99]
     for path, text in (
-        (root / "include/ffosolve.h", f'_VERSION_TEXT "{VERSION}"\n#define FFOSOLVE_VERSION {NUMBER}\n'),
-        (root / "lib/cmake/ffosolve/ffosolve-config-version.cmake", f'set(PACKAGE_VERSION "{VERSION}")\n'),
+        (place.root / "include/ffosolve.h", f'_VERSION_TEXT "{VERSION}"\n#define FFOSOLVE_VERSION {NUMBER}\n'),
+        (place.root / "lib/cmake/ffosolve/ffosolve-config-version.cmake", f'set(PACKAGE_VERSION "{VERSION}")\n'),
         (ROOT / "CHANGELOG.md", f"\n## [{VERSION}] - "),
     ):
         assert text in path.read_text(), path
@@ -264,19 +253,16 @@ def test_make_constants_writes_what_files_repeat(place):
         "python/src/ffosolve/__init__.py", "python/src/ffosolve/_library.py", "python/src/ffosolve/_solvers.py",
         "python/src/ffosolve/_command_line.py", "crates/program_settings/src/version.rt")
     entries = re.search(r"MOST_ENTRIES: usize = (\w+)", stored(table).decode())[1]
-    empties, workers, size = (re.search(rf"DEFAULT_{name} = (\w+)", stored(settings).decode())[1]
-                              for name in ("EMPTIES: u8", "WORKERS: u8", "ENTRIES: u32"))
-    for source, *pairs in (
-        ("VERSION", (VERSION, "1.12.3"), (f"{NUMBER:_}", "11_203")),
-        (table, (entries, "1_234_567"), (entries.replace("_", ","), "1,234,567")),
-        (settings, *((form.format(empties), form.format(7)) for form in (
-            "u8 = {}", '"{}"', "0 to 60 [default: {}]", "EMPTIES: usize = {}", "max_empties: int = {}",
-            "\nDEFAULT_EMPTIES = {}", " empties, limit {}", "takes positions with up to {} "))),
-        (settings, *((form.format(workers), form.format(9)) for form in (
-            "WORKERS: u8 = {}", 'TEXT: &str = "{}"', "same [default: {}]"))),
-        (settings, (f"u32 = {size}", "u32 = 123_456"), (size.replace("_", '') + '"', '123456"'),
-         (f"each [default: {size.replace('_', '')}]", "each [default: 123456]")),
+    empties, workers, size = re.findall(r"DEFAULT_\w+: u\d+ = (\w+)", stored(settings).decode())
+    for source, old, new, *forms in (
+        ("VERSION", [VERSION, f"{NUMBER:_}"], ["1.12.3", "11_203"], "{0}", "{1}"),
+        (table, [entries, entries.replace("_", ",")], ["1_234_567", "1,234,567"], "{0}", "{1}"),
+        (settings, [empties], [7], "u8 = {0}", '"{0}"', "0 to 60 [default: {0}]", "EMPTIES: usize = {0}",
+         "max_empties: int = {0}", "\nDEFAULT_EMPTIES = {0}", " empties, limit {0}", "takes positions with up to {0} "),
+        (settings, [workers], [9], "WORKERS: u8 = {0}", 'TEXT: &str = "{0}"', "same [default: {0}]"),
+        (settings, [size, size.replace("_", "")], ["123_456", "123456"], "u32 = {0}", '{1}"', "each [default: {1}]"),
     ):
+        pairs = [(form.format(*old), form.format(*new)) for form in forms]
         for name in ("Makefile", "packaging/packages.mk", "VERSION", table, settings, *others):
             write(name, stored(name))
         write(source, stored(source).decode().replace(*pairs[0]))
@@ -304,15 +290,15 @@ FISH = "fish", "-N", "-c", 'source $SHARE/fish/vendor_completions.d/(basename $a
 
 
 @pytest.fixture
-def texts(root, folder, monkeypatch):
-    """The prefix `root`. The working folder is a copy of the examples, in which no program may be run: pressing TAB
+def texts(installed, folder, monkeypatch):
+    """The prefix of PREFIX. The working folder is a copy of the examples, in which no program may be run: pressing TAB
     after bin/ffosolve in a checkout could start a build."""
     monkeypatch.setenv("MANWIDTH", "2000")
-    monkeypatch.setenv("SHARE", f"{root}/share")
+    monkeypatch.setenv("SHARE", f"{PREFIX.folder}/share")
     shutil.copytree(ROOT / "examples", "examples")
     write("examples/bin/ffosolve", "#!/bin/sh\n: >begun\n")
     os.chdir("examples")
-    yield root
+    yield PREFIX.folder
     assert not Path("begun").exists()
 
 
@@ -329,7 +315,6 @@ def options_of(texts, name):
 
 
 def test_manual_pages_show_each_option_without_a_warning(texts):
-    need("man")
     for name in COMMANDS:
         page = texts / f"share/man/man1/{name}.1"
         shown = run("man", "--warnings", "-E", "ascii", "-l", page, text=True)
@@ -351,7 +336,6 @@ def test_the_manual_page_of_ffosolve_games_has_its_commands_and_their_statuses(t
 def offered(*words):
     """Runs `words`: BASH or FISH, and a command's words, of which the last is to be completed. Returns {completion:
     description} of the completions that the shell prints."""
-    need(words[0])
     ran = run(*words, text=True)
     assert (ran.returncode, ran.stderr) == (0, "")
     return dict(line.partition("\t")[::2] for line in sorted(ran.stdout.splitlines()) if line)

@@ -4,7 +4,6 @@ import functools
 import itertools
 import random
 import re
-import subprocess
 from unittest import mock
 
 import pytest
@@ -12,11 +11,11 @@ import pytest
 import ffosolve
 from ffosolve._refusals import REFUSALS, OtherRefusal
 from tests.games import random_positions
-from tests.library import LANGUAGES, Calls, declarations, module
+from tests.library import LANGUAGES, Calls, declarations
 from tests.prefix import LONGEST, NUMBER, PREFIX, STRICT, VERSION, C
-from tests.support import built, limited, need, run, stored, worked_rows
+from tests.support import built, limited, run, stored, worked_rows
 
-pytestmark = pytest.mark.usefixtures("installed")
+pytestmark = [pytest.mark.usefixtures("installed"), pytest.mark.filterwarnings("ignore::ffosolve.ReadingWarning")]
 COMPILERS = [*itertools.product(("cc", "clang"), ("c90", "c99", "c11", "c17", "c2x"), ("c",)),
              *itertools.product(("c++", "clang++"), ("c++11", "c++14", "c++17", "c++20"), ("cpp",))]
 # The texts of the header that Python does not have.
@@ -82,20 +81,16 @@ fn main() {
 
 def test_it_exports_and_the_crate_declares_exactly_the_calls_of_the_header():
     assert set(re.findall(r"pub fn (ffosolve_\w+)", stored("rust/src/raw.rs").decode())) == PREFIX.calls
-    need("nm")
     for words in (["-D", PREFIX.shared], ["-g", PREFIX.archive]):
-        printed = PREFIX.make("nm", "--defined-only", *words).stdout
-        exported = {line.split()[2].split("@")[0] for line in printed.splitlines() if " T " in line}
+        exported = {*re.findall(r" T (\w+)", PREFIX.make("nm", "--defined-only", *words).stdout)}
         assert exported == PREFIX.calls
         assert "ffosolve_solve" in exported
 
 
 def test_the_shared_object_has_its_names_and_needs_only_the_c_library():
-    need("readelf")
     major = VERSION.split(".")[0]
-    for end in ("", f".{major}"):
-        link = PREFIX.libraries / f"libffosolve.so{end}"
-        assert link.resolve().name == f"libffosolve.so.{VERSION}"
+    for name in ("libffosolve.so", f"libffosolve.so.{major}"):
+        assert (PREFIX.libraries / name).resolve().name == f"libffosolve.so.{VERSION}"
     printed = PREFIX.make("readelf", "-d", "-l", "-V", "-W", PREFIX.shared).stdout
     assert re.findall(r"\(NEEDED\).*\[(.*)\]", printed) == ["libc.so.6"]
     assert re.findall(r"GNU_STACK.*\b(RWE?)\b", printed) == ["RW"]
@@ -104,7 +99,6 @@ def test_the_shared_object_has_its_names_and_needs_only_the_c_library():
 
 
 def test_swig_wraps_the_header():
-    need("swig")
     include = '%include "stdint.i"\n%include "ffosolve.h"\n'
     PREFIX.write("wrap.i", '%module wrap\n%{\n#include "ffosolve.h"\n%}\n' + include)
     PREFIX.make("swig", "-Wall", "-Werror", "-python", f"-I{PREFIX.header.parent}", "wrap.i")
@@ -145,7 +139,7 @@ def test_a_status_has_one_name_number_and_text_in_each_language():
 
 @pytest.fixture(scope="module", params=LANGUAGES)
 def call(request, installed):
-    declared = "const char *ffosolve_status_text(int32_t status);"
+    declared = declarations() + "const char *ffosolve_status_text(int32_t status);"
     return Calls(f"calls_{request.param}", declared, language=request.param)
 
 
@@ -254,19 +248,19 @@ def test_the_header_passes_on_no_null_pointer_of_an_empty_list_or_text(language)
     declared = re.sub(r"^\w+ \w+\([^;]*;", "", declarations(), flags=re.MULTILINE) + "".join(
         f'int32_t {name}_or_null{of}; extern "Python+C" int32_t {name}{of};' for name, of in inline)
     undefined = "".join(f"#undef {name}\n" for name, _ in inline)
-    ffi, lib = module(f"nulls_{language}", declared, undefined, language=language)
-    called, null, line = mock.Mock(return_value=7), ffi.NULL, ffi.new("ffosolve_line *")
+    made = Calls(f"nulls_{language}", declared, undefined, language=language)
+    called, null, line = mock.Mock(return_value=7), made.ffi.NULL, made.ffi.new("ffosolve_line *")
     for name, _ in inline:
-        ffi.def_extern(name)(called)
+        made.ffi.def_extern(name)(called)
         given = (null, 0, line, null, 0, null) if "line" in name else (null, 0, 2, 65, null, 0, null)
-        assert getattr(lib, f"{name}_or_null")(*given) == 7
+        assert getattr(made.lib, f"{name}_or_null")(*given) == 7
     passed = [[it if isinstance(it, int) else it != null for it in call.args] for call in called.call_args_list]
     assert passed == [[True, 0, 2, 65, True, 0, True]] * 2 + [[True, 0, True, True, 0, True]]
 
 
 def test_a_call_without_memory_returns_its_status():
     """Each call is made five times: the first request for memory is refused, the second one, and so on."""
-    call = Calls("memory", "extern int granted;", REFUSING, "-Wl,--wrap=malloc")
+    call = Calls("memory", declarations() + "extern int granted;", REFUSING, "-Wl,--wrap=malloc")
 
     def made(granted, words):
         call.lib.granted = granted
@@ -288,9 +282,8 @@ def test_the_stack_that_the_header_names_is_enough():
     program = PREFIX.compile(C, "searches", [PREFIX.write("searches.c", SEARCHES)])
     text = "".join(f"{own} {opp}\n" for own, opp in random_positions(20, [14]))
     PREFIX.make(program, text=text, env={}, preexec_fn=limited(RLIMIT_STACK=32 << 10))
-    how = {"text": "{own} {opp}\n".format(**START), "preexec_fn": limited(RLIMIT_STACK=128 << 10), "timeout": 2}
-    with pytest.raises(subprocess.TimeoutExpired):
-        PREFIX.run(program, env={}, **how)
+    how = {"text": "{own} {opp}\n".format(**START), "preexec_fn": limited(RLIMIT_STACK=128 << 10)}
+    assert PREFIX.run("timeout", "2", program, env={}, **how).returncode == 124
 
 
 def read(source, shown, reader=ffosolve.parse_lines):
@@ -329,7 +322,6 @@ def text():
     return b"\n".join(lines)
 
 
-@pytest.mark.filterwarnings("ignore::ffosolve.ReadingWarning")
 def test_python_and_c_read_worked_and_odd_lines_alike(call, text):
     worked = {number: cell.decode() for number, cell in enumerate(COLUMNS["read"], 1) if cell}
     for lines, wanted in ((b"\n".join(LINES), worked), (text, read(text, row))):
@@ -339,7 +331,6 @@ def test_python_and_c_read_worked_and_odd_lines_alike(call, text):
         assert {number: what for number, what in enumerate(found, 1) if what != [8]} == read(lines, in_c)
 
 
-@pytest.mark.filterwarnings("ignore::ffosolve.ReadingWarning")
 def test_the_report_of_odd_lines_is_what_python_finds(text):
     ran = run(built(), "--max-empties=20", input=text, check=True, timeout=LONGEST)
     report = ran.stdout.decode().splitlines()[1:-1]

@@ -7,7 +7,7 @@ from pathlib import Path
 
 import pytest
 
-from tests.support import ROOT, SECONDS, ends, need, processes_in, run, stored, wait_until, write
+from tests.support import ROOT, SECONDS, ends, processes_in, run, stored, wait_until, write
 
 NO_CI = {name: text for name, text in os.environ.items() if name != "CI"}
 FAULTS = """import os, pathlib, pytest, subprocess, time, unittest
@@ -29,7 +29,6 @@ class Some(unittest.TestCase):
 
 @pytest.fixture
 def project(folder):
-    need("git")
     run("git", "init", "-q", check=True)
     run("cp", "setup.cfg", ".gitignore", folder, cwd=ROOT, check=True)
     write("conftest.py", re.sub("^pytest_plugins = .*", "", stored("conftest.py").decode(), flags=re.M))

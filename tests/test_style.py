@@ -4,19 +4,18 @@ import ast
 import collections
 import graphlib
 import re
+import symtable
 
-from tests.support import ROOT, need, run, stored, write
+from tests.prefix import names_of_files
+from tests.support import ROOT, run, stored, write
 
 
 def scripts(language):
-    """Returns the paths of files whose first line names an interpreter; the pattern `language` matches its name."""
-    found = (path for folder in "bin bench packaging python scripts share tests .ci".split()
-             for path in (ROOT / folder).rglob("*") if path.is_file())
-    return [path for path in found if re.match(rf"#!.*\b{language}\n".encode(), path.read_bytes())]
+    """Returns the names of files whose first line names an interpreter; the pattern `language` matches its name."""
+    return [name for name in names_of_files() if re.match(rf"#!.*\b{language}\n".encode(), stored(name))]
 
 
 def accepts(*words):
-    need(words[0])
     ran = run(*words, cwd=ROOT, text=True, timeout=300)
     assert ran.returncode == 0, ran.stdout + ran.stderr
 
@@ -56,12 +55,17 @@ def test_a_name_of_the_package_stands_for_one_thing():
     """Each program has a name, a help in three pieces, and a function that runs it."""
     named = collections.Counter()
     for module in (ROOT / "python/src/ffosolve").rglob("*.py"):
-        for node in ast.parse(module.read_text()).body:
-            targets = getattr(node, "targets", [getattr(node, "target", None)])
-            names = [it for target in targets for it in getattr(target, "elts", [target])]
-            named.update({getattr(node, "name", None), *(getattr(it, "id", None) for it in names)})
+        symbols = symtable.symtable(module.read_text(), str(module), "exec").get_symbols()
+        named.update(it.get_name() for it in symbols if it.is_assigned())
     assert named["Position"] == 1
-    assert {name for name, count in named.items() if name and count > 1} == {"NAME", "USAGE", "WHAT", "MORE", "main"}
+    assert {name for name, count in named.items() if count > 1} == {"NAME", "USAGE", "WHAT", "MORE", "main"}
+
+
+def test_no_line_of_the_crates_has_more_than_160_columns():
+    """A wrong body is one line of its file, however long it is."""
+    for name in names_of_files():
+        if name.startswith("crates/") and "/must-fail/" not in name:
+            assert max(map(len, stored(name).decode().split("\n"))) <= 160, name
 
 
 def test_no_test_module_imports_another():

@@ -22,8 +22,7 @@ EASY = [*stored("examples", "first.obf").splitlines(True)[1:], b"--OOOOO" + b"X"
 
 
 def solve(*words, **how):
-    """Runs ffosolve, with its book on standard error. Returns ((report, book), the number of threads that it started).
-    """
+    """Runs ffosolve, its book on standard error. Returns ((report, book), the number of threads that it started)."""
     words = (built(), "--book-out", "/dev/stderr", *words)
     ran = run(*words, env=preload(Path.cwd(), COUNTED="yes"), check=True, **how)
     return (ran.stdout, ran.stderr.replace(b"thread ", b"")), ran.stderr.count(b"thread ")
@@ -50,14 +49,11 @@ def test_64_files_with_64_workers_always_have_the_same_report():
         assert solve(*words)[0] == wanted
 
 
-CASES = [*itertools.product(("winner", "discs", "sign"), (0, 16, 65_536))]
-
-
-@pytest.mark.parametrize("case", range(len(CASES)))
-def test_threads_that_share_a_position_give_the_report_and_book_of_one_thread(case):
-    scoring, entries = CASES[case]
+@pytest.mark.parametrize("at, settings", enumerate(itertools.product(("winner", "discs", "sign"), (0, 16, 65_536))))
+def test_threads_that_share_a_position_give_the_report_and_book_of_one_thread(at, settings):
+    scoring, entries = settings
     words = ("--scoring", scoring, "--table", entries, "--workers")
-    for line in positions(200, 14, 18).splitlines(True)[case::len(CASES)]:
+    for line in positions(200, 14, 18).splitlines(True)[at::9]:  # a ninth of them for each of the settings
         wanted, _ = solve(*words, 0, input=line)
         assert wanted[0].endswith(b"solved 1 refused 0\n")
         for workers in (1, 3, 7):
@@ -92,14 +88,15 @@ def test_each_of_many_short_runs_ends():
         ends((1, SCORES, b""), built("ffoscores"), "--workers", 3, ROOT / "examples/kinds.obf")
 
 
-def begin(start, text, *words):
-    return start(built("ffoscores"), "--max-empties", "60", *words, write("list.obf", text))
+def begin(start, text, workers, **how):
+    words = (built("ffoscores"), "--max-empties", 60, "--workers", workers, write("list.obf", text))
+    return start(*words, **how)
 
 
 @pytest.mark.parametrize("workers", WORKERS)
 def test_n_workers_score_n_plus_one_lines_at_once_and_print_each_as_soon_as_those_before_are_scored(start, workers):
     known = [EASY[0], *positions(24, 10, 13).splitlines(True), b"% next\n"]
-    program = begin(start, b"".join([*known, HOURS, EASY[0], HOURS * 70]), "--workers", workers)
+    program = begin(start, b"".join([*known, HOURS, EASY[0], HOURS * 70]), workers)
     assert [program.stdout.readline()[:66] for _ in known] == [line[:66] for line in known]
     threads = workers + 2 if workers else 1  # 0 workers start no thread
     wait_until(lambda: len(os.listdir(f"/proc/{program.pid}/task")) >= threads)
@@ -111,7 +108,7 @@ def test_n_workers_score_n_plus_one_lines_at_once_and_print_each_as_soon_as_thos
 
 @pytest.mark.parametrize("workers", WORKERS[1:])
 def test_a_reader_that_leaves_ends_the_program_within_positions_that_take_hours(start, workers):
-    program = begin(start, EASY[0] + positions(100, 14, 15) + HOURS * 9, "--workers", workers)
+    program = begin(start, EASY[0] + positions(100, 14, 15) + HOURS * 9, workers)
     assert program.stdout.readline() == EASY[0]
     program.stdout.close()
     error = program.stderr.read()
@@ -160,10 +157,8 @@ def test_a_line_is_shared_over_a_table_of_4096_entries(folder, entries, threads)
 
 
 def test_hundreds_of_lines_behind_one_that_takes_hours_are_scored_before_more_threads_share_it(folder, start):
-    write("list.obf", HOURS + lines(12, 25) * 20)
     with open("threads", "wb") as to:
-        words = built("ffoscores"), "--max-empties", 60, "--workers", 3, "list.obf"
-        start(*words, stderr=to, env=preload(folder, COUNTED="yes"))
+        begin(start, HOURS + lines(12, 25) * 20, 3, stderr=to, env=preload(folder, COUNTED="yes"))
     wait_until(lambda: (folder / "threads").read_text().count("thread ") == 504)
     time.sleep(1)  # in which one thread too many could start
     assert (folder / "threads").read_text().count("thread ") == 504

@@ -5,7 +5,7 @@ import timeit
 import pytest
 
 from ffosolve import MOST_ENTRIES, Position
-from tests.library import Calls
+from tests.library import Calls, declarations
 from tests.support import SECONDS, built, ends, limited, run, stored, write
 
 pytestmark = pytest.mark.usefixtures("installed")
@@ -74,6 +74,6 @@ CLAIMS = {score: {"score": score, "kind": 0, "best": 0} for score in (-8, -6, 20
                    id=f"one table for {name}") for name in ("solve_all", "move_scores_all")),
 ])
 def test_calls_take_less_time_with(slow, quick, times):
-    call = Calls("timed")
+    call = Calls("timed", declarations())
     assert (call(*slow)[0], call(*quick)[0]) == (0, 0)
     assert is_shorter(lambda: call(*quick), lambda: call(*slow), times)
