@@ -63,8 +63,7 @@ The classes and functions have a help of their own, such as `help(ffosolve.Posit
     arrays       masks_of positions_from
     errors       Refused (of calls: NoMemory NoMove SharedSquare TooManyEmpties TooManyEntries UnequalLengths
                  UnknownScoring UnknownSymmetry OtherRefusal; of lines: LineRefused NoPosition ShortBoard BadSquare
-                 BadSide), whose `status` is a Status; GameRefused LibraryNotFound ReadingWarning
-"""
+                 BadSide), whose `status` is a Status; GameRefused LibraryNotFound ReadingWarning"""
 from typing import TYPE_CHECKING
 
 from ._answers import Answer, Kind, Scoring

@@ -17,9 +17,8 @@ class Answers(NamedTuple):
 
 
 def masks_of(positions: Iterable[Position]) -> Tuple[Any, Any]:
-    """Returns (own, opp) for positions: arrays of uint64 with the masks of the discs of the side to move and of the
-    other side, as `Solver.solve_arrays` takes them. Raises ValueError for a mask outside 0 to 2**64 - 1, and TypeError
-    for an object that is not a position."""
+    """Returns (own, opp): arrays of uint64 with the masks of positions, as `Solver.solve_arrays` takes them. Raises
+    ValueError for a mask outside 0 to 2**64 - 1, and TypeError for an object that is not a position."""
     import numpy
 
     listed = [mask for position in checked_positions(positions) for mask in masks_and_empties(position)[:2]]
@@ -36,9 +35,8 @@ def positions_from(own: Any, opp: Any, side: str = "X") -> List[Position]:
 
 
 def rows_of(own: Any, opp: Any) -> Any:
-    """Returns an array with a row of two masks for each position in arrays such as `masks_of` returns, laid out as a
-    CPosition. Raises TypeError unless they are arrays of uint64, and ValueError unless these have one dimension and
-    equal lengths."""
+    """Returns an array with a row, laid out as a CPosition, for each position in arrays such as `masks_of` returns.
+    Raises TypeError for other types than uint64, and ValueError unless they have one dimension and equal lengths."""
     import numpy
 
     own, opp = numpy.asarray(own), numpy.asarray(opp)
@@ -52,8 +50,7 @@ def rows_of(own: Any, opp: Any) -> Any:
 
 
 def batches_in(rows: Any, max_empties: int, call: SolverCall) -> Iterator[Batch]:
-    """Yields Batches of the `rows_of` arrays. Raises SharedSquare, or TooManyEmpties for more than `max_empties`, for
-    the first refused position."""
+    """Yields Batches of what `rows_of` returns. For the first refused position, raises what `checked_position` does."""
     import numpy
 
     own, opp = rows[:, 0], rows[:, 1]

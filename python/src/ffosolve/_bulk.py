@@ -54,7 +54,6 @@ def batches_of(positions: Iterable[Iterable[int]], max_empties: int, call: Solve
     before it, and last a Refused. Raises TypeError for what is no position, ValueError for most wrong masks."""
     masks: List[int] = []
     empties: List[int] = []
-    refused: List[Refused] = []
     weight, end = 0, time.monotonic() + MOST_SECONDS
 
     def batches() -> Iterator[Batch]:
@@ -65,8 +64,9 @@ def batches_of(positions: Iterable[Iterable[int]], max_empties: int, call: Solve
         try:
             own, opp, count = checked_position(position, max_empties, index)
         except Refused as refusal:
-            refused.append(refusal)
-            break
+            yield from batches()
+            yield refusal
+            return
         masks += own, opp
         empties.append(count)
         weight += 1 << max(0, count - LIGHTEST)
@@ -74,7 +74,6 @@ def batches_of(positions: Iterable[Iterable[int]], max_empties: int, call: Solve
             yield from batches()
             masks, empties, weight, end = [], [], 0, time.monotonic() + MOST_SECONDS
     yield from batches()
-    yield from refused
 
 
 def in_order(call: SolverCall, solve: Callable[[A], Iterable[B]], batches: Iterable[A], threads: int) -> Iterator[B]:

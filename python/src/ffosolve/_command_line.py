@@ -230,7 +230,6 @@ def run(program: str, main: Callable[[], int], interrupted: str = "") -> NoRetur
     message `interrupted`, if any. An exception of a handler might get lost, so the handler itself ends the process."""
     global name
     name = program
-
     handled = threading.Lock()
 
     def handle(number: int, frame: Optional[FrameType]) -> None:

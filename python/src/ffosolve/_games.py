@@ -99,10 +99,8 @@ class Game(NamedTuple):
         return self.words[at] if at < len(self.words) else self.moves[at]
 
 
-def read_games(
-    source: "Union[str, os.PathLike[str], io.BufferedIOBase, io.RawIOBase]",
-    refused: Optional[Callable[[GameRefused], object]] = None,
-) -> Iterator[Game]:
+def read_games(source: "Union[str, os.PathLike[str], io.BufferedIOBase, io.RawIOBase]",
+               refused: Optional[Callable[[GameRefused], object]] = None) -> Iterator[Game]:
     """Yields the games of a WTHOR file, or of a text with a game in each line, in their order. `source` is a path or a
     file opened in binary mode. A line of a text may have any form that `Game.of_text` reads; lines without a move are
     skipped. The names of players and tournaments come from the files WTHOR.JOU and WTHOR.TRN in the folder of a WTHOR
@@ -200,19 +198,17 @@ def records(file: Any, count: int, year: int, empties: int) -> Iterator[Game]:
 def names_beside(path: str, suffix: str) -> bytes:
     """The content of the file of players or tournaments, with this suffix, in the folder of a WTHOR file: the one named
     WTHOR, or the only one; b"" if there is none. Warns if there are several."""
-    folder = os.path.dirname(path)
-    try:
-        found = [it.path for it in os.scandir(folder or ".") if it.name.lower().endswith(suffix) and it.is_file()]
-        named = [it for it in found if os.path.basename(it).lower() == f"wthor{suffix}"] or found
+    folder = os.path.dirname(path) or "."
+    with contextlib.suppress(OSError):
+        found = [it for it in os.scandir(folder) if it.name.lower().endswith(suffix) and it.is_file()]
+        named = [it for it in found if it.name.lower() == f"wthor{suffix}"] or found
         if len(named) > 1:
-            several = " and ".join(sorted(shown(os.path.basename(it)) for it in named))
-            warnings.warn(f"names are left out, since the folder {shown(folder or '.')} has {several}: name the right "
-                          f"one WTHOR{suffix.upper()}", ReadingWarning)
+            several = " and ".join(sorted(shown(it.name) for it in named))
+            warnings.warn(f"names are left out, since the folder {shown(folder)} has {several}: name the right one "
+                          f"WTHOR{suffix.upper()}", ReadingWarning)
         elif named:
             with open(named[0], "rb") as file:
                 return file.read()
-    except OSError:
-        pass
     return b""
 
 
@@ -246,8 +242,7 @@ def moves_of(game: Game) -> Iterator[Union[int, str]]:
 
 
 def position_with(empties: int, game: Game, found: List[Position]) -> Position:
-    """The first position with `empties` empty squares in a game with the positions `found`. Raises GameRefused if the
-    game ends before that position."""
+    """The first of a game's positions `found` with `empties` empty squares. Raises GameRefused if there is none."""
     left = found[-1].empties
     if left <= empties:
         return found[START.empties - empties]
@@ -257,9 +252,8 @@ def position_with(empties: int, game: Game, found: List[Position]) -> Position:
     raise GameRefused(why, game.number, len(found) - 1)
 
 
-def corrected(
-    file: BinaryIO, empties: int, right: Iterable[Tuple[Game, Mapping[int, Optional[int]]]]
-) -> Iterator[bytes]:
+def corrected(file: BinaryIO, empties: int, right: Iterable[Tuple[Game, Mapping[int, Optional[int]]]]
+              ) -> Iterator[bytes]:
     """Yields the pieces of a copy of a WTHOR file. `right` has its games, each with {offset in its record: right score,
     or None if that is not known}. A header without a number of empty squares gets `empties`. No other byte changes.
     Raises NotText if the file has other games."""

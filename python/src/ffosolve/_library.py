@@ -43,8 +43,7 @@ def libraries_to_try() -> List[str]:
 
 
 def load(path: Union[str, "os.PathLike[str]", None] = None) -> ctypes.CDLL:
-    """The library at `path`; for None, the first in `libraries_to_try()` that this package can call. Raises
-    LibraryNotFound."""
+    """The library at `path` or, for None, the first of `libraries_to_try()` that fits. Raises LibraryNotFound."""
     errors = []
     for place in [os.path.abspath(path)] if path is not None else libraries_to_try():
         try:

@@ -39,8 +39,7 @@ class Position:
     `_replace(own=.., opp=.., side=..)`, which Python 3.13 also calls `copy.replace`. The shared library knows the
     rules, so `legal_moves`, `is_legal`, `must_pass`, `is_over`, `play`, `play_all`, `score`, `canonical`, `image` and
     `symmetries` raise LibraryNotFound without it. Only these and a Solver look at the masks: they raise ValueError for
-    one outside 0 to 2**64 - 1, and SharedSquare if a square is in both.
-    """
+    one outside 0 to 2**64 - 1, and SharedSquare if a square is in both."""
 
     __slots__ = ("_all",)  # one tuple of all, since `__setattr__` makes assignments slow
     __match_args__ = ("own", "opp")
@@ -80,8 +79,7 @@ class Position:
         Any of `X x * B b` stands for Black, any of `O o W w` for White, and `-` or `.` for an empty square. Blanks and
         tabs before the squares and the side are skipped. After the side, any text but moves with scores is skipped; a
         ReadingWarning names a side such as `blanc`, which is read as Black. Raises NoPosition, ShortBoard, BadSquare
-        and BadSide (ValueErrors), NoMemory and TypeError. Needs no library.
-        """
+        and BadSide (ValueErrors), NoMemory and TypeError. Needs no library."""
         return read_line(text, None, cls)
 
     def to_obf(self, side: Optional[str] = None, moves: Union[Mapping[str, float], Iterable[Tuple[str, float]]] = ()
@@ -120,9 +118,8 @@ class Position:
 
     @property
     def listed(self) -> Listed:
-        """Each move that the position's line of OBF text lists with a whole score from -64 to 64, and this score, in
-        order, such as `(("H1", 62), ("A1", 52))`. "PS" is a pass, and "--" the end of the game. The moves may be
-        illegal and the scores wrong."""
+        """Each move that the position's line of OBF text lists with a whole score from -64 to 64, and this score, as
+        `(("H1", 62), ("A1", 52))`. "PS" is a pass, "--" the end of the game. Moves may be illegal, and scores wrong."""
         return self._all[3]
 
     @property
@@ -189,8 +186,7 @@ class Position:
     def play_all(self: P, squares: Union[str, Iterable[Union[int, str]]]) -> P:
         """The position after several moves. `squares` is a transcript such as "f5d6c3", in any form that `Game.of_text`
         reads, or a list of what `play` takes. Passes may be left out. Raises TypeError for another object, and NoMove
-        for an illegal move or a word that is not a square. Its message has the move's number, from 1 and without
-        passes."""
+        for an illegal move or a word that is not a square. Its message counts moves from 1, without passes."""
         if isinstance(squares, bytes) or not hasattr(squares, "__iter__"):
             raise TypeError(f"moves are a transcript or a list of squares, not {reprlib.repr(squares)}")
         squares, position = transcript_words(squares) if isinstance(squares, str) else squares, self
@@ -229,8 +225,7 @@ class Position:
         return canonical_form(self)[2]
 
     def image(self: P, symmetry: int) -> P:
-        """The image of the position under a Symmetry, or under the one with a number, 0 to 7. Raises UnknownSymmetry
-        for another number."""
+        """The image under a Symmetry or the one with a number, 0 to 7. Raises UnknownSymmetry for another number."""
         return type(self)(image(self.own, symmetry), image(self.opp, symmetry), self.side)
 
     def symmetries(self: P) -> List[P]:
@@ -355,8 +350,7 @@ def read_lines(source: Source, refused: Optional[Callable[[LineRefused], object]
         wrong = []
         positions = list(read_lines("a.obf", refused=wrong.append))
 
-    Raises NoMemory, OSError if the file can't be read, and TypeError for another source. `parse_lines` reads a text.
-    """
+    Raises NoMemory, OSError if the file can't be read, and TypeError for another source. `parse_lines` reads a text."""
     return positions_in(lines_of(source), refused)
 
 

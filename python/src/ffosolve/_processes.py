@@ -94,8 +94,7 @@ class Process:
             signal.pthread_sigmask(signal.SIG_SETMASK, masked)
 
     def output(self, lines: str, call: "SolverCall") -> Tuple[int, bytes, str]:
-        """Returns the program's status, what it prints for a list, and its errors; or kills it if `call` has to stop.
-        Raises what `wait_seconds` raises."""
+        """Returns the program's status, output and errors for a list; or kills it, and raises what `call` raises."""
         ready, printed, piece = select.poll(), b"", b"-"
         ready.register(self.process.stdout)
         try:
@@ -116,8 +115,7 @@ class SearchProcess(Process):
     """A running program that solves a list."""
 
     def find(self, lines: str, call: "SolverCall") -> List[str]:
-        """Returns the rows for a list. Raises NoMemory, what `output` raises, and ChildProcessError if somebody ended
-        the program."""
+        """Returns the rows for a list. Raises what `output` raises, NoMemory, or ChildProcessError if it was ended."""
         status, printed, errors = self.output(lines, call)
         if errors.endswith("out of memory"):
             raise NoMemory()
@@ -142,12 +140,11 @@ os.register_at_fork(before=STARTS.acquire, after_in_parent=STARTS.release, after
 
 
 def read_rows(rows: List[str], found: Any) -> None:
-    """Writes what a program printed to the records of `found`, as the library does."""
+    """Writes what a program printed to the records of `found`, except for the `moves` of a CMoveScores."""
     for it, row in zip(found, rows if isinstance(found[0], CMoveScores) else rows[1:]):
         if isinstance(it, CMoveScores):
             scores = dict(parsed(row, None)[3])
             it.scores[:] = [scores.get(name, NO_SCORE) for name in NAMES]
-            it.moves = sum(1 << at for at, name in enumerate(NAMES) if name in scores)
         else:
             _, score, moves, _ = row.split()
             it.score, it.kind = int(score), {"PS": Kind.PASS, "--": Kind.OVER}.get(moves, Kind.MOVES)
@@ -156,8 +153,7 @@ def read_rows(rows: List[str], found: Any) -> None:
 
 class SolverCall:
     """Makes the calls of a library for one call of a Solver, until this has taken `timeout` seconds, its task is
-    cancelled, or it sets `is_left`. A program gets `threads`. Raises TypeError and ValueError for a wrong `timeout`;
-    None stands for any time."""
+    cancelled, or it sets `is_left`. A program gets `threads`. Raises TypeError and ValueError for a wrong `timeout`."""
 
     def __init__(self, library: ctypes.CDLL, timeout: Seconds = None, threads: int = 1) -> None:
         self.library, self.timeout, self.is_left, self.end = library, timeout, False, math.inf
@@ -171,8 +167,7 @@ class SolverCall:
             self.end = time.monotonic() + timeout
 
     def wait_seconds(self) -> float:
-        """How long this thread may wait for a result before it calls this again. Raises TimeoutError and CancelledError
-        if the calls have to stop."""
+        """For how long to wait before the next look. Raises TimeoutError and CancelledError if calls have to stop."""
         left = self.end - time.monotonic()
         if left <= 0:
             raise TimeoutError(f"not finished within {self.timeout} seconds")

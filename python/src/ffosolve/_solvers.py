@@ -39,8 +39,7 @@ class Solver:
     `lib` of the virtual environment or Python, or in /usr/local/lib. `scoring` is a Scoring, its number, or its name
     such as "winner". `entries` is the size of the table, 0 to MOST_ENTRIES; by default, `table_entries` chooses it by
     the empty squares. A position with more than `max_empties` empty squares, 0 to MOST_EMPTIES, is refused, since it
-    might take hopelessly long. Raises LibraryNotFound, UnknownScoring, TooManyEntries, ValueError and TypeError.
-    """
+    might take hopelessly long. Raises LibraryNotFound, UnknownScoring, TooManyEntries, ValueError and TypeError."""
 
     def __init__(self, library: Union[str, "os.PathLike[str]", None] = None, *,
                  scoring: Union[Scoring, int, str] = Scoring.WINNER, entries: Optional[int] = None,
@@ -86,8 +85,7 @@ class Solver:
 
     def solve(self, position: Position, *, threads: int = 1, timeout: Seconds = None) -> Answer:
         """The answer for a position. From 16 empty squares on, several threads search it together. Raises SharedSquare,
-        TooManyEmpties and NoMemory; ValueError for a mask below 0 or above 2**64 - 1; and TypeError for an object that
-        is not a position."""
+        TooManyEmpties and NoMemory, ValueError for a mask outside 0 to 2**64 - 1, TypeError for what is no position."""
         return self._answers(self._call(timeout, threads), self._batch(position))[0]
 
     def confirm(self, position: Position, claim: Answer, *, threads: int = 1, timeout: Seconds = None) -> Answer:
@@ -96,13 +94,11 @@ class Solver:
         `solve`, and TypeError for a claim that is not an Answer."""
         if not isinstance(claim, Answer):
             raise TypeError(f"a claim is an Answer(score, kind, best), not {reprlib.repr(claim)}")
-        call, batch = self._call(timeout, threads), self._batch(position)
-        return self._answers(call, batch, "ffosolve_confirm", CAnswer(*claim))[0]
+        return self._answers(self._call(timeout, threads), self._batch(position), CAnswer(*claim))[0]
 
     def best_line(self, position: Position, *, threads: int = 1, timeout: Seconds = None) -> List[Tuple[str, int]]:
-        """Perfect play from a position to the end of the game: each move and its score for the side that makes it, such
-        as [("H1", 62), ("PS", -62), ("A1", 62)]. Of several best moves, it has the first. Raises the same as `solve`.
-        """
+        """Perfect play from a position to the end of the game: each move and its score for the side that makes it, as
+        [("H1", 62), ("PS", -62), ("A1", 62)]. Of several best moves, it has the first. Raises the same as `solve`."""
         call, line = self._call(timeout, threads), []
         answer = self._answers(call, self._batch(position))[0]
         while answer.kind != Kind.OVER:
@@ -110,7 +106,7 @@ class Solver:
             line.append((move, answer.score))
             position = self.play(position, move)
             claim = answer._replace(score=-answer.score)
-            answer = self._answers(call, self._batch(position), "ffosolve_confirm", CAnswer(*claim))[0]
+            answer = self._answers(call, self._batch(position), CAnswer(*claim))[0]
         return line
 
     def move_scores(self, position: Position, *, threads: int = 1, timeout: Seconds = None) -> Dict[str, int]:
@@ -131,8 +127,7 @@ class Solver:
     def solve_all(self, positions: Iterable[Position], *, threads: int = 1, timeout: Seconds = None) -> List[Answer]:
         """The answers for positions, in their order. The threads share a table for up to 15,000 positions; those with
         at most 14 empty squares may be solved in batches, each with its own table. Raises the same as `solve`.
-        SharedSquare and TooManyEmpties come before any position is solved, and have the `index` of the first refused
-        position."""
+        SharedSquare and TooManyEmpties come before any position is solved, and have the first refused one's `index`."""
         return list(self._each(self._answers, positions, threads, timeout, at_once=True))
 
     def solve_iter(self, positions: Iterable[Position], *, threads: int = 1, timeout: Seconds = None
@@ -154,9 +149,8 @@ class Solver:
 
     def solve_arrays(self, own: Any, opp: Any, *, threads: int = 1, timeout: Seconds = None) -> Answers:
         """The answers for positions in arrays of uint64, as `masks_of` returns them: `own`, the masks of the discs of
-        the side to move, and `opp`, those of the other side. The result has three arrays of the same length: `score`
-        and `kind` of int32, and `best` of uint64. Needs NumPy. Raises the same as `solve_all`, and TypeError and
-        ValueError for other arrays."""
+        the side to move, and `opp`, those of the other side. The result has three arrays of this length: `score` and
+        `kind` of int32, `best` of uint64. Needs NumPy. Raises what `solve_all` does, TypeError and ValueError, too."""
         return Answers(*self._in_arrays("ffosolve_solve_all", CAnswer, own, opp, threads, timeout))
 
     def move_scores_arrays(self, own: Any, opp: Any, *, threads: int = 1, timeout: Seconds = None) -> Any:
@@ -192,8 +186,7 @@ class Solver:
 
     def _each(self, solve: Callable[[SolverCall, BatchOrRefusal], List[Any]], positions: Iterable[Position],
               threads: int, timeout: Seconds, at_once: bool = False) -> Iterator[Any]:
-        """Yields what `solve` finds for positions. If `at_once`, reads all of them before the first call, and raises a
-        Refused if one is refused."""
+        """Yields what `solve` finds for positions. If `at_once`, first reads all, and raises a Refused if one is."""
         call, threads = self._call(timeout, threads if at_once else 1), checked_number("threads", threads, 1)
         batches: Iterable[BatchOrRefusal] = batches_of(positions, self._max_empties, call, at_once)
         if at_once:
@@ -209,8 +202,8 @@ class Solver:
         batches = batches_in(rows_of(own, opp), self._max_empties, call)
         return columns_of(record, in_order(call, lambda it: [self._found(call, it, name, record)], batches, threads))
 
-    def _answers(self, call: SolverCall, batch: BatchOrRefusal, name: str = "ffosolve_solve_all", *claim: CAnswer
-                 ) -> List[Answer]:
+    def _answers(self, call: SolverCall, batch: BatchOrRefusal, *claim: CAnswer) -> List[Answer]:
+        name = "ffosolve_confirm" if claim else "ffosolve_solve_all"
         rows = ANSWER.iter_unpack(self._found(call, batch, name, CAnswer, *claim))
         return [Answer(score, KINDS[kind], best) for score, kind, best in rows]
 

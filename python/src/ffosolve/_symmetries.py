@@ -18,8 +18,7 @@ class Symmetry(enum.IntEnum):
         TRANSPOSE (r, c)       TURN_RIGHT (7 - r, c)      TURN_LEFT (r, 7 - c)    ANTI_TRANSPOSE (7 - r, 7 - c)
 
     `symmetry.square("F5")` is the name of the square to which it moves F5, `symmetry.mask(mask)` the mask to which it
-    moves another, and `symmetry.inverse` the Symmetry that undoes it.
-    """
+    moves another, and `symmetry.inverse` the Symmetry that undoes it."""
 
     IDENTITY = 0
     FLIP_COLUMNS = 1
