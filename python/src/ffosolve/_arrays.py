@@ -35,8 +35,7 @@ def positions_from(own: Any, opp: Any, side: str = "X") -> List[Position]:
 
 
 def rows_of(own: Any, opp: Any) -> Any:
-    """Returns an array with a row, laid out as a CPosition, for each position in arrays such as `masks_of` returns.
-    Raises TypeError for other types than uint64, and ValueError unless they have one dimension and equal lengths."""
+    """Returns an array of rows, each laid out as a CPosition. Takes and refuses what `positions_from` does."""
     import numpy
 
     own, opp = numpy.asarray(own), numpy.asarray(opp)

@@ -14,7 +14,7 @@ import threading
 import time
 from pathlib import Path
 from types import FrameType
-from typing import IO, Any, Callable, Dict, Iterable, Iterator, Mapping, NoReturn, Optional, Set, Tuple, Type, Union
+from typing import IO, Any, Callable, Iterable, Iterator, Mapping, NoReturn, Optional, Set, Tuple, Type, Union
 
 from ._text import NotText, shown
 
@@ -36,8 +36,7 @@ class Refusal(Exception):
 
 
 @contextlib.contextmanager
-def refusing(verb: str, what: Union[str, "os.PathLike[str]"],
-             passed: Tuple[Type[BaseException], ...] = ()) -> Iterator[None]:
+def refusing(verb: str, what: Union[str, "os.PathLike[str]"], passed: Tuple[Type[OSError], ...] = ()) -> Iterator[None]:
     """Turns an OSError in a `with` block, except of types `passed`, into a Refusal "cannot {verb} {what}: {reason}"."""
     try:
         yield
@@ -184,12 +183,11 @@ def write_whole(files: Mapping[str, Iterable[bytes]], replaces: bool = False, mo
     the contents of all are on the disk or, unless `is_synced`, are written. If a path exists, replaces that file or,
     unless `replaces`, raises FileExistsError; without hard links, always replaces it. OSError has the path as
     `filename`. After an error, files that have got their paths stay."""
-    complete: Dict[str, str] = {}  # for each path, a temporary file next to it
+    complete = {path: f"{path}.{os.urandom(4).hex()}.new" for path in files}  # temporary files next to the paths
+    _unfinished.update(complete.values())
     flags = os.O_WRONLY | os.O_CREAT | os.O_EXCL
     try:
         for path, pieces in files.items():
-            complete[path] = f"{path}.{os.urandom(4).hex()}.new"
-            _unfinished.add(complete[path])
             with open(os.open(complete[path], flags, 0o666 if mode is None else mode), "wb") as file:
                 file.writelines(pieces)
                 file.flush()

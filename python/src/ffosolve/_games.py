@@ -5,7 +5,7 @@ import os
 import struct
 import warnings
 from typing import (Any, BinaryIO, Callable, Iterable, Iterator, List, Mapping, NamedTuple, Optional, Sequence, Tuple,
-                    Type, Union)
+                    Union)
 
 from ._positions import NO_SQUARE, START, Position, played
 from ._refusals import NoMove
@@ -35,7 +35,7 @@ class GameRefused(ValueError):
         super().__init__(f"game {game}" + ("" if move is None else f", move {move}") + f": {reason}")
         self.reason, self.game, self.move = reason, game, move
 
-    def __reduce__(self) -> Tuple[Type["GameRefused"], Tuple[str, int, Optional[int]]]:
+    def __reduce__(self) -> Tuple[Any, ...]:
         return type(self), (self.reason, self.game, self.move)
 
 
@@ -173,8 +173,7 @@ def read_header(file: BinaryIO, name: str) -> Tuple[int, int, int]:
 
 
 def records(file: Any, count: int, year: int, empties: int) -> Iterator[Game]:
-    """Yields the games after the header of a WTHOR file, which `read_header` has read. If the file is too short or too
-    long for them, the last Game has no moves, and its `fault` says what is wrong."""
+    """Yields the games after a WTHOR file's header. If its length is wrong, the last one has a `fault` and no moves."""
     path = getattr(file, "name", None)
     players, tournaments = (names_beside(path, it) if isinstance(path, str) else b"" for it in (".jou", ".trn"))
     counts = f"its header counts {count} game{'s' * (count != 1)}"
@@ -243,8 +242,7 @@ def moves_of(game: Game) -> Iterator[Union[int, str]]:
 
 def position_with(empties: int, game: Game, found: List[Position]) -> Position:
     """The first of a game's positions `found` with `empties` empty squares. Raises GameRefused if there is none."""
-    left = found[-1].empties
-    if left <= empties:
+    if (left := found[-1].empties) <= empties:
         return found[START.empties - empties]
     if not game.moves:
         raise GameRefused("it has no moves", game.number)

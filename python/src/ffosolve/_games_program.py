@@ -280,8 +280,7 @@ def folders_of(found: List[Found], options: argparse.Namespace) -> Dict[str, Lis
     most = MOST_EMPTIES if options.max_empties is None else options.max_empties
     for file in sorted(options.files):  # so that their order does not matter
         folder = f"{file}.check" if options.folder is None else options.folder
-        wanted = [it.position for it in found if it.file == file and it.position and it.position.empties <= most]
-        if wanted:
+        if wanted := [it.position for it in found if it.file == file and it.position and it.position.empties <= most]:
             folders.setdefault(paths.setdefault(os.path.realpath(folder), folder), {}).update(dict.fromkeys(wanted))
     return {folder: [*positions] for folder, positions in folders.items()}
 
@@ -317,8 +316,7 @@ def new_paths(options: argparse.Namespace) -> Dict[str, str]:
 
 
 def fix(copies: Dict[str, str], found: List[Found], options: argparse.Namespace) -> None:
-    """Writes copies of WTHOR files, {path: file}, with the right scores of the games that were found. Refuses if that
-    fails, and otherwise says how many scores changed."""
+    """Writes {path: copy of this WTHOR file} with right scores, and says how many changed; refuses if that fails."""
     if all(it.exact is None for it in found):
         raise Refusal("no theoretical score is compared, so --fix has none to write")
     games = {path: [it for it in found if it.file == name and it.game.fault is None] for path, name in copies.items()}

@@ -300,8 +300,7 @@ def is_pass(move: object) -> bool:
 
 
 def played(position: P, moves: Iterable[Union[int, str]]) -> Iterator[P]:
-    """Yields the position after each of `moves`. Passes may be left out, and those after the end of the game are
-    skipped. Raises the same as `Position.play`."""
+    """Yields the position after each move. Passes may be missing; those after the end are skipped. Raises as `play`."""
     for move in moves:
         if is_pass(move) and position.is_over:
             continue

@@ -168,8 +168,7 @@ class SolverCall:
 
     def wait_seconds(self) -> float:
         """For how long to wait before the next look. Raises TimeoutError and CancelledError if calls have to stop."""
-        left = self.end - time.monotonic()
-        if left <= 0:
+        if (left := self.end - time.monotonic()) <= 0:
             raise TimeoutError(f"not finished within {self.timeout} seconds")
         self.check()
         return min(left, CHECK_SECONDS)

@@ -41,8 +41,7 @@ class Refused(Exception):
             REFUSALS[status] = cls
 
     def __init__(self, index: Optional[int] = None, reason: Optional[str] = None) -> None:
-        if reason is not None:
-            self.reason = reason
+        self.reason = self.reason if reason is None else reason
         super().__init__(self.reason if index is None else f"position at index {index}: {self.reason}")
         self.index = index
 

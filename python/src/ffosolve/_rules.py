@@ -48,8 +48,7 @@ def c_position(position: Iterable[int]) -> CPosition:
 
 
 def c_positions(masks: List[int]) -> Any:
-    """Returns positions, given as the masks of one after those of another, in an array for the library. Raises
-    ValueError for a mask that is out of range."""
+    """Returns an array of positions, given by the masks `own` and `opp` of each. Raises ValueError for a wrong mask."""
     try:
         return (CPosition * (len(masks) // 2)).from_buffer(array.array("Q", masks))
     except OverflowError:

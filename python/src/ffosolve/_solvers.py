@@ -149,8 +149,8 @@ class Solver:
 
     def solve_arrays(self, own: Any, opp: Any, *, threads: int = 1, timeout: Seconds = None) -> Answers:
         """The answers for positions in arrays of uint64, as `masks_of` returns them: `own`, the masks of the discs of
-        the side to move, and `opp`, those of the other side. The result has three arrays of this length: `score` and
-        `kind` of int32, `best` of uint64. Needs NumPy. Raises what `solve_all` does, TypeError and ValueError, too."""
+        the side to move, and `opp`, those of the other side. Returns three arrays of that length: `score` and `kind` of
+        int32, `best` of uint64. Needs NumPy. Raises as `solve_all`, and TypeError and ValueError for other arrays."""
         return Answers(*self._in_arrays("ffosolve_solve_all", CAnswer, own, opp, threads, timeout))
 
     def move_scores_arrays(self, own: Any, opp: Any, *, threads: int = 1, timeout: Seconds = None) -> Any:
@@ -196,8 +196,7 @@ class Solver:
         return in_order(call, functools.partial(solve, call), batches, threads)
 
     def _in_arrays(self, name: str, record: Any, own: Any, opp: Any, threads: int, timeout: Seconds) -> List[Any]:
-        """Makes the call `name` of the library for arrays of positions. Returns an array for each member of `record`,
-        the C structure that the library writes for a position."""
+        """Makes a call as `_found`, for arrays of positions. Returns an array for each member of `record`."""
         call = self._call(timeout, threads)
         batches = batches_in(rows_of(own, opp), self._max_empties, call)
         return columns_of(record, in_order(call, lambda it: [self._found(call, it, name, record)], batches, threads))

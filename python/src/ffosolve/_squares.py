@@ -24,8 +24,7 @@ def square_number(name: str) -> int:
 
 
 def number_of(square: Union[int, str]) -> int:
-    """Returns the number of the square with the name `square`, or `square` itself if that is a number, even one that no
-    square has. Raises ValueError for a name that no square has, and TypeError for an object of another type."""
+    """The number of the square of that name; a number itself, even of no square. Raises ValueError and TypeError."""
     if not isinstance(square, str) and not hasattr(square, "__index__"):
         raise TypeError(f"a square is a name such as 'F5' or a number from 0 to 63, not {reprlib.repr(square)}")
     return square_number(square) if isinstance(square, str) else operator.index(square)
