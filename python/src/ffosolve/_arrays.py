@@ -5,7 +5,7 @@ from ._bulk import Batch, slices_of
 from ._library import CPosition
 from ._positions import Position
 from ._processes import SolverCall
-from ._rules import c_positions, checked_position, checked_positions, masks_and_empties
+from ._squares import c_positions, checked_position, checked_positions, masks_and_empties
 
 
 class Answers(NamedTuple):

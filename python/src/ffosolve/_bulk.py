@@ -9,7 +9,7 @@ from typing import Any, Callable, Deque, Iterable, Iterator, List, NamedTuple, T
 
 from ._processes import LIGHTEST, SolverCall, is_brief
 from ._refusals import Refused
-from ._rules import c_positions, checked_position, checked_positions
+from ._squares import c_positions, checked_position, checked_positions
 
 A = TypeVar("A")
 B = TypeVar("B")

@@ -10,8 +10,8 @@ from ._boards import OTHER, SIDES, Board, checked_score, checked_side
 from ._library import CAnswer, CPosition, LibraryNotFound, loaded, search
 from ._obf import MOVES, Lines, Listed, Source, bytes_of, lines_of, parsed
 from ._refusals import LineRefused, NoMemory, NoMove, NoPosition, Refused, Status
-from ._rules import accept, c_position, c_positions, moves, size_of
-from ._squares import NAMES, mask_of, number_of, square_names, square_of
+from ._squares import (NAMES, accept, c_position, c_positions, mask_of, moves, number_of, size_of, square_names,
+                       square_of)
 from ._symmetries import Symmetry, canonical_form, image
 from ._transcripts import PASSES, transcript_words
 

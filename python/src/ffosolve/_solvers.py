@@ -13,8 +13,7 @@ from ._library import MOST_EMPTIES, MOST_ENTRIES, NO_SCORE, CAnswer, CMoveScores
 from ._positions import P, Position
 from ._processes import Seconds, SolverCall
 from ._refusals import Refused, TooManyEntries, checked_number
-from ._rules import accept, c_positions, checked_position, masks_and_empties, moves
-from ._squares import NAMES
+from ._squares import NAMES, accept, c_positions, checked_position, masks_and_empties, moves
 
 KINDS = tuple(Kind)
 ANSWER, MOVE_SCORES = struct.Struct("iiQ"), struct.Struct("64bQ")  # the layouts of CAnswer and CMoveScores

@@ -7,8 +7,7 @@ from typing import Iterable, Tuple, Union
 from ._answers import ENDS
 from ._library import CPosition, loaded
 from ._refusals import UnknownSymmetry
-from ._rules import accept, c_position
-from ._squares import NAMES, checked_mask, square_of
+from ._squares import NAMES, accept, c_position, checked_mask, square_of
 
 
 class Symmetry(enum.IntEnum):
