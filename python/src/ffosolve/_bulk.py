@@ -76,9 +76,8 @@ def batches_of(positions: Iterable[Iterable[int]], max_empties: int, call: Solve
 
 
 def in_order(call: SolverCall, solve: Callable[[A], Iterable[B]], batches: Iterable[A], threads: int) -> Iterator[B]:
-    """Calls `solve` with each of `batches`, on up to `threads` new threads at once or, if `threads` is 1 or no thread
-    can be started, on the caller's. Yields the items that it returns, in the order of `batches`. Stops `call`, of which
-    all this is a part, when the iterator is closed."""
+    """Calls `solve` with each of `batches`, on up to `threads` new threads or, if that is 1 or none can be started, on
+    the caller's. Yields the items that it returns, in order. Stops `call`, of which this is a part, when closed."""
     # An exception of a signal's handler may leave a Future locked, but not a SimpleQueue.
     tasks: "queue.SimpleQueue[Any]" = queue.SimpleQueue()
     waiting: Deque["queue.SimpleQueue[Any]"] = deque()  # for each batch, a queue that gets its result

@@ -153,9 +153,8 @@ def games_in(file: Any, name: str) -> Tuple[Iterator[Game], Optional[int]]:
 
 
 def read_header(file: BinaryIO, name: str) -> Tuple[int, int, int]:
-    """Reads the header of a WTHOR file. Returns the number of games, their year, and the number of empty squares that
-    the theoretical scores are for; the last two are 0 if they are not known. Raises NotText, with `name` in the
-    message, if the header is not that of games on 8 by 8 squares."""
+    """Reads a WTHOR file's header: the number of games, their year, and the number of empty squares at the theoretical
+    scores, the last two 0 if not known. Raises NotText, with `name` in it, unless they are games on 8 by 8 squares."""
     head = file.read(HEADER.size)
     count, other, year, board, kind, empties = HEADER.unpack(head.ljust(HEADER.size, b"\0"))
     for is_wrong, why in (

@@ -1,4 +1,4 @@
-"""Finds the shared library, and declares its calls to ctypes, except for two that this package does not need."""
+"""Finds the shared library, and declares the calls that this package needs to ctypes."""
 import ctypes
 import functools
 import os
@@ -30,9 +30,7 @@ class CMoveScores(ctypes.Structure):
 
 
 def libraries_to_try() -> List[str]:
-    """The libraries to try if no path is given. If the environment variable FFOSOLVE_LIBRARY names one, only that one.
-    Otherwise those in this package, the one for newer processors first; then FILE_NAME where the system's loader
-    finds it; then this file in the folder `lib` of the virtual environment, if any, of Python and of /usr/local."""
+    """The libraries that `Solver()` tries, in the order of its help; in this package, for newer processors first."""
     if named := os.environ.get("FFOSOLVE_LIBRARY"):
         return [os.path.abspath(named) if os.sep in named else named]
     own = [os.path.join(os.path.dirname(__file__), level, FILE_NAME) for level in ("x86-64-v3", "x86-64-v2")]
@@ -70,7 +68,6 @@ def declared(place: str) -> ctypes.CDLL:
         "play": [CPosition, ctypes.c_uint8, to(CPosition)],
         "canonical": [CPosition, to(CPosition), to(number)],
         "image": [ctypes.c_uint64, number, to(ctypes.c_uint64)],
-        "limit": [number],
         "version": [],
     }
     for name, arguments in calls.items():
@@ -78,7 +75,7 @@ def declared(place: str) -> ctypes.CDLL:
             call = getattr(library, f"ffosolve_{name}")
         except AttributeError as error:
             raise LibraryNotFound(f"{place} is not this package's library: {error}") from None
-        call.argtypes, call.restype = arguments, size if name == "limit" else ctypes.c_int32
+        call.argtypes, call.restype = arguments, ctypes.c_int32
     if library.ffosolve_version() // 10000 != MAJOR:
         raise LibraryNotFound(f"{place} has version {library.ffosolve_version()}, not {MAJOR}.x.y")
     _loaded.append(library)

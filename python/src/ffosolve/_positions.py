@@ -37,9 +37,8 @@ class Position:
 
     A position does not change: `play`, `play_all` and `passed` return a new one, of the same class, and so does
     `_replace(own=.., opp=.., side=..)`, which Python 3.13 also calls `copy.replace`. The shared library knows the
-    rules, so `legal_moves`, `is_legal`, `must_pass`, `is_over`, `play`, `play_all`, `score`, `canonical`, `image` and
-    `symmetries` raise LibraryNotFound without it. Only these and a Solver look at the masks: they raise ValueError for
-    one outside 0 to 2**64 - 1, and SharedSquare if a square is in both."""
+    rules: without it, calls for moves, scores and images raise LibraryNotFound. Only these and a Solver look at the
+    masks: they raise ValueError for one outside 0 to 2**64 - 1, and SharedSquare if a square is in both."""
 
     __slots__ = ("_all",)  # one tuple of all, since `__setattr__` makes assignments slow
     __match_args__ = ("own", "opp")

@@ -37,8 +37,7 @@ CANCELLED = contextvars.ContextVar("cancelled", default=threading.Event())  # is
 
 
 def is_brief(count: int, empties: int) -> bool:
-    """Whether a call for `count` positions with at most `empties` empty squares is brief: it takes 0.4 s at most. For
-    each empty square more than LIGHTEST, it may have a fourth of the positions."""
+    """Whether a call for `count` positions with at most `empties` empty squares takes 0.4 seconds at most."""
     return count << 2 * max(0, empties - LIGHTEST) <= BRIEF
 
 
@@ -217,7 +216,6 @@ async def to_thread(func: Callable[..., T], /, *args: Any, **kwargs: Any) -> T:
         answer = await asyncio.wait_for(ffosolve.to_thread(solver.solve, position), 60)
     """
     import asyncio  # which takes longer to import than all of this package
-
     cancelled, context = threading.Event(), contextvars.copy_context()
     context.run(CANCELLED.set, cancelled)
     try:

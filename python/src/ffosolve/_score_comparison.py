@@ -207,7 +207,7 @@ def printed(entries: Iterable[ListEntry], scored: Source) -> Iterator[Tuple[List
         if isinstance(line, NoPosition) and isinstance(exact, NoPosition):
             continue
         is_refused = isinstance(exact, NoPosition) and without_end(text).startswith(b"% refused: ")
-        answers = (isinstance(line, Position) and isinstance(exact, Position) and exact == line
+        answers = (isinstance(exact, Position) and exact == line
                    and sorted(move for move, _ in exact.listed) == sorted(moves_to_score(exact)))
         if not is_refused and not answers:
             raise ValueError(f"line {number} of the scores is not what ffoscores prints for line {number} of the list")

@@ -6,7 +6,7 @@ import struct
 from typing import Any, Callable, Dict, Iterable, Iterator, List, Optional, Tuple, Union
 
 from ._answers import ENDS, Answer, Kind, Scoring
-from ._arrays import Answers, batches_in, columns_of, rows_of
+from ._arrays import Answers, batches_in, rows_of
 from ._bulk import Batch, BatchOrRefusal, batches_of, in_order
 from ._games import Game, positions_of
 from ._library import MOST_EMPTIES, MOST_ENTRIES, NO_SCORE, CAnswer, CMoveScores, load, version_of
@@ -30,8 +30,8 @@ def table_entries(empties: int) -> int:
 
 class Solver:
     """Solves positions under a scoring. Keeps no results between calls. Several threads may use one Solver at once. It
-    can be pickled. A call ends with TimeoutError if it takes more than `timeout` seconds; `help(ffosolve)` says what
-    else stops it, and what a call does that can't be stopped.
+    can be pickled, as for a pool of processes. A call ends with TimeoutError if it takes more than `timeout` seconds;
+    `help(ffosolve)` says what else stops it, and what a call does that can't be stopped.
 
     `library` is the path of the shared library. By default, it is the path in the environment variable FFOSOLVE_LIBRARY
     or, if that is empty or not set, the first library that fits: in this package, in the system's library folders, in
@@ -153,9 +153,8 @@ class Solver:
         return Answers(*self._in_arrays("ffosolve_solve_all", CAnswer, own, opp, threads, timeout))
 
     def move_scores_arrays(self, own: Any, opp: Any, *, threads: int = 1, timeout: Seconds = None) -> Any:
-        """The scores of all moves in positions. `own` and `opp` are as for `solve_arrays`. The result is an array of
-        int8 with a row of 64 scores for each position, in the order A1, B1, .. H8, with NO_SCORE for an illegal move.
-        Needs NumPy. Raises the same as `solve_arrays`."""
+        """The scores of all moves: an array of int8 with a row of 64 scores for each position, in the order A1, B1, ..
+        H8, with NO_SCORE for an illegal move. Takes, needs and raises the same as `solve_arrays`."""
         return self._in_arrays("ffosolve_move_scores_all", CMoveScores, own, opp, threads, timeout)[0]
 
     def moves(self, position: Position) -> int:
@@ -196,9 +195,12 @@ class Solver:
 
     def _in_arrays(self, name: str, record: Any, own: Any, opp: Any, threads: int, timeout: Seconds) -> List[Any]:
         """Makes a call as `_found`, for arrays of positions. Returns an array for each member of `record`."""
+        import numpy
         call = self._call(timeout, threads)
         batches = batches_in(rows_of(own, opp), self._max_empties, call)
-        return columns_of(record, in_order(call, lambda it: [self._found(call, it, name, record)], batches, threads))
+        parts = in_order(call, lambda it: [bytes(self._found(call, it, name, record))], batches, threads)
+        found: Any = numpy.frombuffer(bytearray().join(parts), record)
+        return [numpy.ascontiguousarray(found[field]) for field, _ in record._fields_]
 
     def _answers(self, call: SolverCall, batch: BatchOrRefusal, *claim: CAnswer) -> List[Answer]:
         name = "ffosolve_confirm" if claim else "ffosolve_solve_all"

@@ -22,10 +22,9 @@ GGF_START = f"8{27 * '-'}O*{6 * '-'}*O{27 * '-'}*"  # 8 by 8 squares, the usual 
 
 
 def transcript_words(text: str) -> List[str]:
-    """The words of a transcript, in lower case: squares without blanks inside, passes (several hyphens become `--`)
-    and other text in words of one or two characters. Skips headers in brackets before the moves, blanks, commas, a
-    hyphen between moves, move numbers such as `1.` and `12`, a result at the end such as `33-31`, `+2` or `*`, and all
-    from `%` on. Reads a game in GGF by `ggf_words`, and raises what that raises; ValueError for a move with a mark."""
+    """The words of a transcript in any form that `Game.of_text` reads, in lower case: squares without blanks inside,
+    passes (several hyphens become `--`), and other text in words of one or two characters. Raises ValueError for a
+    move with a mark, and as `ggf_words`."""
     if GGF.match(text):
         return ggf_words(text)
     text = HEADERS.sub("", text, 1) if HEADERS.match(text) else text
