@@ -50,7 +50,7 @@ def slices_of(empties: List[int], call: SolverCall, at_once: bool) -> Iterator[T
 def batches_of(positions: Iterable[Iterable[int]], max_empties: int, call: SolverCall, at_once: bool
                ) -> Iterator[BatchOrRefusal]:
     """Yields Batches of `positions`; reads all before if `at_once`. At a refused position, yields Batches of those
-    before it, and last a Refused. Raises TypeError for what is no position, ValueError for most wrong masks."""
+    before it, then the Refused, or raises it if `at_once`. Raises TypeError, and ValueError for most wrong masks."""
     masks: List[int] = []
     empties: List[int] = []
     weight, end = 0, time.monotonic() + MOST_SECONDS
@@ -64,6 +64,8 @@ def batches_of(positions: Iterable[Iterable[int]], max_empties: int, call: Solve
             own, opp, count = checked_position(position, max_empties, index)
         except Refused as refusal:
             yield from batches()
+            if at_once:
+                raise
             yield refusal
             return
         masks += own, opp

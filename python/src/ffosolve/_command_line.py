@@ -13,7 +13,6 @@ import tempfile
 import threading
 import time
 from pathlib import Path
-from types import FrameType
 from typing import IO, Any, Callable, Iterable, Iterator, Mapping, NoReturn, Optional, Set, Tuple, Type, Union
 
 from ._text import NotText, shown
@@ -230,7 +229,7 @@ def run(program: str, main: Callable[[], int], interrupted: str = "") -> NoRetur
     name = program
     handled = threading.Lock()
 
-    def handle(number: int, frame: Optional[FrameType]) -> None:
+    def handle(number: int, frame: object) -> None:
         if handled.acquire(blocking=False):  # otherwise, this interrupts itself, and goes on
             if interrupted:
                 say(interrupted)

@@ -202,7 +202,7 @@ def list_games(options: argparse.Namespace, messages: Messages) -> Iterator[byte
 
 def found_in(name: str, options: argparse.Namespace, messages: Messages) -> Iterator[Found]:
     """Yields the games of a file, and reports what is wrong with them. N is that of --empties or, without it and for
-    `check` and `compare`, of the file's header; refuses if there is none. Leaves out theoretical scores for others."""
+    `check` and `compare`, of the file's header; refuses if there is none. Drops a theoretical score for another N."""
     with file_of(name) as file:
         games, of_scores = games_in(file, shown(name))
         if options.task and of_scores is None:

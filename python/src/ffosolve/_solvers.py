@@ -1,5 +1,4 @@
 """The Solver, which calls the shared library. A mask is a set of squares as a number: A1 is bit 0, .. H8 is bit 63."""
-import functools
 import os
 import reprlib
 import struct
@@ -186,12 +185,8 @@ class Solver:
               threads: int, timeout: Seconds, at_once: bool = False) -> Iterator[Any]:
         """Yields what `solve` finds for positions. If `at_once`, first reads all, and raises a Refused if one is."""
         call, threads = self._call(timeout, threads if at_once else 1), checked_number("threads", threads, 1)
-        batches: Iterable[BatchOrRefusal] = batches_of(positions, self._max_empties, call, at_once)
-        if at_once:
-            batches = list(batches)
-            if batches and isinstance(batches[-1], Refused):
-                raise batches[-1]
-        return in_order(call, functools.partial(solve, call), batches, threads)
+        batches = batches_of(positions, self._max_empties, call, at_once)
+        return in_order(call, lambda batch: solve(call, batch), list(batches) if at_once else batches, threads)
 
     def _in_arrays(self, name: str, record: Any, own: Any, opp: Any, threads: int, timeout: Seconds) -> List[Any]:
         """Makes a call as `_found`, for arrays of positions. Returns an array for each member of `record`."""
