@@ -13,6 +13,7 @@ from ._squares import c_positions, checked_position, checked_positions
 
 A = TypeVar("A")
 B = TypeVar("B")
+BatchOrRefusal = Union["Batch", Refused]
 
 # Positions of this weight together are solved in some hundredths of a second. A position with up to 8 empty squares
 # weighs 1, and each further empty square doubles the weight, so one with 16 is heavy enough for a batch of its own.
@@ -25,9 +26,6 @@ BATCHES_AHEAD = 32  # batches that are read ahead for each thread, so that a slo
 class Batch(NamedTuple):
     positions: Any  # an array of CPositions
     empties: int  # the greatest number of empty squares in one
-
-
-BatchOrRefusal = Union[Batch, Refused]
 
 
 def slices_of(empties: List[int], call: SolverCall, at_once: bool) -> Iterator[Tuple[slice, int]]:

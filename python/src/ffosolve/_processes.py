@@ -33,6 +33,8 @@ Seconds = Optional[float]  # None stands for any time
 BRIEF, LIGHTEST = 4096, 8  # the most positions of a brief call, and their most empty squares
 CHECK_SECONDS = 0.2  # how often a waiting call finds out whether it has to stop, also by a signal to another thread
 STARTS = threading.RLock()  # is held while this process has ends of pipes that a forked process must not have
+PATHS: Dict[Tuple[str, ctypes.CDLL], str] = {}  # what `program` has found
+PROCESSES: "weakref.WeakSet[Process]" = weakref.WeakSet()  # those that there are
 CANCELLED = contextvars.ContextVar("cancelled", default=threading.Event())  # is set once nobody awaits the result
 
 
@@ -58,9 +60,6 @@ def program(name: str, call: "SolverCall") -> str:
         if not printed and status <= 0:
             raise ended(status)
     raise FileNotFoundError(f"no process can be started: {wanted} is neither beside {folder} nor on the path")
-
-
-PATHS: Dict[Tuple[str, ctypes.CDLL], str] = {}  # what `program` has found
 
 
 def ended(status: int, errors: str = "") -> ChildProcessError:
@@ -121,9 +120,6 @@ class SearchProcess(Process):
         if status or printed.count(b"\n") - 2 * printed.startswith(b"[1]") != lines.count("\n"):
             raise ended(status, errors)
         return printed.decode().splitlines()
-
-
-PROCESSES: "weakref.WeakSet[Process]" = weakref.WeakSet()
 
 
 def forget() -> None:

@@ -21,6 +21,7 @@ Evaluated = Union[Source, Mapping[Position, Values], Iterable[Tuple[Position, Va
 Known = Union[Mapping[Position, Union[int, Answer, Mapping[str, int]]], Answers]
 Scores = List[Tuple[Optional[str], Number]]  # of moves, or with None of the position
 Exact = Dict[Optional[str], int]  # of each move, or with None of the position alone
+Row = Tuple["ListEntry", Exact]
 
 
 class WrongScore(NamedTuple):
@@ -110,9 +111,6 @@ class ListEntry(NamedTuple):
     position: Any
     scores: Scores
     unread: int = 0
-
-
-Row = Tuple[ListEntry, Exact]
 
 
 def list_entries(listed: Evaluated) -> Iterator[ListEntry]:
