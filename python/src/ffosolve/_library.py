@@ -60,7 +60,7 @@ def loaded() -> ctypes.CDLL:
 def declared(place: str) -> ctypes.CDLL:
     library = ctypes.CDLL(place)
     size, number, to = ctypes.c_size_t, ctypes.c_uint32, ctypes.POINTER
-    calls = {
+    calls = {  # each returns an int, as ctypes takes for granted
         "confirm": [CPosition, number, size, CAnswer, to(CAnswer)],
         "solve_all": [to(CPosition), size, number, size, to(CAnswer), size, to(size)],
         "move_scores_all": [to(CPosition), size, number, size, to(CMoveScores), size, to(size)],
@@ -72,10 +72,9 @@ def declared(place: str) -> ctypes.CDLL:
     }
     for name, arguments in calls.items():
         try:
-            call = getattr(library, f"ffosolve_{name}")
+            getattr(library, f"ffosolve_{name}").argtypes = arguments
         except AttributeError as error:
             raise LibraryNotFound(f"{place} is not this package's library: {error}") from None
-        call.argtypes, call.restype = arguments, ctypes.c_int32
     if library.ffosolve_version() // 10000 != MAJOR:
         raise LibraryNotFound(f"{place} has version {library.ffosolve_version()}, not {MAJOR}.x.y")
     _loaded.append(library)

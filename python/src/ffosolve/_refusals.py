@@ -6,6 +6,9 @@ from typing import Any, Dict, Optional, Tuple, Type
 
 from ._library import MOST_EMPTIES, MOST_ENTRIES
 
+WRONG_MASK = "a mask is a whole number from 0 to 2**64 - 1"
+REFUSALS: Dict[int, Type["Refused"]] = {}  # the class of each status
+
 
 class Status(enum.IntEnum):
     """The statuses that calls of the library return. In ffosolve.h, each name begins with FFOSOLVE_."""
@@ -23,10 +26,6 @@ class Status(enum.IntEnum):
     BAD_SQUARE = 10
     BAD_SIDE = 11
     UNKNOWN_SYMMETRY = 12
-
-
-WRONG_MASK = "a mask is a whole number from 0 to 2**64 - 1"
-REFUSALS: Dict[int, Type["Refused"]] = {}  # the class of each status
 
 
 class Refused(Exception):
