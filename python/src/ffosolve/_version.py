@@ -35,8 +35,7 @@ def version() -> str:
 
 def git(root: Path, *words: str) -> List[str]:
     command = ["git", f"--git-dir={root / '.git'}", *words]
-    return subprocess.run(command, cwd=root, stdout=subprocess.PIPE, stderr=subprocess.DEVNULL, check=True,
-                          encoding="ascii").stdout.split()
+    return subprocess.check_output(command, cwd=root, stderr=subprocess.DEVNULL, encoding="ascii").split()
 
 
 if __name__ == "__main__":
