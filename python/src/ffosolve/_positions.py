@@ -212,15 +212,13 @@ class Position:
         return int(found[0].score)
 
     def canonical(self: P) -> P:
-        """The same position for all eight images of a position under the symmetries of the board: the image with the
-        least `own` and, among these, the least `opp`."""
+        """The same for all eight images of a position: that with the least `own` and, among these, the least `opp`."""
         own, opp, _ = canonical_form(self)
         return type(self)(own, opp, self.side)
 
     @property
     def canonical_symmetry(self) -> Symmetry:
-        """The first Symmetry that leads to `canonical()`. `canonical_symmetry.square("F5")` is the square that F5
-        becomes there, and `canonical_symmetry.inverse` leads back."""
+        """The first Symmetry that leads to `canonical()`. Its `square("F5")` is what F5 becomes; `inverse` leads back."""
         return canonical_form(self)[2]
 
     def image(self: P, symmetry: int) -> P:
@@ -277,8 +275,7 @@ class Position:
         return {"own": self.own, "opp": self.opp, "side": self.side}
 
     def _replace(self: P, **changes: Any) -> P:
-        """Returns a copy with other masks or another side. With other masks, it is another board, of which neither the
-        last move nor a line is known."""
+        """Returns a copy with another side, or with other masks, of which neither the last move nor a line is known."""
         changed, position = Position(**{**Position._asdict(self), **changes}), copy.copy(self)
         fill(position, changed._all if changed != self else (*changed._all[:2], *self._all[2:]))
         return position
@@ -329,8 +326,7 @@ def following(before: P, own: int, opp: int, move: str) -> P:
 
 
 def read_line(text: Union[str, bytes], number: Optional[int], kind: Type[P]) -> P:
-    """Reads a line of OBF text as a position of the class `kind`, and raises the same as `Position.from_obf`. `number`,
-    which may be None, becomes the `number` of the position or the `line` of the LineRefused."""
+    """Does what `kind.from_obf` does; `number` becomes that of the position, or the `line` of the LineRefused."""
     try:
         own, opp, side, listed = parsed(text, number)
         line = kind(own, opp, side)
