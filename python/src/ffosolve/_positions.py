@@ -218,7 +218,7 @@ class Position:
 
     @property
     def canonical_symmetry(self) -> Symmetry:
-        """The first Symmetry that leads to `canonical()`: `square("F5")` tells what F5 becomes, `inverse` leads back."""
+        """The first Symmetry that leads to `canonical()`: `square("F5")` is what F5 becomes, `inverse` leads back."""
         return canonical_form(self)[2]
 
     def image(self: P, symmetry: int) -> P:
