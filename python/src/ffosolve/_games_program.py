@@ -263,8 +263,7 @@ def compare(options: argparse.Namespace, messages: Messages) -> Iterator[bytes]:
         fix(copies, found, options)
     differ = [it for it in found if it.difference]
     for it in differ:
-        published = f"published {it.game.score}, exact {it.exact}, difference {it.difference:+}"
-        yield f"{it.title}: {published}".encode()
+        yield f"{it.title}: published {it.game.score}, exact {it.exact}, difference {it.difference:+}".encode()
     known = sum(it.exact is not None for it in found)
     unsolved = sum(it.position is not None and it.exact is None for it in found)
     if differ or unsolved:
