@@ -31,8 +31,7 @@ class Symmetry(enum.IntEnum):
     @property
     def inverse(self) -> "Symmetry":
         """The Symmetry that undoes this one."""
-        turns = {Symmetry.TURN_RIGHT: Symmetry.TURN_LEFT, Symmetry.TURN_LEFT: Symmetry.TURN_RIGHT}
-        return turns.get(self, self)
+        return {Symmetry.TURN_RIGHT: Symmetry.TURN_LEFT, Symmetry.TURN_LEFT: Symmetry.TURN_RIGHT}.get(self, self)
 
     def square(self, square: Union[int, str]) -> str:
         """The name of the square to which a square moves. `square` is a name such as "F5" or a number, 0 to 63. A pass,
