@@ -29,11 +29,8 @@ with two more empty squares takes some 2 to 20 times as long.
 with the position in which it is made, which is what a search for a player's mistakes needs. `compare_scores` compares
 the scores of an evaluation with exact ones. With NumPy, `solver.solve_arrays(*masks_of(positions))` solves arrays.
 
-`position.canonical()` is the same for all eight images of a position, as a book needs it, and
-`position.canonical_symmetry.square("F5")` is the square that a move becomes there.
-
-A notebook shows a position as a picture. `position.show(solver.move_scores(position))` adds the scores of its moves;
-`position.show().save("board.svg")` writes the picture to a file.
+`position.canonical()` is the same for all eight images of a position, as a book needs it. A notebook shows a position
+as a picture, and `position.show(solver.move_scores(position))` with the scores of its moves.
 
 These calls take `threads=N` and `timeout=SECONDS`: `compare_scores`, and of a Solver `solve`, `confirm`, `best_line`,
 `move_scores`, `scored_line`, and those whose names end with `_all`, `_iter` or `_arrays`. Threads solve several
@@ -48,8 +45,7 @@ Positions with more than 14 empty squares are solved by the programs `ffosolve` 
 call stops, or with this program. They are those in the wheel, beside the library (`lib` and `bin`) or on the path, if
 they have the library's version. If somebody else ends one, its call raises ChildProcessError. If there is none, or
 while Python is ending, a call with a `timeout` raises OSError, and one without is made in this process. Positions with
-fewer empty squares are solved in this process anyway, some at a time: their call ends within half a second after its
-`timeout`. Several threads may call at once, and so may the processes of a pool, since a Solver can be pickled.
+fewer empty squares are solved here anyway, some at a time: their call ends within half a second after its `timeout`.
 
 The wheel that `make wheel` builds contains the shared library and the programs. Without that wheel, install ffosolve,
 or name the library: `Solver("FOLDER/libffosolve.so")` or FFOSOLVE_LIBRARY. Reading, writing and showing positions needs
@@ -63,8 +59,7 @@ The classes and functions have a help of their own, such as `help(ffosolve.Posit
     arrays       masks_of positions_from
     errors       Refused (of calls: NoMemory NoMove SharedSquare TooManyEmpties TooManyEntries UnequalLengths
                  UnknownScoring UnknownSymmetry OtherRefusal; of lines: LineRefused NoPosition ShortBoard BadSquare
-                 BadSide), whose `status` is a Status; GameRefused LibraryNotFound ReadingWarning
-"""
+                 BadSide), whose `status` is a Status; GameRefused LibraryNotFound ReadingWarning"""
 from typing import TYPE_CHECKING
 
 from ._answers import Answer, Kind, Scoring

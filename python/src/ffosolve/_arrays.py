@@ -5,7 +5,7 @@ from ._bulk import Batch, slices_of
 from ._library import CPosition
 from ._positions import Position
 from ._processes import SolverCall
-from ._rules import c_positions, checked_position, checked_positions, masks_and_empties
+from ._squares import c_positions, checked_position, checked_positions, masks_and_empties
 
 
 class Answers(NamedTuple):
@@ -17,11 +17,9 @@ class Answers(NamedTuple):
 
 
 def masks_of(positions: Iterable[Position]) -> Tuple[Any, Any]:
-    """Returns (own, opp) for positions: arrays of uint64 with the masks of the discs of the side to move and of the
-    other side, as `Solver.solve_arrays` takes them. Raises ValueError for a mask outside 0 to 2**64 - 1, and TypeError
-    for an object that is not a position."""
+    """Returns (own, opp): arrays of uint64 with the masks of positions, as `Solver.solve_arrays` takes them. Raises
+    ValueError for a mask outside 0 to 2**64 - 1, and TypeError for an object that is not a position."""
     import numpy
-
     listed = [mask for position in checked_positions(positions) for mask in masks_and_empties(position)[:2]]
     # To read the type of a ctypes array, NumPy runs Python code that takes an exception of a signal for a wrong type.
     masks = numpy.frombuffer(c_positions(listed), numpy.uint64).reshape(-1, 2)
@@ -36,11 +34,8 @@ def positions_from(own: Any, opp: Any, side: str = "X") -> List[Position]:
 
 
 def rows_of(own: Any, opp: Any) -> Any:
-    """Returns an array with a row of two masks for each position in arrays such as `masks_of` returns, laid out as a
-    CPosition. Raises TypeError unless they are arrays of uint64, and ValueError unless these have one dimension and
-    equal lengths."""
+    """Returns an array of rows, each laid out as a CPosition. Takes and refuses what `positions_from` does."""
     import numpy
-
     own, opp = numpy.asarray(own), numpy.asarray(opp)
     for masks in (own, opp):
         if masks.dtype != numpy.uint64:
@@ -52,22 +47,11 @@ def rows_of(own: Any, opp: Any) -> Any:
 
 
 def batches_in(rows: Any, max_empties: int, call: SolverCall) -> Iterator[Batch]:
-    """Yields Batches of the `rows_of` arrays. Raises SharedSquare, or TooManyEmpties for more than `max_empties`, for
-    the first refused position."""
+    """Yields Batches of what `rows_of` returns. For the first refused position, raises what `checked_position` does."""
     import numpy
-
     own, opp = rows[:, 0], rows[:, 1]
-    sizes = numpy.array([bin(byte).count("1") for byte in range(256)], numpy.uint8)  # how many bits each byte has
-    empties = 64 - sizes[(own | opp).view(numpy.uint8)].reshape(-1, 8).sum(axis=1, dtype=numpy.int64)
+    empties = 64 - numpy.unpackbits((own | opp).view(numpy.uint8)).reshape(-1, 64).sum(axis=1, dtype=numpy.int64)
     for index in numpy.flatnonzero((own & opp != 0) | (empties > max_empties)).tolist():
         checked_position(rows[index].tolist(), max_empties, index)
     for at, most in slices_of(empties.tolist(), call, True):
         yield Batch((CPosition * len(rows[at])).from_buffer(rows[at]), most)
-
-
-def columns_of(record: Any, parts: Iterable[Any]) -> List[Any]:
-    """Joins ctypes arrays of `record`, a C structure, and returns an array for each of its members."""
-    import numpy
-
-    found: Any = numpy.frombuffer(bytearray().join(map(bytes, parts)), record)
-    return [numpy.ascontiguousarray(found[field]) for field, _ in record._fields_]

@@ -58,7 +58,10 @@ class Board:
 
     def __str__(self) -> str:
         width = 4 if self.scores else 1
-        rows = [[self._text(8 * row + column) for column in range(8)] for row in range(8)]
+        texts = [*self.letters]
+        for at, score in self.scores.items():
+            texts[at] = f"{score:+}" + "*" * (score == self.best)
+        rows = [texts[first:first + 8] for first in range(0, 64, 8)]
         lines = [" ".join(f"{text:>{width}}" for text in row) for row in ["ABCDEFGH", *rows]]
         return "\n".join([*map("{} {}".format, " 12345678", lines), f"{self.side} {self.state}"])
 
@@ -70,12 +73,6 @@ class Board:
             raise ValueError(f"a board is saved as a picture in SVG, so its file's name ends with .svg: {path}")
         with open(path, "w", encoding="utf-8") as file:
             file.write(f"{self._repr_svg_()}\n")
-
-    def _text(self, at: int) -> str:
-        """The text of square `at`: its score, with a star if no score is higher; without a score, `X`, `O` or `-`."""
-        if at not in self.scores:
-            return self.letters[at]
-        return f"{self.scores[at]:+}" + "*" * (self.scores[at] == self.best)
 
     def _repr_svg_(self) -> str:
         width, height = BOARD + 2 * MARGIN, BOARD + MARGIN + FOOT

@@ -18,8 +18,7 @@ def scores_in(book: Iterable[bytes], name: str) -> Dict[Position, int]:
         raise NotText(f"{wrong} does not begin with `{FIRST_LINE}`, as what ffosolve-many --book-out writes")
     scores = {}
     for number, line in enumerate(lines, 2):
-        match = ENTRY.fullmatch(line)
-        if match is None:
+        if not (match := ENTRY.fullmatch(line)):
             raise NotText(f"{wrong}s line {number} is not an entry of a book")
         score = int(match[1])
         if abs(score) > 64 or score % 2:

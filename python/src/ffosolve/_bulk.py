@@ -9,10 +9,11 @@ from typing import Any, Callable, Deque, Iterable, Iterator, List, NamedTuple, T
 
 from ._processes import LIGHTEST, SolverCall, is_brief
 from ._refusals import Refused
-from ._rules import c_positions, checked_position, checked_positions
+from ._squares import c_positions, checked_position, checked_positions
 
 A = TypeVar("A")
 B = TypeVar("B")
+BatchOrRefusal = Union["Batch", Refused]
 
 # Positions of this weight together are solved in some hundredths of a second. A position with up to 8 empty squares
 # weighs 1, and each further empty square doubles the weight, so one with 16 is heavy enough for a batch of its own.
@@ -27,13 +28,9 @@ class Batch(NamedTuple):
     empties: int  # the greatest number of empty squares in one
 
 
-BatchOrRefusal = Union[Batch, Refused]
-
-
 def slices_of(empties: List[int], call: SolverCall, at_once: bool) -> Iterator[Tuple[slice, int]]:
-    """Cuts positions, given by their numbers of empty squares, into slices; yields each with its greatest number. The
-    call for a slice is brief, unless that for its first position alone is not: such a slice is for a program, which
-    gets all further positions if `at_once`."""
+    """Cuts positions, given by their numbers of empty squares, into slices; yields each with its greatest number. A
+    slice is for a brief call or, if its first position takes longer, for a program: with all others if `at_once`."""
     gets_all = at_once and not is_brief(1, max(empties, default=0)) and call.has_program()
     start = greatest = weight = 0
     for at, count in enumerate(empties):
@@ -51,10 +48,9 @@ def slices_of(empties: List[int], call: SolverCall, at_once: bool) -> Iterator[T
 def batches_of(positions: Iterable[Iterable[int]], max_empties: int, call: SolverCall, at_once: bool
                ) -> Iterator[BatchOrRefusal]:
     """Yields Batches of `positions`; reads all before if `at_once`. At a refused position, yields Batches of those
-    before it, and last a Refused. Raises TypeError for what is no position, ValueError for most wrong masks."""
+    before it, then the Refused, or raises it if `at_once`. Raises TypeError, and ValueError for most wrong masks."""
     masks: List[int] = []
     empties: List[int] = []
-    refused: List[Refused] = []
     weight, end = 0, time.monotonic() + MOST_SECONDS
 
     def batches() -> Iterator[Batch]:
@@ -65,8 +61,11 @@ def batches_of(positions: Iterable[Iterable[int]], max_empties: int, call: Solve
         try:
             own, opp, count = checked_position(position, max_empties, index)
         except Refused as refusal:
-            refused.append(refusal)
-            break
+            yield from batches()
+            if at_once:
+                raise
+            yield refusal
+            return
         masks += own, opp
         empties.append(count)
         weight += 1 << max(0, count - LIGHTEST)
@@ -74,13 +73,11 @@ def batches_of(positions: Iterable[Iterable[int]], max_empties: int, call: Solve
             yield from batches()
             masks, empties, weight, end = [], [], 0, time.monotonic() + MOST_SECONDS
     yield from batches()
-    yield from refused
 
 
 def in_order(call: SolverCall, solve: Callable[[A], Iterable[B]], batches: Iterable[A], threads: int) -> Iterator[B]:
-    """Calls `solve` with each of `batches`, on up to `threads` new threads at once or, if `threads` is 1 or no thread
-    can be started, on the caller's. Yields the items that it returns, in the order of `batches`. Stops `call`, of which
-    all this is a part, when the iterator is closed."""
+    """Calls `solve` with each of `batches`, on up to `threads` new threads or, if that is 1 or none can be started, on
+    the caller's. Yields the items that it returns, in order. Stops `call`, of which this is a part, when closed."""
     # An exception of a signal's handler may leave a Future locked, but not a SimpleQueue.
     tasks: "queue.SimpleQueue[Any]" = queue.SimpleQueue()
     waiting: Deque["queue.SimpleQueue[Any]"] = deque()  # for each batch, a queue that gets its result

@@ -13,8 +13,7 @@ import tempfile
 import threading
 import time
 from pathlib import Path
-from types import FrameType
-from typing import IO, Any, Callable, Dict, Iterable, Iterator, Mapping, NoReturn, Optional, Set, Tuple, Type, Union
+from typing import IO, Any, Callable, Iterable, Iterator, Mapping, NoReturn, Optional, Set, Tuple, Type, Union
 
 from ._text import NotText, shown
 
@@ -36,8 +35,7 @@ class Refusal(Exception):
 
 
 @contextlib.contextmanager
-def refusing(verb: str, what: Union[str, "os.PathLike[str]"],
-             passed: Tuple[Type[BaseException], ...] = ()) -> Iterator[None]:
+def refusing(verb: str, what: Union[str, "os.PathLike[str]"], passed: Tuple[Type[OSError], ...] = ()) -> Iterator[None]:
     """Turns an OSError in a `with` block, except of types `passed`, into a Refusal "cannot {verb} {what}: {reason}"."""
     try:
         yield
@@ -158,8 +156,7 @@ def replace(name: str, pieces: Iterable[bytes]) -> None:
 
 
 def lock_file(file: int, folder: Union[str, "os.PathLike[str]"], what: str) -> None:
-    """Locks an open file, for as long as it is open. It stands for a folder, in which `what`, such as a run, works:
-    refuses if another one does, unless that ends within two seconds."""
+    """Locks an open file, which stands for a folder where `what` works. Refuses if another one does for two seconds."""
     for _ in range(40):
         try:
             return fcntl.flock(file, fcntl.LOCK_EX | fcntl.LOCK_NB)
@@ -184,12 +181,11 @@ def write_whole(files: Mapping[str, Iterable[bytes]], replaces: bool = False, mo
     the contents of all are on the disk or, unless `is_synced`, are written. If a path exists, replaces that file or,
     unless `replaces`, raises FileExistsError; without hard links, always replaces it. OSError has the path as
     `filename`. After an error, files that have got their paths stay."""
-    complete: Dict[str, str] = {}  # for each path, a temporary file next to it
+    complete = {path: f"{path}.{os.urandom(4).hex()}.new" for path in files}  # temporary files next to the paths
+    _unfinished.update(complete.values())
     flags = os.O_WRONLY | os.O_CREAT | os.O_EXCL
     try:
         for path, pieces in files.items():
-            complete[path] = f"{path}.{os.urandom(4).hex()}.new"
-            _unfinished.add(complete[path])
             with open(os.open(complete[path], flags, 0o666 if mode is None else mode), "wb") as file:
                 file.writelines(pieces)
                 file.flush()
@@ -230,10 +226,9 @@ def run(program: str, main: Callable[[], int], interrupted: str = "") -> NoRetur
     message `interrupted`, if any. An exception of a handler might get lost, so the handler itself ends the process."""
     global name
     name = program
-
     handled = threading.Lock()
 
-    def handle(number: int, frame: Optional[FrameType]) -> None:
+    def handle(number: int, frame: object) -> None:
         if handled.acquire(blocking=False):  # otherwise, this interrupts itself, and goes on
             if interrupted:
                 say(interrupted)

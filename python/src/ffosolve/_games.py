@@ -5,7 +5,7 @@ import os
 import struct
 import warnings
 from typing import (Any, BinaryIO, Callable, Iterable, Iterator, List, Mapping, NamedTuple, Optional, Sequence, Tuple,
-                    Type, Union)
+                    Union)
 
 from ._positions import NO_SQUARE, START, Position, played
 from ._refusals import NoMove
@@ -35,7 +35,7 @@ class GameRefused(ValueError):
         super().__init__(f"game {game}" + ("" if move is None else f", move {move}") + f": {reason}")
         self.reason, self.game, self.move = reason, game, move
 
-    def __reduce__(self) -> Tuple[Type["GameRefused"], Tuple[str, int, Optional[int]]]:
+    def __reduce__(self) -> Tuple[Any, ...]:
         return type(self), (self.reason, self.game, self.move)
 
 
@@ -99,10 +99,8 @@ class Game(NamedTuple):
         return self.words[at] if at < len(self.words) else self.moves[at]
 
 
-def read_games(
-    source: "Union[str, os.PathLike[str], io.BufferedIOBase, io.RawIOBase]",
-    refused: Optional[Callable[[GameRefused], object]] = None,
-) -> Iterator[Game]:
+def read_games(source: "Union[str, os.PathLike[str], io.BufferedIOBase, io.RawIOBase]",
+               refused: Optional[Callable[[GameRefused], object]] = None) -> Iterator[Game]:
     """Yields the games of a WTHOR file, or of a text with a game in each line, in their order. `source` is a path or a
     file opened in binary mode. A line of a text may have any form that `Game.of_text` reads; lines without a move are
     skipped. The names of players and tournaments come from the files WTHOR.JOU and WTHOR.TRN in the folder of a WTHOR
@@ -155,9 +153,8 @@ def games_in(file: Any, name: str) -> Tuple[Iterator[Game], Optional[int]]:
 
 
 def read_header(file: BinaryIO, name: str) -> Tuple[int, int, int]:
-    """Reads the header of a WTHOR file. Returns the number of games, their year, and the number of empty squares that
-    the theoretical scores are for; the last two are 0 if they are not known. Raises NotText, with `name` in the
-    message, if the header is not that of games on 8 by 8 squares."""
+    """Reads a WTHOR file's header: the number of games, their year, and the number of empty squares at the theoretical
+    scores, the last two 0 if not known. Raises NotText, with `name` in it, unless they are games on 8 by 8 squares."""
     head = file.read(HEADER.size)
     count, other, year, board, kind, empties = HEADER.unpack(head.ljust(HEADER.size, b"\0"))
     for is_wrong, why in (
@@ -175,8 +172,7 @@ def read_header(file: BinaryIO, name: str) -> Tuple[int, int, int]:
 
 
 def records(file: Any, count: int, year: int, empties: int) -> Iterator[Game]:
-    """Yields the games after the header of a WTHOR file, which `read_header` has read. If the file is too short or too
-    long for them, the last Game has no moves, and its `fault` says what is wrong."""
+    """Yields the games after a WTHOR file's header. If its length is wrong, the last one has a `fault` and no moves."""
     path = getattr(file, "name", None)
     players, tournaments = (names_beside(path, it) if isinstance(path, str) else b"" for it in (".jou", ".trn"))
     counts = f"its header counts {count} game{'s' * (count != 1)}"
@@ -200,19 +196,17 @@ def records(file: Any, count: int, year: int, empties: int) -> Iterator[Game]:
 def names_beside(path: str, suffix: str) -> bytes:
     """The content of the file of players or tournaments, with this suffix, in the folder of a WTHOR file: the one named
     WTHOR, or the only one; b"" if there is none. Warns if there are several."""
-    folder = os.path.dirname(path)
-    try:
-        found = [it.path for it in os.scandir(folder or ".") if it.name.lower().endswith(suffix) and it.is_file()]
-        named = [it for it in found if os.path.basename(it).lower() == f"wthor{suffix}"] or found
+    folder = os.path.dirname(path) or "."
+    with contextlib.suppress(OSError):
+        found = [it for it in os.scandir(folder) if it.name.lower().endswith(suffix) and it.is_file()]
+        named = [it for it in found if it.name.lower() == f"wthor{suffix}"] or found
         if len(named) > 1:
-            several = " and ".join(sorted(shown(os.path.basename(it)) for it in named))
-            warnings.warn(f"names are left out, since the folder {shown(folder or '.')} has {several}: name the right "
-                          f"one WTHOR{suffix.upper()}", ReadingWarning)
+            several = " and ".join(sorted(shown(it.name) for it in named))
+            warnings.warn(f"names are left out, since the folder {shown(folder)} has {several}: name the right one "
+                          f"WTHOR{suffix.upper()}", ReadingWarning)
         elif named:
             with open(named[0], "rb") as file:
                 return file.read()
-    except OSError:
-        pass
     return b""
 
 
@@ -246,10 +240,8 @@ def moves_of(game: Game) -> Iterator[Union[int, str]]:
 
 
 def position_with(empties: int, game: Game, found: List[Position]) -> Position:
-    """The first position with `empties` empty squares in a game with the positions `found`. Raises GameRefused if the
-    game ends before that position."""
-    left = found[-1].empties
-    if left <= empties:
+    """The first of a game's positions `found` with `empties` empty squares. Raises GameRefused if there is none."""
+    if (left := found[-1].empties) <= empties:
         return found[START.empties - empties]
     if not game.moves:
         raise GameRefused("it has no moves", game.number)
@@ -257,9 +249,8 @@ def position_with(empties: int, game: Game, found: List[Position]) -> Position:
     raise GameRefused(why, game.number, len(found) - 1)
 
 
-def corrected(
-    file: BinaryIO, empties: int, right: Iterable[Tuple[Game, Mapping[int, Optional[int]]]]
-) -> Iterator[bytes]:
+def corrected(file: BinaryIO, empties: int, right: Iterable[Tuple[Game, Mapping[int, Optional[int]]]]
+              ) -> Iterator[bytes]:
     """Yields the pieces of a copy of a WTHOR file. `right` has its games, each with {offset in its record: right score,
     or None if that is not known}. A header without a number of empty squares gets `empties`. No other byte changes.
     Raises NotText if the file has other games."""

@@ -119,9 +119,8 @@ def parser_of() -> Parser:
 
 
 def read_options(words: List[str]) -> argparse.Namespace:
-    """The options in the command line `words`. `task` is the first word if that is `check` or `compare`, else None;
-    `book`, the book of `compare`; `many` has the words for ffosolve-many. Prints the help or the version; refuses the
-    rest."""
+    """The options in the command line `words`: `task` is the first word if that is `check` or `compare`, else None;
+    `book`, that of `compare`; `many` has the words for ffosolve-many. Prints help or version; refuses wrong words."""
     task = words[0] if words[:1] in (["check"], ["compare"]) else None
     end = words.index("--") if "--" in words else len(words)  # argparse would forget one that no FILE precedes
     parser = parser_of()
@@ -149,8 +148,7 @@ def read_options(words: List[str]) -> argparse.Namespace:
 
 
 def main(find: Callable[[], Optional[str]] = lambda: None) -> NoReturn:
-    """Runs the program with the arguments in sys.argv, and ends this process. `find` returns the path of the library,
-    or None if `load` is to look for it."""
+    """Runs the program with sys.argv, and ends this process. `find` returns the path of the library to load, if any."""
     def program() -> int:
         options, messages = read_options(sys.argv[1:]), Messages()
         warnings.simplefilter("default", ReadingWarning)  # each text once
@@ -159,17 +157,16 @@ def main(find: Callable[[], Optional[str]] = lambda: None) -> NoReturn:
             load(find())  # for `positions_of`
         except LibraryNotFound as why:
             raise Refusal(str(why), MISSING) from None
-        tasks = {"check": check, "compare": compare, None: list_games}
-        print_all(line + b"\n" for line in tasks[options.task](options, messages))
+        lines = compare(options, messages) if options.task else list_games(options, messages)
+        print_all(line + b"\n" for line in lines)
         return messages.status
 
     run(NAME, program)
 
 
 class Found(NamedTuple):
-    """A game of a file, and its first position with N empty squares, or None if it has none. Scores are None if they
-    are not known: the right real score, and the exact theoretical one, which is the real one if the game is over before
-    that position, and otherwise in a book."""
+    """A game of a file, its first position with N empty squares, the right real score, and the exact theoretical one,
+    which is the real one if the game is over before that position. None stands for what there is not, or is unknown."""
 
     file: str
     game: Game
@@ -186,8 +183,7 @@ class Found(NamedTuple):
     def title(self) -> str:
         """The file and the number of the game and, in parentheses, its year, players and tournament, if known."""
         game = self.game
-        parts = (str(game.year or ""), " - ".join(game.players or ()), game.tournament)
-        about = ", ".join(part for part in parts if part)
+        about = ", ".join(filter(None, (str(game.year or ""), " - ".join(game.players or ()), game.tournament)))
         return f"{shown(self.file)}, game {game.number}" + f" ({about})" * bool(about)
 
 
@@ -206,8 +202,7 @@ def list_games(options: argparse.Namespace, messages: Messages) -> Iterator[byte
 
 def found_in(name: str, options: argparse.Namespace, messages: Messages) -> Iterator[Found]:
     """Yields the games of a file, and reports what is wrong with them. N is that of --empties or, without it and for
-    `check` and `compare`, that of the file's header; refuses if there is none. A theoretical score for another N is
-    left out."""
+    `check` and `compare`, of the file's header; refuses if there is none. Drops a theoretical score for another N."""
     with file_of(name) as file:
         games, of_scores = games_in(file, shown(name))
         if options.task and of_scores is None:
@@ -238,8 +233,7 @@ def found_in(name: str, options: argparse.Namespace, messages: Messages) -> Iter
 
 
 def wrong_scores(game: Game, discs: Optional[int]) -> Iterator[str]:
-    """Yields a message for each score above MOST_DISCS, and if the game's real score, which the file gives for its end,
-    is not `discs` or can't be checked. `discs` is how many Black has then, or None if the moves stop before that."""
+    """Yields what is wrong with a game's scores. `discs` are Black's at the end, None if the moves stop before it."""
     for kind, score in (("theoretical", game.score), ("real", game.real)):
         if score is not None and score > MOST_DISCS:
             yield f"its {kind} score is {score}, more than {MOST_DISCS} discs"
@@ -249,27 +243,19 @@ def wrong_scores(game: Game, discs: Optional[int]) -> Iterator[str]:
             yield f"its real score is {score}, but its moves give {discs}"
 
 
-def check(options: argparse.Namespace, messages: Messages) -> Iterator[bytes]:
-    """Does what `compare` does, with scores that ffosolve-many finds. With --cut, lets it cut lists; yields nothing."""
-    found, copies = scored_games(options, messages), new_paths(options)
-    folders = folders_of(found, options)
-    scores = exact_scores(folders, options.lines or 10, options.many) if folders else {}
-    if "--cut" not in options.many:
-        yield from compared(found, copies, scores, options, messages)
-
-
 def compare(options: argparse.Namespace, messages: Messages) -> Iterator[bytes]:
-    """Yields a line for each wrong theoretical score, and one with counts. With --fix, first writes corrected files."""
+    """Yields a line for each wrong theoretical score, and one with counts. With --fix, first writes corrected files.
+    The exact scores are those of a book or, for `check`, of ffosolve-many; with --cut, that cuts lists, and no more."""
     found, copies = scored_games(options, messages), new_paths(options)
-    with file_of(*options.book) as file:
-        name = shown(*options.book)
-        scores = scores_in(text_lines(file, name), name)
-    yield from compared(found, copies, scores, options, messages)
-
-
-def compared(found: List[Found], copies: Dict[str, str], scores: Dict[Position, int], options: argparse.Namespace,
-             messages: Messages) -> Iterator[bytes]:
-    """Yields what `compare` does, for games and {canonical position: exact score for its mover}."""
+    if options.task == "check":
+        folders = folders_of(found, options)
+        scores = exact_scores(folders, options.lines or 10, options.many) if folders else {}
+    else:
+        with file_of(*options.book) as file:
+            name = shown(*options.book)
+            scores = scores_in(text_lines(file, name), name)
+    if "--cut" in options.many:
+        return
     for at, it in enumerate(found):
         if it.position and (score := scores.get(it.position.canonical())) is not None:
             found[at] = it._replace(exact=discs_of_black(score, it.position.side))
@@ -277,8 +263,7 @@ def compared(found: List[Found], copies: Dict[str, str], scores: Dict[Position, 
         fix(copies, found, options)
     differ = [it for it in found if it.difference]
     for it in differ:
-        published = f"published {it.game.score}, exact {it.exact}, difference {it.difference:+}"
-        yield f"{it.title}: {published}".encode()
+        yield f"{it.title}: published {it.game.score}, exact {it.exact}, difference {it.difference:+}".encode()
     known = sum(it.exact is not None for it in found)
     unsolved = sum(it.position is not None and it.exact is None for it in found)
     if differ or unsolved:
@@ -290,12 +275,10 @@ def folders_of(found: List[Found], options: argparse.Namespace) -> Dict[str, Lis
     """The folders of `check`, each with the positions that are to be solved there, none of them twice."""
     folders: Dict[str, Dict[Position, None]] = {}
     paths: Dict[str, str] = {}
+    most = MOST_EMPTIES if options.max_empties is None else options.max_empties
     for file in sorted(options.files):  # so that their order does not matter
         folder = f"{file}.check" if options.folder is None else options.folder
-        wanted = [it.position for it in found if it.file == file and it.position]
-        if options.max_empties is not None:
-            wanted = [position for position in wanted if position.empties <= options.max_empties]
-        if wanted:
+        if wanted := [it.position for it in found if it.file == file and it.position and it.position.empties <= most]:
             folders.setdefault(paths.setdefault(os.path.realpath(folder), folder), {}).update(dict.fromkeys(wanted))
     return {folder: [*positions] for folder, positions in folders.items()}
 
@@ -331,8 +314,7 @@ def new_paths(options: argparse.Namespace) -> Dict[str, str]:
 
 
 def fix(copies: Dict[str, str], found: List[Found], options: argparse.Namespace) -> None:
-    """Writes copies of WTHOR files, {path: file}, with the right scores of the games that were found. Refuses if that
-    fails, and otherwise says how many scores changed."""
+    """Writes {path: copy of this WTHOR file} with right scores, and says how many changed; refuses if that fails."""
     if all(it.exact is None for it in found):
         raise Refusal("no theoretical score is compared, so --fix has none to write")
     games = {path: [it for it in found if it.file == name and it.game.fault is None] for path, name in copies.items()}

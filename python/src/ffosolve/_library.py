@@ -1,4 +1,4 @@
-"""Finds the shared library, and declares its calls to ctypes, except for two that this package does not need."""
+"""Finds the shared library, and declares the calls that this package needs to ctypes."""
 import ctypes
 import functools
 import os
@@ -30,11 +30,8 @@ class CMoveScores(ctypes.Structure):
 
 
 def libraries_to_try() -> List[str]:
-    """The libraries to try if no path is given. If the environment variable FFOSOLVE_LIBRARY names one, only that one.
-    Otherwise those in this package, the one for newer processors first; then FILE_NAME where the system's loader
-    finds it; then this file in the folder `lib` of the virtual environment, if any, of Python and of /usr/local."""
-    named = os.environ.get("FFOSOLVE_LIBRARY")
-    if named:
+    """The libraries that `Solver()` tries, in the order of its help; in this package, for newer processors first."""
+    if named := os.environ.get("FFOSOLVE_LIBRARY"):
         return [os.path.abspath(named) if os.sep in named else named]
     own = [os.path.join(os.path.dirname(__file__), level, FILE_NAME) for level in ("x86-64-v3", "x86-64-v2")]
     prefixes = dict.fromkeys([sys.prefix, sys.base_prefix, "/usr/local"])
@@ -43,8 +40,7 @@ def libraries_to_try() -> List[str]:
 
 
 def load(path: Union[str, "os.PathLike[str]", None] = None) -> ctypes.CDLL:
-    """The library at `path`; for None, the first in `libraries_to_try()` that this package can call. Raises
-    LibraryNotFound."""
+    """The library at `path` or, for None, the first of `libraries_to_try()` that fits. Raises LibraryNotFound."""
     errors = []
     for place in [os.path.abspath(path)] if path is not None else libraries_to_try():
         try:
@@ -64,7 +60,7 @@ def loaded() -> ctypes.CDLL:
 def declared(place: str) -> ctypes.CDLL:
     library = ctypes.CDLL(place)
     size, number, to = ctypes.c_size_t, ctypes.c_uint32, ctypes.POINTER
-    calls = {
+    calls = {  # each returns an int, as ctypes takes for granted
         "confirm": [CPosition, number, size, CAnswer, to(CAnswer)],
         "solve_all": [to(CPosition), size, number, size, to(CAnswer), size, to(size)],
         "move_scores_all": [to(CPosition), size, number, size, to(CMoveScores), size, to(size)],
@@ -72,15 +68,13 @@ def declared(place: str) -> ctypes.CDLL:
         "play": [CPosition, ctypes.c_uint8, to(CPosition)],
         "canonical": [CPosition, to(CPosition), to(number)],
         "image": [ctypes.c_uint64, number, to(ctypes.c_uint64)],
-        "limit": [number],
         "version": [],
     }
     for name, arguments in calls.items():
         try:
-            call = getattr(library, f"ffosolve_{name}")
+            getattr(library, f"ffosolve_{name}").argtypes = arguments
         except AttributeError as error:
             raise LibraryNotFound(f"{place} is not this package's library: {error}") from None
-        call.argtypes, call.restype = arguments, size if name == "limit" else ctypes.c_int32
     if library.ffosolve_version() // 10000 != MAJOR:
         raise LibraryNotFound(f"{place} has version {library.ffosolve_version()}, not {MAJOR}.x.y")
     _loaded.append(library)

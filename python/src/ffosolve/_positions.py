@@ -10,8 +10,8 @@ from ._boards import OTHER, SIDES, Board, checked_score, checked_side
 from ._library import CAnswer, CPosition, LibraryNotFound, loaded, search
 from ._obf import MOVES, Lines, Listed, Source, bytes_of, lines_of, parsed
 from ._refusals import LineRefused, NoMemory, NoMove, NoPosition, Refused, Status
-from ._rules import accept, c_position, c_positions, moves, size_of
-from ._squares import NAMES, mask_of, number_of, square_names, square_of
+from ._squares import (NAMES, accept, c_position, c_positions, mask_of, moves, number_of, size_of, square_names,
+                       square_of)
 from ._symmetries import Symmetry, canonical_form, image
 from ._transcripts import PASSES, transcript_words
 
@@ -37,10 +37,8 @@ class Position:
 
     A position does not change: `play`, `play_all` and `passed` return a new one, of the same class, and so does
     `_replace(own=.., opp=.., side=..)`, which Python 3.13 also calls `copy.replace`. The shared library knows the
-    rules, so `legal_moves`, `is_legal`, `must_pass`, `is_over`, `play`, `play_all`, `score`, `canonical`, `image` and
-    `symmetries` raise LibraryNotFound without it. Only these and a Solver look at the masks: they raise ValueError for
-    one outside 0 to 2**64 - 1, and SharedSquare if a square is in both.
-    """
+    rules: without it, calls for moves, scores and images raise LibraryNotFound. Only these and a Solver look at the
+    masks: they raise ValueError for one outside 0 to 2**64 - 1, and SharedSquare if a square is in both."""
 
     __slots__ = ("_all",)  # one tuple of all, since `__setattr__` makes assignments slow
     __match_args__ = ("own", "opp")
@@ -80,8 +78,7 @@ class Position:
         Any of `X x * B b` stands for Black, any of `O o W w` for White, and `-` or `.` for an empty square. Blanks and
         tabs before the squares and the side are skipped. After the side, any text but moves with scores is skipped; a
         ReadingWarning names a side such as `blanc`, which is read as Black. Raises NoPosition, ShortBoard, BadSquare
-        and BadSide (ValueErrors), NoMemory and TypeError. Needs no library.
-        """
+        and BadSide (ValueErrors), NoMemory and TypeError. Needs no library."""
         return read_line(text, None, cls)
 
     def to_obf(self, side: Optional[str] = None, moves: Union[Mapping[str, float], Iterable[Tuple[str, float]]] = ()
@@ -120,9 +117,8 @@ class Position:
 
     @property
     def listed(self) -> Listed:
-        """Each move that the position's line of OBF text lists with a whole score from -64 to 64, and this score, in
-        order, such as `(("H1", 62), ("A1", 52))`. "PS" is a pass, and "--" the end of the game. The moves may be
-        illegal and the scores wrong."""
+        """Each move that the position's line of OBF text lists with a whole score from -64 to 64, and this score, as
+        `(("H1", 62), ("A1", 52))`. "PS" is a pass, "--" the end of the game. Moves may be illegal, and scores wrong."""
         return self._all[3]
 
     @property
@@ -189,8 +185,7 @@ class Position:
     def play_all(self: P, squares: Union[str, Iterable[Union[int, str]]]) -> P:
         """The position after several moves. `squares` is a transcript such as "f5d6c3", in any form that `Game.of_text`
         reads, or a list of what `play` takes. Passes may be left out. Raises TypeError for another object, and NoMove
-        for an illegal move or a word that is not a square. Its message has the move's number, from 1 and without
-        passes."""
+        for an illegal move or a word that is not a square. Its message counts moves from 1, without passes."""
         if isinstance(squares, bytes) or not hasattr(squares, "__iter__"):
             raise TypeError(f"moves are a transcript or a list of squares, not {reprlib.repr(squares)}")
         squares, position = transcript_words(squares) if isinstance(squares, str) else squares, self
@@ -217,20 +212,17 @@ class Position:
         return int(found[0].score)
 
     def canonical(self: P) -> P:
-        """The same position for all eight images of a position under the symmetries of the board: the image with the
-        least `own` and, among these, the least `opp`."""
+        """The same for all eight images of a position: that with the least `own` and, among these, the least `opp`."""
         own, opp, _ = canonical_form(self)
         return type(self)(own, opp, self.side)
 
     @property
     def canonical_symmetry(self) -> Symmetry:
-        """The first Symmetry that leads to `canonical()`. `canonical_symmetry.square("F5")` is the square that F5
-        becomes there, and `canonical_symmetry.inverse` leads back."""
+        """The first Symmetry that leads to `canonical()`: `square("F5")` is what F5 becomes, `inverse` leads back."""
         return canonical_form(self)[2]
 
     def image(self: P, symmetry: int) -> P:
-        """The image of the position under a Symmetry, or under the one with a number, 0 to 7. Raises UnknownSymmetry
-        for another number."""
+        """The image under a Symmetry or the one with a number, 0 to 7. Raises UnknownSymmetry for another number."""
         return type(self)(image(self.own, symmetry), image(self.opp, symmetry), self.side)
 
     def symmetries(self: P) -> List[P]:
@@ -283,8 +275,7 @@ class Position:
         return {"own": self.own, "opp": self.opp, "side": self.side}
 
     def _replace(self: P, **changes: Any) -> P:
-        """Returns a copy with other masks or another side. With other masks, it is another board, of which neither the
-        last move nor a line is known."""
+        """Returns a copy with another side, or with other masks, of which neither the last move nor a line is known."""
         changed, position = Position(**{**Position._asdict(self), **changes}), copy.copy(self)
         fill(position, changed._all if changed != self else (*changed._all[:2], *self._all[2:]))
         return position
@@ -305,8 +296,7 @@ def is_pass(move: object) -> bool:
 
 
 def played(position: P, moves: Iterable[Union[int, str]]) -> Iterator[P]:
-    """Yields the position after each of `moves`. Passes may be left out, and those after the end of the game are
-    skipped. Raises the same as `Position.play`."""
+    """Yields the position after each move. Passes may be missing; those after the end are skipped. Raises as `play`."""
     for move in moves:
         if is_pass(move) and position.is_over:
             continue
@@ -336,8 +326,7 @@ def following(before: P, own: int, opp: int, move: str) -> P:
 
 
 def read_line(text: Union[str, bytes], number: Optional[int], kind: Type[P]) -> P:
-    """Reads a line of OBF text as a position of the class `kind`, and raises the same as `Position.from_obf`. `number`,
-    which may be None, becomes the `number` of the position or the `line` of the LineRefused."""
+    """Does what `kind.from_obf` does; `number` becomes that of the position, or the `line` of the LineRefused."""
     try:
         own, opp, side, listed = parsed(text, number)
         line = kind(own, opp, side)
@@ -355,8 +344,7 @@ def read_lines(source: Source, refused: Optional[Callable[[LineRefused], object]
         wrong = []
         positions = list(read_lines("a.obf", refused=wrong.append))
 
-    Raises NoMemory, OSError if the file can't be read, and TypeError for another source. `parse_lines` reads a text.
-    """
+    Raises NoMemory, OSError if the file can't be read, and TypeError for another source. `parse_lines` reads a text."""
     return positions_in(lines_of(source), refused)
 
 

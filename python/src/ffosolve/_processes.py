@@ -33,12 +33,13 @@ Seconds = Optional[float]  # None stands for any time
 BRIEF, LIGHTEST = 4096, 8  # the most positions of a brief call, and their most empty squares
 CHECK_SECONDS = 0.2  # how often a waiting call finds out whether it has to stop, also by a signal to another thread
 STARTS = threading.RLock()  # is held while this process has ends of pipes that a forked process must not have
+PATHS: Dict[Tuple[str, ctypes.CDLL], str] = {}  # what `program` has found
+PROCESSES: "weakref.WeakSet[Process]" = weakref.WeakSet()  # those that there are
 CANCELLED = contextvars.ContextVar("cancelled", default=threading.Event())  # is set once nobody awaits the result
 
 
 def is_brief(count: int, empties: int) -> bool:
-    """Whether a call for `count` positions with at most `empties` empty squares is brief: it takes 0.4 s at most. For
-    each empty square more than LIGHTEST, it may have a fourth of the positions."""
+    """Whether a call for `count` positions with at most `empties` empty squares takes 0.4 seconds at most."""
     return count << 2 * max(0, empties - LIGHTEST) <= BRIEF
 
 
@@ -59,9 +60,6 @@ def program(name: str, call: "SolverCall") -> str:
         if not printed and status <= 0:
             raise ended(status)
     raise FileNotFoundError(f"no process can be started: {wanted} is neither beside {folder} nor on the path")
-
-
-PATHS: Dict[Tuple[str, ctypes.CDLL], str] = {}  # what `program` has found
 
 
 def ended(status: int, errors: str = "") -> ChildProcessError:
@@ -94,8 +92,7 @@ class Process:
             signal.pthread_sigmask(signal.SIG_SETMASK, masked)
 
     def output(self, lines: str, call: "SolverCall") -> Tuple[int, bytes, str]:
-        """Returns the program's status, what it prints for a list, and its errors; or kills it if `call` has to stop.
-        Raises what `wait_seconds` raises."""
+        """Returns the program's status, output and errors for a list; or kills it, and raises what `call` raises."""
         ready, printed, piece = select.poll(), b"", b"-"
         ready.register(self.process.stdout)
         try:
@@ -116,17 +113,13 @@ class SearchProcess(Process):
     """A running program that solves a list."""
 
     def find(self, lines: str, call: "SolverCall") -> List[str]:
-        """Returns the rows for a list. Raises NoMemory, what `output` raises, and ChildProcessError if somebody ended
-        the program."""
+        """Returns the rows for a list. Raises what `output` raises, NoMemory, or ChildProcessError if it was ended."""
         status, printed, errors = self.output(lines, call)
         if errors.endswith("out of memory"):
             raise NoMemory()
         if status or printed.count(b"\n") - 2 * printed.startswith(b"[1]") != lines.count("\n"):
             raise ended(status, errors)
         return printed.decode().splitlines()
-
-
-PROCESSES: "weakref.WeakSet[Process]" = weakref.WeakSet()
 
 
 def forget() -> None:
@@ -142,12 +135,11 @@ os.register_at_fork(before=STARTS.acquire, after_in_parent=STARTS.release, after
 
 
 def read_rows(rows: List[str], found: Any) -> None:
-    """Writes what a program printed to the records of `found`, as the library does."""
+    """Writes what a program printed to the records of `found`, except for the `moves` of a CMoveScores."""
     for it, row in zip(found, rows if isinstance(found[0], CMoveScores) else rows[1:]):
         if isinstance(it, CMoveScores):
             scores = dict(parsed(row, None)[3])
             it.scores[:] = [scores.get(name, NO_SCORE) for name in NAMES]
-            it.moves = sum(1 << at for at, name in enumerate(NAMES) if name in scores)
         else:
             _, score, moves, _ = row.split()
             it.score, it.kind = int(score), {"PS": Kind.PASS, "--": Kind.OVER}.get(moves, Kind.MOVES)
@@ -156,8 +148,7 @@ def read_rows(rows: List[str], found: Any) -> None:
 
 class SolverCall:
     """Makes the calls of a library for one call of a Solver, until this has taken `timeout` seconds, its task is
-    cancelled, or it sets `is_left`. A program gets `threads`. Raises TypeError and ValueError for a wrong `timeout`;
-    None stands for any time."""
+    cancelled, or it sets `is_left`. A program gets `threads`. Raises TypeError and ValueError for a wrong `timeout`."""
 
     def __init__(self, library: ctypes.CDLL, timeout: Seconds = None, threads: int = 1) -> None:
         self.library, self.timeout, self.is_left, self.end = library, timeout, False, math.inf
@@ -171,10 +162,8 @@ class SolverCall:
             self.end = time.monotonic() + timeout
 
     def wait_seconds(self) -> float:
-        """How long this thread may wait for a result before it calls this again. Raises TimeoutError and CancelledError
-        if the calls have to stop."""
-        left = self.end - time.monotonic()
-        if left <= 0:
+        """For how long to wait before the next look. Raises TimeoutError and CancelledError if calls have to stop."""
+        if (left := self.end - time.monotonic()) <= 0:
             raise TimeoutError(f"not finished within {self.timeout} seconds")
         self.check()
         return min(left, CHECK_SECONDS)
@@ -223,7 +212,6 @@ async def to_thread(func: Callable[..., T], /, *args: Any, **kwargs: Any) -> T:
         answer = await asyncio.wait_for(ffosolve.to_thread(solver.solve, position), 60)
     """
     import asyncio  # which takes longer to import than all of this package
-
     cancelled, context = threading.Event(), contextvars.copy_context()
     context.run(CANCELLED.set, cancelled)
     try:

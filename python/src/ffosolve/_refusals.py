@@ -6,6 +6,9 @@ from typing import Any, Dict, Optional, Tuple, Type
 
 from ._library import MOST_EMPTIES, MOST_ENTRIES
 
+WRONG_MASK = "a mask is a whole number from 0 to 2**64 - 1"
+REFUSALS: Dict[int, Type["Refused"]] = {}  # the class of each status
+
 
 class Status(enum.IntEnum):
     """The statuses that calls of the library return. In ffosolve.h, each name begins with FFOSOLVE_."""
@@ -25,10 +28,6 @@ class Status(enum.IntEnum):
     UNKNOWN_SYMMETRY = 12
 
 
-WRONG_MASK = "a mask is a whole number from 0 to 2**64 - 1"
-REFUSALS: Dict[int, Type["Refused"]] = {}  # the class of each status
-
-
 class Refused(Exception):
     """A call or a line was refused. If a position of a list was the reason, `index` is its index, from 0; else None."""
 
@@ -41,8 +40,7 @@ class Refused(Exception):
             REFUSALS[status] = cls
 
     def __init__(self, index: Optional[int] = None, reason: Optional[str] = None) -> None:
-        if reason is not None:
-            self.reason = reason
+        self.reason = self.reason if reason is None else reason
         super().__init__(self.reason if index is None else f"position at index {index}: {self.reason}")
         self.index = index
 

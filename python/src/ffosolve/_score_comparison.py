@@ -21,6 +21,7 @@ Evaluated = Union[Source, Mapping[Position, Values], Iterable[Tuple[Position, Va
 Known = Union[Mapping[Position, Union[int, Answer, Mapping[str, int]]], Answers]
 Scores = List[Tuple[Optional[str], Number]]  # of moves, or with None of the position
 Exact = Dict[Optional[str], int]  # of each move, or with None of the position alone
+Row = Tuple["ListEntry", Exact]
 
 
 class WrongScore(NamedTuple):
@@ -89,14 +90,12 @@ def compare_scores(listed: Evaluated, scored: Union[Source, Solver, None] = None
 
     Raises ValueError if a line of `scored` does not score each legal move of the position in the same line of the list,
     for a score that is no finite number or is of another word than a move, or for `known` scores that don't fit;
-    TimeoutError; LibraryNotFound; and OSError and TypeError as `read_lines` does.
-    """
+    TimeoutError; LibraryNotFound; and OSError and TypeError as `read_lines` does."""
     entries = list_entries(listed)
     if scored is None or isinstance(scored, Solver):
-        rows = solved(list(entries), Solver() if scored is None else scored, known, threads, timeout)
+        read = list(solved(list(entries), scored or Solver(), known, threads, timeout))
     else:
-        rows = printed(entries, scored)
-    read = list(rows)
+        read = list(printed(entries, scored))
     lines = [(entry, exact) for entry, exact in read if exact is not None]
     groups: Dict[int, List[Row]] = {}
     for entry, exact in sorted(lines, key=lambda line: int(line[0].position.empties)):
@@ -112,9 +111,6 @@ class ListEntry(NamedTuple):
     position: Any
     scores: Scores
     unread: int = 0
-
-
-Row = Tuple[ListEntry, Exact]
 
 
 def list_entries(listed: Evaluated) -> Iterator[ListEntry]:
@@ -203,14 +199,13 @@ def exact_of(position: Position, found: Union[int, Answer, Mapping[str, int]]) -
 def printed(entries: Iterable[ListEntry], scored: Source) -> Iterator[Tuple[ListEntry, Optional[Exact]]]:
     """Yields what `solved` does, by the lines that `ffoscores` printed. Raises ValueError as `compare_scores` does."""
     nothing = ListEntry(0, NoPosition(), [])
-    both = itertools.zip_longest(entries, lines_of(scored), fillvalue=None)
-    for number, (entry, text) in enumerate(both, 1):
+    for number, (entry, text) in enumerate(itertools.zip_longest(entries, lines_of(scored)), 1):
         entry, text = entry or nothing, text or b""
         line, exact = entry.position, position_in(text, number)
         if isinstance(line, NoPosition) and isinstance(exact, NoPosition):
             continue
         is_refused = isinstance(exact, NoPosition) and without_end(text).startswith(b"% refused: ")
-        answers = (isinstance(line, Position) and isinstance(exact, Position) and exact == line
+        answers = (isinstance(exact, Position) and exact == line
                    and sorted(move for move, _ in exact.listed) == sorted(moves_to_score(exact)))
         if not is_refused and not answers:
             raise ValueError(f"line {number} of the scores is not what ffoscores prints for line {number} of the list")
@@ -230,22 +225,20 @@ def position_in(text: Union[str, bytes], number: int) -> Any:
 
 
 def summary(rows: List[Row], refused: int, by_empties: Dict[int, ScoreComparison]) -> ScoreComparison:
-    wrong: List[WrongScore] = []
-    errors: List[Number] = []
+    legal: List[WrongScore] = []  # some of them may be exact
     losses: List[int] = []
     for entry, exact in rows:
         worth: Exact = {None: max(exact.values(), default=0), **exact}
-        legal = [it for it in entry.scores if it[0] in worth]
-        errors += [score - worth[move] for move, score in legal]
-        found = [WrongScore(entry.number, move, score, worth[move]) for move, score in legal]
-        wrong += [it for it in found if it.error]
+        found = [WrongScore(entry.number, move, score, worth[move]) for move, score in entry.scores if move in worth]
+        legal += found
         chosen = max([it for it in found if it.move], key=lambda it: it.listed, default=None)
         losses += [worth[None] - chosen.exact] if chosen and len(exact) > 1 else []
-    illegal = sum(len(entry.scores) for entry, _ in rows) - len(errors)
-    sizes = [abs(error) for error in errors]
-    squares, unread = [error * error for error in errors], sum(entry.unread for entry, _ in rows)
+    wrong = [it for it in legal if it.error]
+    illegal = sum(len(entry.scores) for entry, _ in rows) - len(legal)
+    errors, sizes = [it.listed - it.exact for it in legal], [it.error for it in legal]
+    squares, unread = [size * size for size in sizes], sum(entry.unread for entry, _ in rows)
     of_choices = (mean_of(losses), mean_of([not loss for loss in losses])) if losses else (None, None)
-    return ScoreComparison(len(rows), len(errors), wrong, mean_of(sizes), math.sqrt(mean_of(squares)), mean_of(errors),
+    return ScoreComparison(len(rows), len(legal), wrong, mean_of(sizes), math.sqrt(mean_of(squares)), mean_of(errors),
                            max(sizes, default=0), len(losses), *of_choices, refused, illegal, unread, by_empties)
 
 

@@ -1,20 +1,18 @@
 """The Solver, which calls the shared library. A mask is a set of squares as a number: A1 is bit 0, .. H8 is bit 63."""
-import functools
 import os
 import reprlib
 import struct
 from typing import Any, Callable, Dict, Iterable, Iterator, List, Optional, Tuple, Union
 
 from ._answers import ENDS, Answer, Kind, Scoring
-from ._arrays import Answers, batches_in, columns_of, rows_of
+from ._arrays import Answers, batches_in, rows_of
 from ._bulk import Batch, BatchOrRefusal, batches_of, in_order
 from ._games import Game, positions_of
 from ._library import MOST_EMPTIES, MOST_ENTRIES, NO_SCORE, CAnswer, CMoveScores, load, version_of
 from ._positions import P, Position
 from ._processes import Seconds, SolverCall
 from ._refusals import Refused, TooManyEntries, checked_number
-from ._rules import accept, c_positions, checked_position, masks_and_empties, moves
-from ._squares import NAMES
+from ._squares import NAMES, accept, c_positions, checked_position, masks_and_empties, moves
 
 KINDS = tuple(Kind)
 ANSWER, MOVE_SCORES = struct.Struct("iiQ"), struct.Struct("64bQ")  # the layouts of CAnswer and CMoveScores
@@ -31,16 +29,15 @@ def table_entries(empties: int) -> int:
 
 class Solver:
     """Solves positions under a scoring. Keeps no results between calls. Several threads may use one Solver at once. It
-    can be pickled. A call ends with TimeoutError if it takes more than `timeout` seconds; `help(ffosolve)` says what
-    else stops it, and what a call does that can't be stopped.
+    can be pickled, as for a pool of processes. A call ends with TimeoutError if it takes more than `timeout` seconds;
+    `help(ffosolve)` says what else stops it, and what a call does that can't be stopped.
 
     `library` is the path of the shared library. By default, it is the path in the environment variable FFOSOLVE_LIBRARY
     or, if that is empty or not set, the first library that fits: in this package, in the system's library folders, in
     `lib` of the virtual environment or Python, or in /usr/local/lib. `scoring` is a Scoring, its number, or its name
     such as "winner". `entries` is the size of the table, 0 to MOST_ENTRIES; by default, `table_entries` chooses it by
     the empty squares. A position with more than `max_empties` empty squares, 0 to MOST_EMPTIES, is refused, since it
-    might take hopelessly long. Raises LibraryNotFound, UnknownScoring, TooManyEntries, ValueError and TypeError.
-    """
+    might take hopelessly long. Raises LibraryNotFound, UnknownScoring, TooManyEntries, ValueError and TypeError."""
 
     def __init__(self, library: Union[str, "os.PathLike[str]", None] = None, *,
                  scoring: Union[Scoring, int, str] = Scoring.WINNER, entries: Optional[int] = None,
@@ -86,8 +83,7 @@ class Solver:
 
     def solve(self, position: Position, *, threads: int = 1, timeout: Seconds = None) -> Answer:
         """The answer for a position. From 16 empty squares on, several threads search it together. Raises SharedSquare,
-        TooManyEmpties and NoMemory; ValueError for a mask below 0 or above 2**64 - 1; and TypeError for an object that
-        is not a position."""
+        TooManyEmpties and NoMemory, ValueError for a mask outside 0 to 2**64 - 1, TypeError for what is no position."""
         return self._answers(self._call(timeout, threads), self._batch(position))[0]
 
     def confirm(self, position: Position, claim: Answer, *, threads: int = 1, timeout: Seconds = None) -> Answer:
@@ -96,13 +92,11 @@ class Solver:
         `solve`, and TypeError for a claim that is not an Answer."""
         if not isinstance(claim, Answer):
             raise TypeError(f"a claim is an Answer(score, kind, best), not {reprlib.repr(claim)}")
-        call, batch = self._call(timeout, threads), self._batch(position)
-        return self._answers(call, batch, "ffosolve_confirm", CAnswer(*claim))[0]
+        return self._answers(self._call(timeout, threads), self._batch(position), CAnswer(*claim))[0]
 
     def best_line(self, position: Position, *, threads: int = 1, timeout: Seconds = None) -> List[Tuple[str, int]]:
-        """Perfect play from a position to the end of the game: each move and its score for the side that makes it, such
-        as [("H1", 62), ("PS", -62), ("A1", 62)]. Of several best moves, it has the first. Raises the same as `solve`.
-        """
+        """Perfect play from a position to the end of the game: each move and its score for the side that makes it, as
+        [("H1", 62), ("PS", -62), ("A1", 62)]. Of several best moves, it has the first. Raises the same as `solve`."""
         call, line = self._call(timeout, threads), []
         answer = self._answers(call, self._batch(position))[0]
         while answer.kind != Kind.OVER:
@@ -110,7 +104,7 @@ class Solver:
             line.append((move, answer.score))
             position = self.play(position, move)
             claim = answer._replace(score=-answer.score)
-            answer = self._answers(call, self._batch(position), "ffosolve_confirm", CAnswer(*claim))[0]
+            answer = self._answers(call, self._batch(position), CAnswer(*claim))[0]
         return line
 
     def move_scores(self, position: Position, *, threads: int = 1, timeout: Seconds = None) -> Dict[str, int]:
@@ -131,8 +125,7 @@ class Solver:
     def solve_all(self, positions: Iterable[Position], *, threads: int = 1, timeout: Seconds = None) -> List[Answer]:
         """The answers for positions, in their order. The threads share a table for up to 15,000 positions; those with
         at most 14 empty squares may be solved in batches, each with its own table. Raises the same as `solve`.
-        SharedSquare and TooManyEmpties come before any position is solved, and have the `index` of the first refused
-        position."""
+        SharedSquare and TooManyEmpties come before any position is solved, and have the first refused one's `index`."""
         return list(self._each(self._answers, positions, threads, timeout, at_once=True))
 
     def solve_iter(self, positions: Iterable[Position], *, threads: int = 1, timeout: Seconds = None
@@ -154,15 +147,13 @@ class Solver:
 
     def solve_arrays(self, own: Any, opp: Any, *, threads: int = 1, timeout: Seconds = None) -> Answers:
         """The answers for positions in arrays of uint64, as `masks_of` returns them: `own`, the masks of the discs of
-        the side to move, and `opp`, those of the other side. The result has three arrays of the same length: `score`
-        and `kind` of int32, and `best` of uint64. Needs NumPy. Raises the same as `solve_all`, and TypeError and
-        ValueError for other arrays."""
+        the side to move, and `opp`, those of the other side. Returns three arrays of that length: `score` and `kind` of
+        int32, `best` of uint64. Needs NumPy. Raises as `solve_all`, and TypeError and ValueError for other arrays."""
         return Answers(*self._in_arrays("ffosolve_solve_all", CAnswer, own, opp, threads, timeout))
 
     def move_scores_arrays(self, own: Any, opp: Any, *, threads: int = 1, timeout: Seconds = None) -> Any:
-        """The scores of all moves in positions. `own` and `opp` are as for `solve_arrays`. The result is an array of
-        int8 with a row of 64 scores for each position, in the order A1, B1, .. H8, with NO_SCORE for an illegal move.
-        Needs NumPy. Raises the same as `solve_arrays`."""
+        """The scores of all moves: an array of int8 with a row of 64 scores for each position, in the order A1, B1, ..
+        H8, with NO_SCORE for an illegal move. Takes, needs and raises the same as `solve_arrays`."""
         return self._in_arrays("ffosolve_move_scores_all", CMoveScores, own, opp, threads, timeout)[0]
 
     def moves(self, position: Position) -> int:
@@ -174,9 +165,8 @@ class Solver:
         return as_position(position).play(square)
 
     def positions(self, game: Union[Game, str]) -> List[Position]:
-        """The positions of a Game or of a transcript: the start, then the position after each move, but none after a
-        pass, so the position at index n has 60 - n empty squares. Raises GameRefused for a game that can't be read, for
-        an illegal move and for a move that is not a square, and TypeError for another object."""
+        """The positions of a Game or transcript: the start, then that after each move but passes. At index n, it has
+        60 - n empty squares. Raises GameRefused for a game that can't be read or played, and TypeError for others."""
         game = Game.of_text(game) if isinstance(game, str) else game
         if not isinstance(game, Game):
             raise TypeError(f"a game is a Game or the text of a transcript, not {reprlib.repr(game)}")
@@ -192,25 +182,22 @@ class Solver:
 
     def _each(self, solve: Callable[[SolverCall, BatchOrRefusal], List[Any]], positions: Iterable[Position],
               threads: int, timeout: Seconds, at_once: bool = False) -> Iterator[Any]:
-        """Yields what `solve` finds for positions. If `at_once`, reads all of them before the first call, and raises a
-        Refused if one is refused."""
+        """Yields what `solve` finds for positions. If `at_once`, first reads all, and raises a Refused if one is."""
         call, threads = self._call(timeout, threads if at_once else 1), checked_number("threads", threads, 1)
-        batches: Iterable[BatchOrRefusal] = batches_of(positions, self._max_empties, call, at_once)
-        if at_once:
-            batches = list(batches)
-            if batches and isinstance(batches[-1], Refused):
-                raise batches[-1]
-        return in_order(call, functools.partial(solve, call), batches, threads)
+        batches = batches_of(positions, self._max_empties, call, at_once)
+        return in_order(call, lambda batch: solve(call, batch), list(batches) if at_once else batches, threads)
 
     def _in_arrays(self, name: str, record: Any, own: Any, opp: Any, threads: int, timeout: Seconds) -> List[Any]:
-        """Makes the call `name` of the library for arrays of positions. Returns an array for each member of `record`,
-        the C structure that the library writes for a position."""
+        """Makes a call as `_found`, for arrays of positions. Returns an array for each member of `record`."""
+        import numpy
         call = self._call(timeout, threads)
         batches = batches_in(rows_of(own, opp), self._max_empties, call)
-        return columns_of(record, in_order(call, lambda it: [self._found(call, it, name, record)], batches, threads))
+        parts = in_order(call, lambda it: [bytes(self._found(call, it, name, record))], batches, threads)
+        found: Any = numpy.frombuffer(bytearray().join(parts), record)
+        return [numpy.ascontiguousarray(found[field]) for field, _ in record._fields_]
 
-    def _answers(self, call: SolverCall, batch: BatchOrRefusal, name: str = "ffosolve_solve_all", *claim: CAnswer
-                 ) -> List[Answer]:
+    def _answers(self, call: SolverCall, batch: BatchOrRefusal, *claim: CAnswer) -> List[Answer]:
+        name = "ffosolve_confirm" if claim else "ffosolve_solve_all"
         rows = ANSWER.iter_unpack(self._found(call, batch, name, CAnswer, *claim))
         return [Answer(score, KINDS[kind], best) for score, kind, best in rows]
 

@@ -1,11 +1,17 @@
-"""Squares: A1 is number 0, B1 is 1, A2 is 8, H8 is 63. A mask is a set of squares as a number: bit n is square n."""
+"""Squares: A1 is number 0, B1 is 1, A2 is 8, H8 is 63. A mask is a set of squares as a number: bit n is square n. A
+position is two masks, for which the shared library knows the rules."""
+import array
+import ctypes
 import operator
 import reprlib
-from typing import List, Union
+from typing import Any, Callable, Iterable, List, Optional, Tuple, Union
 
-from ._refusals import WRONG_MASK
+from ._library import CPosition, loaded
+from ._refusals import REFUSALS, WRONG_MASK, OtherRefusal, SharedSquare, Status, TooManyEmpties
 
 NAMES = [column + row for row in "12345678" for column in "ABCDEFGH"]
+# How many squares a mask has; `bit_count` came with Python 3.10.
+size_of: Callable[[int], int] = getattr(int, "bit_count", lambda mask: bin(mask).count("1"))
 
 
 def square_name(number: int) -> str:
@@ -24,8 +30,7 @@ def square_number(name: str) -> int:
 
 
 def number_of(square: Union[int, str]) -> int:
-    """Returns the number of the square with the name `square`, or `square` itself if that is a number, even one that no
-    square has. Raises ValueError for a name that no square has, and TypeError for an object of another type."""
+    """The number of the square of that name; a number itself, even of no square. Raises ValueError and TypeError."""
     if not isinstance(square, str) and not hasattr(square, "__index__"):
         raise TypeError(f"a square is a name such as 'F5' or a number from 0 to 63, not {reprlib.repr(square)}")
     return square_number(square) if isinstance(square, str) else operator.index(square)
@@ -58,3 +63,60 @@ def square_names(mask: int) -> List[str]:
     """The names of the squares in a mask, in the order of their numbers. Raises ValueError for a wrong mask."""
     mask = checked_mask(mask)
     return [NAMES[number] for number in range(64) if mask >> number & 1]
+
+
+def checked_positions(positions: Iterable[Iterable[int]]) -> Iterable[Iterable[int]]:
+    """Returns `positions`. Raises TypeError for a single position, whose masks are no positions."""
+    if hasattr(positions, "own"):
+        raise TypeError("positions are a list or another iterable of positions, as [position], not a single one")
+    return positions
+
+
+def masks_and_empties(position: Iterable[int]) -> Tuple[int, int, int]:
+    """The two masks of a position, and how many squares are empty. Raises TypeError for another object."""
+    try:
+        own, opp = position
+        return own, opp, 64 - size_of(own | opp)
+    except (TypeError, ValueError):
+        form = "a position is two masks, as Position(own, opp) and Position.from_obf(line) return them"
+        raise TypeError(f"{form}, not {reprlib.repr(position)}") from None
+
+
+def checked_position(position: Iterable[int], most: int, index: Optional[int] = None) -> Tuple[int, int, int]:
+    """What `masks_and_empties` returns. Raises SharedSquare and, for more than `most` empty squares, TooManyEmpties,
+    with the position's `index` in a list; TypeError for another object; ValueError for most masks out of range."""
+    own, opp, empties = masks_and_empties(position)
+    if own & opp or empties > most:
+        c_position((own, opp))  # raises ValueError for a wrong mask
+        if own & opp:
+            raise SharedSquare(index)
+        raise TooManyEmpties(index, f"{empties} empty squares are more than max_empties={most} of the Solver")
+    return own, opp, empties
+
+
+def c_position(position: Iterable[int]) -> CPosition:
+    own, opp, _ = masks_and_empties(position)
+    if (own | opp) >> 64:
+        raise ValueError(WRONG_MASK)
+    return CPosition(own, opp)
+
+
+def c_positions(masks: List[int]) -> Any:
+    """Returns an array of positions, given by the masks `own` and `opp` of each. Raises ValueError for a wrong mask."""
+    try:
+        return (CPosition * (len(masks) // 2)).from_buffer(array.array("Q", masks))
+    except OverflowError:
+        raise ValueError(WRONG_MASK) from None
+
+
+def moves(position: Iterable[int]) -> int:
+    """The mask of the legal moves. Raises SharedSquare."""
+    found = ctypes.c_uint64()
+    accept(loaded().ffosolve_moves(c_position(position), found))
+    return found.value
+
+
+def accept(status: int) -> None:
+    """Raises the refusal that `status` stands for, or does nothing if it is DONE."""
+    if status != Status.DONE:
+        raise REFUSALS[status]() if status in REFUSALS else OtherRefusal(status)

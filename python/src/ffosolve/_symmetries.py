@@ -7,8 +7,7 @@ from typing import Iterable, Tuple, Union
 from ._answers import ENDS
 from ._library import CPosition, loaded
 from ._refusals import UnknownSymmetry
-from ._rules import accept, c_position
-from ._squares import NAMES, checked_mask, square_of
+from ._squares import NAMES, accept, c_position, checked_mask, square_of
 
 
 class Symmetry(enum.IntEnum):
@@ -18,8 +17,7 @@ class Symmetry(enum.IntEnum):
         TRANSPOSE (r, c)       TURN_RIGHT (7 - r, c)      TURN_LEFT (r, 7 - c)    ANTI_TRANSPOSE (7 - r, 7 - c)
 
     `symmetry.square("F5")` is the name of the square to which it moves F5, `symmetry.mask(mask)` the mask to which it
-    moves another, and `symmetry.inverse` the Symmetry that undoes it.
-    """
+    moves another, and `symmetry.inverse` the Symmetry that undoes it."""
 
     IDENTITY = 0
     FLIP_COLUMNS = 1
@@ -33,8 +31,7 @@ class Symmetry(enum.IntEnum):
     @property
     def inverse(self) -> "Symmetry":
         """The Symmetry that undoes this one."""
-        turns = {Symmetry.TURN_RIGHT: Symmetry.TURN_LEFT, Symmetry.TURN_LEFT: Symmetry.TURN_RIGHT}
-        return turns.get(self, self)
+        return {Symmetry.TURN_RIGHT: Symmetry.TURN_LEFT, Symmetry.TURN_LEFT: Symmetry.TURN_RIGHT}.get(self, self)
 
     def square(self, square: Union[int, str]) -> str:
         """The name of the square to which a square moves. `square` is a name such as "F5" or a number, 0 to 63. A pass,

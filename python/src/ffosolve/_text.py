@@ -18,9 +18,8 @@ class ReadingWarning(UserWarning):
 
 
 def text_lines(file: BinaryIO, name: str, may_have_nul: bool = False) -> Iterator[bytes]:
-    """Yields the lines of a text, with their line ends. Raises NotText, with `name` in the message, if the text
-    begins with a byte-order mark or like an archive, ends its lines with CR alone, has a line of more than MOST_BYTES
-    bytes, or has a NUL byte and `may_have_nul` is false."""
+    """Yields the lines of a text, with their line ends. Raises NotText, with `name` in the message, for a file of
+    another kind, a line of more than MOST_BYTES bytes and, unless `may_have_nul`, one with a NUL byte."""
     number, line = 1, file.readline(MOST_BYTES + 1)
     if line.startswith(MARKS):
         raise NotText(f"cannot read {name}: it begins with a byte-order mark")

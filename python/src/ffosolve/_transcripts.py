@@ -6,17 +6,12 @@ PASSES = ("--", "pass", "ps", "pa")
 DASHES = str.maketrans(dict.fromkeys("\u2010\u2011\u2012\u2013\u2014\u2212", "-"))  # are read as hyphens
 # Several hyphens are a pass, but a single one separates moves. A blank or comma separates a number without a point from
 # the move before it, and also a result, which comes last.
-TOKEN = re.compile(
-    r"""
+TOKEN = re.compile(r"""
     ( [a-h]\s*[1-8] | pass | --+ )
     | (?<![^\s,]) [(\[]? (?: [0-9]{1,2}[-:][0-9]{1,2} | 1/2-1/2 | [+-]?[0-9]{1,2} | \* ) [)\]]? \.? [\s,]*\Z
     | [\s,]+ | - | [0-9]{1,4}\s*[.):]+ | (?<![^\s,]) [0-9]{1,4} (?= [\s,a-h] | \Z )
     | ( [^\s,]{1,2} )
-    """,
-    re.VERBOSE,
-)
-
-
+    """, re.VERBOSE)
 HEADERS = re.compile(r"\s*(?:\[[^\]]*\]\s*)+")  # such as [Event "Final"] [Black "Ann"]
 # What a game on several lines has: a first line in SGF, or lines with headers alone and then two with moves.
 SPREAD = re.compile(rb"\A\s*\(;.*[^)\s]\s*\n|^(?:\[[^]\n]*][ \t\r]*)+\n\s*[^[%\s].*\n[^[%\n]*[a-h][1-8]", re.I | re.M)
@@ -27,11 +22,9 @@ GGF_START = f"8{27 * '-'}O*{6 * '-'}*O{27 * '-'}*"  # 8 by 8 squares, the usual 
 
 
 def transcript_words(text: str) -> List[str]:
-    """The words of a transcript, in lower case: squares without blanks inside, passes (several hyphens become `--`)
-    and other text in words of one or two characters. Skips headers in brackets before the moves, blanks, commas, a
-    hyphen between moves, move numbers such as `1.` and `12`, a result at the end such as `33-31`, `+2` or `*`, and
-    everything from `%` on. Of a game in GGF, `(;GM[Othello] .. ;)`, has the moves; raises ValueError as `ggf_words`,
-    and for a move with a mark."""
+    """The words of a transcript in any form that `Game.of_text` reads, in lower case: squares without blanks inside,
+    passes (several hyphens become `--`), and other text in words of one or two characters. Raises ValueError for a
+    move with a mark, and as `ggf_words`."""
     if GGF.match(text):
         return ggf_words(text)
     text = HEADERS.sub("", text, 1) if HEADERS.match(text) else text

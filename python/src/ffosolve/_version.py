@@ -12,8 +12,7 @@ COMMIT = "$Format:%h$"  # which `git archive` replaces: see .gitattributes
 def version() -> str:
     """The version by which pip and apt know the package. In a checkout: what the file VERSION has and, if commits came
     after its last change, their number and the last of them, as in 1.0.0+12.g0123456. A clone with only the last
-    commits, or `git archive`, does not know the number: 1.0.0+g0123456. The version of a mere copy of the package is
-    0+unknown."""
+    commits, or `git archive`, does not know the number: 1.0.0+g0123456. A mere copy of the package has 0+unknown."""
     sources = Path(__file__).absolute().parent.parent
     for known in importlib.metadata.distributions(name="ffosolve", path=[str(sources)]):
         return known.version
@@ -36,8 +35,7 @@ def version() -> str:
 
 def git(root: Path, *words: str) -> List[str]:
     command = ["git", f"--git-dir={root / '.git'}", *words]
-    return subprocess.run(command, cwd=root, stdout=subprocess.PIPE, stderr=subprocess.DEVNULL, check=True,
-                          encoding="ascii").stdout.split()
+    return subprocess.check_output(command, cwd=root, stderr=subprocess.DEVNULL, encoding="ascii").split()
 
 
 if __name__ == "__main__":
