@@ -157,8 +157,8 @@ def main(find: Callable[[], Optional[str]] = lambda: None) -> NoReturn:
             load(find())  # for `positions_of`
         except LibraryNotFound as why:
             raise Refusal(str(why), MISSING) from None
-        lines = compare(options, messages) if options.task else list_games(options, messages)
-        print_all(line + b"\n" for line in lines)
+        tasks = {"check": check, "compare": compare, None: list_games}
+        print_all(line + b"\n" for line in tasks[options.task](options, messages))
         return messages.status
 
     run(NAME, program)
@@ -243,19 +243,27 @@ def wrong_scores(game: Game, discs: Optional[int]) -> Iterator[str]:
             yield f"its real score is {score}, but its moves give {discs}"
 
 
-def compare(options: argparse.Namespace, messages: Messages) -> Iterator[bytes]:
-    """Yields a line for each wrong theoretical score, and one with counts. With --fix, first writes corrected files.
-    The exact scores are those of a book or, for `check`, of ffosolve-many; with --cut, that cuts lists, and no more."""
+def check(options: argparse.Namespace, messages: Messages) -> Iterator[bytes]:
+    """Does what `compare` does, with scores that ffosolve-many finds. With --cut, lets it cut lists; yields nothing."""
     found, copies = scored_games(options, messages), new_paths(options)
-    if options.task == "check":
-        folders = folders_of(found, options)
-        scores = exact_scores(folders, options.lines or 10, options.many) if folders else {}
-    else:
-        with file_of(*options.book) as file:
-            name = shown(*options.book)
-            scores = scores_in(text_lines(file, name), name)
-    if "--cut" in options.many:
-        return
+    folders = folders_of(found, options)
+    scores = exact_scores(folders, options.lines or 10, options.many) if folders else {}
+    if "--cut" not in options.many:
+        yield from compared(found, copies, scores, options, messages)
+
+
+def compare(options: argparse.Namespace, messages: Messages) -> Iterator[bytes]:
+    """Yields a line for each wrong theoretical score, and one with counts. With --fix, first writes corrected files."""
+    found, copies = scored_games(options, messages), new_paths(options)
+    with file_of(*options.book) as file:
+        name = shown(*options.book)
+        scores = scores_in(text_lines(file, name), name)
+    yield from compared(found, copies, scores, options, messages)
+
+
+def compared(found: List[Found], copies: Dict[str, str], scores: Dict[Position, int], options: argparse.Namespace,
+             messages: Messages) -> Iterator[bytes]:
+    """Yields what `compare` does, for games and {canonical position: exact score for its mover}."""
     for at, it in enumerate(found):
         if it.position and (score := scores.get(it.position.canonical())) is not None:
             found[at] = it._replace(exact=discs_of_black(score, it.position.side))
