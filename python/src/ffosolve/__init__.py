@@ -29,8 +29,11 @@ with two more empty squares takes some 2 to 20 times as long.
 with the position in which it is made, which is what a search for a player's mistakes needs. `compare_scores` compares
 the scores of an evaluation with exact ones. With NumPy, `solver.solve_arrays(*masks_of(positions))` solves arrays.
 
-`position.canonical()` is the same for all eight images of a position, as a book needs it. A notebook shows a position
-as a picture, and `position.show(solver.move_scores(position))` with the scores of its moves.
+`position.canonical()` is the same for all eight images of a position, as a book needs it, and
+`position.canonical_symmetry.square("F5")` is the square that a move becomes there.
+
+A notebook shows a position as a picture. `position.show(solver.move_scores(position))` adds the scores of its moves;
+`position.show().save("board.svg")` writes the picture to a file.
 
 These calls take `threads=N` and `timeout=SECONDS`: `compare_scores`, and of a Solver `solve`, `confirm`, `best_line`,
 `move_scores`, `scored_line`, and those whose names end with `_all`, `_iter` or `_arrays`. Threads solve several

@@ -29,8 +29,9 @@ class Batch(NamedTuple):
 
 
 def slices_of(empties: List[int], call: SolverCall, at_once: bool) -> Iterator[Tuple[slice, int]]:
-    """Cuts positions, given by their numbers of empty squares, into slices; yields each with its greatest number. A
-    slice is for a brief call or, if its first position takes longer, for a program: with all others if `at_once`."""
+    """Cuts positions, given by their numbers of empty squares, into slices; yields each with its greatest number. The
+    call for a slice is brief, as the library makes it; but a slice whose first position alone takes longer is for a
+    program (see `SolverCall.search`), and if `at_once`, that gets all further positions, too."""
     gets_all = at_once and not is_brief(1, max(empties, default=0)) and call.has_program()
     start = greatest = weight = 0
     for at, count in enumerate(empties):

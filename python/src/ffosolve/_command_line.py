@@ -156,7 +156,8 @@ def replace(name: str, pieces: Iterable[bytes]) -> None:
 
 
 def lock_file(file: int, folder: Union[str, "os.PathLike[str]"], what: str) -> None:
-    """Locks an open file, which stands for a folder where `what` works. Refuses if another one does for two seconds."""
+    """Locks an open file, for as long as it is open. It stands for a folder, in which `what`, such as a run, works:
+    refuses if another one does, unless that ends within two seconds."""
     for _ in range(40):
         try:
             return fcntl.flock(file, fcntl.LOCK_EX | fcntl.LOCK_NB)

@@ -233,7 +233,8 @@ def found_in(name: str, options: argparse.Namespace, messages: Messages) -> Iter
 
 
 def wrong_scores(game: Game, discs: Optional[int]) -> Iterator[str]:
-    """Yields what is wrong with a game's scores. `discs` are Black's at the end, None if the moves stop before it."""
+    """Yields a message for each score above MOST_DISCS, and if the game's real score, which the file gives for its end,
+    is not `discs` or can't be checked. `discs` is how many Black has then, or None if the moves stop before that."""
     for kind, score in (("theoretical", game.score), ("real", game.real)):
         if score is not None and score > MOST_DISCS:
             yield f"its {kind} score is {score}, more than {MOST_DISCS} discs"

@@ -30,7 +30,9 @@ class CMoveScores(ctypes.Structure):
 
 
 def libraries_to_try() -> List[str]:
-    """The libraries that `Solver()` tries, in the order of its help; in this package, for newer processors first."""
+    """The libraries to try if no path is given. If the environment variable FFOSOLVE_LIBRARY names one, only that one.
+    Otherwise those in this package, the one for newer processors first; then FILE_NAME where the system's loader
+    finds it; then this file in the folder `lib` of the virtual environment, if any, of Python and of /usr/local."""
     if named := os.environ.get("FFOSOLVE_LIBRARY"):
         return [os.path.abspath(named) if os.sep in named else named]
     own = [os.path.join(os.path.dirname(__file__), level, FILE_NAME) for level in ("x86-64-v3", "x86-64-v2")]

@@ -117,8 +117,9 @@ class Position:
 
     @property
     def listed(self) -> Listed:
-        """Each move that the position's line of OBF text lists with a whole score from -64 to 64, and this score, as
-        `(("H1", 62), ("A1", 52))`. "PS" is a pass, "--" the end of the game. Moves may be illegal, and scores wrong."""
+        """Each move that the position's line of OBF text lists with a whole score from -64 to 64, and this score, in
+        order, such as `(("H1", 62), ("A1", 52))`. "PS" is a pass, and "--" the end of the game. The moves may be
+        illegal and the scores wrong."""
         return self._all[3]
 
     @property
@@ -212,13 +213,15 @@ class Position:
         return int(found[0].score)
 
     def canonical(self: P) -> P:
-        """The same for all eight images of a position: that with the least `own` and, among these, the least `opp`."""
+        """The same position for all eight images of a position under the symmetries of the board: the image with the
+        least `own` and, among these, the least `opp`."""
         own, opp, _ = canonical_form(self)
         return type(self)(own, opp, self.side)
 
     @property
     def canonical_symmetry(self) -> Symmetry:
-        """The first Symmetry that leads to `canonical()`: `square("F5")` is what F5 becomes, `inverse` leads back."""
+        """The first Symmetry that leads to `canonical()`. `canonical_symmetry.square("F5")` is the square that F5
+        becomes there, and `canonical_symmetry.inverse` leads back."""
         return canonical_form(self)[2]
 
     def image(self: P, symmetry: int) -> P:
@@ -275,7 +278,8 @@ class Position:
         return {"own": self.own, "opp": self.opp, "side": self.side}
 
     def _replace(self: P, **changes: Any) -> P:
-        """Returns a copy with another side, or with other masks, of which neither the last move nor a line is known."""
+        """Returns a copy with other masks or another side. With other masks, it is another board, of which neither the
+        last move nor a line is known."""
         changed, position = Position(**{**Position._asdict(self), **changes}), copy.copy(self)
         fill(position, changed._all if changed != self else (*changed._all[:2], *self._all[2:]))
         return position
@@ -296,7 +300,8 @@ def is_pass(move: object) -> bool:
 
 
 def played(position: P, moves: Iterable[Union[int, str]]) -> Iterator[P]:
-    """Yields the position after each move. Passes may be missing; those after the end are skipped. Raises as `play`."""
+    """Yields the position after each of `moves`. Passes may be left out, and those after the end of the game are
+    skipped. Raises the same as `Position.play`."""
     for move in moves:
         if is_pass(move) and position.is_over:
             continue
@@ -326,7 +331,8 @@ def following(before: P, own: int, opp: int, move: str) -> P:
 
 
 def read_line(text: Union[str, bytes], number: Optional[int], kind: Type[P]) -> P:
-    """Does what `kind.from_obf` does; `number` becomes that of the position, or the `line` of the LineRefused."""
+    """Reads a line of OBF text as a position of the class `kind`, and raises the same as `Position.from_obf`. `number`,
+    which may be None, becomes the `number` of the position or the `line` of the LineRefused."""
     try:
         own, opp, side, listed = parsed(text, number)
         line = kind(own, opp, side)

@@ -95,8 +95,9 @@ class Solver:
         return self._answers(self._call(timeout, threads), self._batch(position), CAnswer(*claim))[0]
 
     def best_line(self, position: Position, *, threads: int = 1, timeout: Seconds = None) -> List[Tuple[str, int]]:
-        """Perfect play from a position to the end of the game: each move and its score for the side that makes it, as
-        [("H1", 62), ("PS", -62), ("A1", 62)]. Of several best moves, it has the first. Raises the same as `solve`."""
+        """Perfect play from a position to the end of the game: each move and its score for the side that makes it, such
+        as [("H1", 62), ("PS", -62), ("A1", 62)]. Of several best moves, it has the first. Raises the same as `solve`.
+        """
         call, line = self._call(timeout, threads), []
         answer = self._answers(call, self._batch(position))[0]
         while answer.kind != Kind.OVER:
