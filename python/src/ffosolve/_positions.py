@@ -323,7 +323,7 @@ def illegal_move(position: Position, move: str) -> NoMove:
 
 
 def following(before: P, own: int, opp: int, move: str) -> P:
-    """The position with these masks after a move of the side to move in another."""
+    """The position with these masks to which `move` leads from `before`; the other side is to move."""
     side = OTHER[before._all[1]]
     position = type(before)(own, opp, side)
     fill(position, ((own, opp), side, move, (), None))
