@@ -1,6 +1,5 @@
 """ffosolve-many on a Dask cluster of this machine prints what one run of ffosolve or ffoscores does, or an error."""
 import asyncio
-import contextlib
 import os
 import pickle
 import pickletools
@@ -56,8 +55,7 @@ class Cluster:
                                   ("engine", "(1 if is_terminal else 60)", "1"), script=ACTING)
 
     def daemon(self, name, *command, **places):
-        """Starts Dask's scheduler or a worker with `places` added to the environment; it logs to NAME.log. By default,
-        the scheduler removes workers that are silent for 5 seconds."""
+        """Starts Dask's scheduler or a worker, with `places` added to the environment; it logs to NAME.log."""
         settings = {"DASK_DISTRIBUTED__SCHEDULER__WORKER_TTL": "5s", "DASK_DISTRIBUTED__COMM__TIMEOUTS__CONNECT": "3s"}
         with open(f"{name}.log", "wb") as log:
             self.daemons[name] = self.case.start(*command, "--no-dashboard", stdout=log, stderr=log,
@@ -92,9 +90,8 @@ class Cluster:
         return ran
 
     def ended(self, ran, status=0):
-        """Waits for the end of a run that `begin` started. Asserts that its report and its book are those of one run of
-        ffosolve or, unless its `status` is 0, that it prints nothing; and that nothing of it is left on the workers,
-        unless the scheduler is lost. Returns the run's messages."""
+        """Waits for the end of a run that `begin` started, and returns its messages. Asserts that its report and its
+        book are those of one run of ffosolve, and that nothing of it is left on the workers if there is a scheduler."""
         output, _ = ran.communicate(timeout=3 * SECONDS)
         assert (ran.returncode, output) == (status, b"" if status else self.case.one), messages()
         if status == 0:
@@ -256,10 +253,9 @@ def test_another_version_of_dask_is_refused_at_the_start_by_both_versions(cluste
     words = ("--scheduler=scheduler.json", "work", "list.obf")
     told = case.many(*words, status=3, message=": they have to be the same\n")
     assert re.search(r" has distributed (\d\S+), its workers 1\.2\.3, \S+ \1: they", told)
-    cluster.start_workers("worker2")
-    cluster.signal(signal.SIGKILL, "scheduler", "worker1", "worker2")
+    cluster.signal(signal.SIGKILL, "scheduler", "worker1")
     cluster.start_scheduler(PYTHONPATH=f"{case.folder}/lib")
-    told = case.many(*words, status=3, message=" has distributed 1.2.3, its workers none, ")
+    case.many(*words, status=3, message=" has distributed 1.2.3, its workers none, ")
 
 
 def test_a_folder_where_no_program_may_run_is_fine_and_a_finished_one_needs_no_scheduler(cluster, case):
@@ -376,11 +372,11 @@ def one(monkeypatch):
     asks, it is told `about` these and d, of two threads each."""
     pytest.importorskip("distributed")
     from ffosolve._many import cluster
-    with contextlib.ExitStack() as stack:
+    with monkeypatch.context() as patch:
         for what in ("logging.disable", "warnings.simplefilter", "asyncio.run_coroutine_threadsafe"):
-            stack.enter_context(mock.patch(what))
-        stack.enter_context(mock.patch.object(cluster.Cluster, "ask", mock.Mock()))
-        stack.enter_context(mock.patch.object(cluster, "client_of", return_value=mock.Mock(status="running")))
+            patch.setattr(what, mock.Mock())
+        patch.setattr(cluster.Cluster, "ask", mock.Mock())
+        patch.setattr(cluster, "client_of", mock.Mock(return_value=mock.Mock(status="running")))
         one = cluster.Cluster("tcp://h1:1", mock.Mock(statuses={}, pack=solve.Pack("", {"files": {}}, {})))
     one.workers, one.count, one.threads, one.key = {(name, name): 1 for name in "abc"}, 3, 3, "ffosolve-key"
     one.about = {name: {"local_directory": name, "nthreads": 2, "host": "h1", "last_seen": 0, "metrics": {}}
@@ -415,8 +411,7 @@ def test_workers_are_left_out_for_parts_that_others_solve_not_for_those_that_fai
 
 
 def test_a_worker_that_is_silent_or_not_fit_gets_no_part_and_the_only_pack_is_not_left_to_it(one):
-    at_work = {"a": ["ffosolve-other-5-x", "ffosolve-key-3-x"], "b": ["ffosolve-key-7-x"]}  # one part of another run
-    one.client.processing.return_value = at_work
+    one.client.processing.return_value = {"a": ["ffosolve-other-5-x", "ffosolve-key-3-x"], "b": ["ffosolve-key-7-x"]}
     one.left_out, one.signs, begun = {("c", "c")}, {("b", "b"): (0, time.monotonic() - 31)}, set()
     del one.about["d"]
     for holders in ("b", "bc", "ab"):

@@ -95,18 +95,16 @@ def test_answers_that_are_found_come_before_a_timeout(threads):
 
 @pytest.mark.parametrize("threads", [3, 6])
 @pytest.mark.parametrize("name", [*NAMES, *ARRAYS])
-def test_as_many_threads_as_asked_make_calls_at_once_with_the_scoring_and_table_of_the_solver(name, threads, mocked,
-                                                                                              monkeypatch):
+def test_as_many_threads_as_asked_make_calls_at_once_with_the_scoring_and_table_of_the_solver(name, threads, mocked):
     """Each position is a part of its own. The calls wait until there are as many as threads."""
     (solver, library), positions, at_once = mocked, random_positions(2 * threads, [16]), threading.Barrier(threads)
-    started = mock.Mock(wraps=_bulk.is_started)
-    monkeypatch.setattr(_bulk, "is_started", started)
     call, given = getattr(solver, name), arguments(name, positions)
     alone = str(list(call(*given)))
     for made in (library.ffosolve_solve_all, library.ffosolve_move_scores_all):
         made.side_effect = lambda *_: (at_once.wait(SECONDS), mock.DEFAULT)[1]
     library.reset_mock()
-    assert str(list(call(*given, threads=threads))) == alone
+    with mock.patch.object(_bulk, "is_started", wraps=_bulk.is_started) as started:
+        assert str(list(call(*given, threads=threads))) == alone
     assert [call.args[2:4] for call in library.method_calls] == [(2, solver._entries)] * 2 * threads
     assert started.call_count == threads
 
@@ -146,8 +144,7 @@ def test_a_closed_iterator_waits_for_nothing_begins_nothing_and_has_read_few_pos
 def test_an_iterator_yields_the_answers_before_a_refusal(name, bad, error, threads, place, wanted):
     found = []
     with pytest.raises(error) as refused:
-        for answer in getattr(Solver(), name)([*POSITIONS[:place], bad, *POSITIONS[place:], SHARED], threads=threads):
-            found.append(answer)
+        found.extend(getattr(Solver(), name)([*POSITIONS[:place], bad, *POSITIONS[place:], SHARED], threads=threads))
     assert (found, refused.value.index) == (wanted[name][:place], place)
 
 
