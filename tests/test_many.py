@@ -241,8 +241,7 @@ REFUSED = [
     (2, "--max-empties: takes a number from 0 to 60, not '61'", "work", "list.obf", "--max-empties", "61"),
     (2, "--workers: takes a number from 0 to 64, not 'x'", "work", "list.obf", "--workers=x"),
     (2, "--table: takes a number from 0 to 4194304, not '99999999'", "work", "list.obf", "--table=99999999"),
-    (2, "--scoring: invalid choice: 'a;b' (choose from 'winner', 'discs', 'sign')", "work", "list.obf", "--scoring",
-     "a;b"),
+    (2, "--scoring: invalid choice: 'a;b' (choose from 'winner', 'discs', 'sign')", "list.obf", "--scoring", "a;b"),
     (3, "bad.book: book line 1: bad square", "work", "list.obf", "--book-in=bad.book"),  # in the words of the program
 ]
 

@@ -20,7 +20,6 @@ import pytest
 from ffosolve._command_line import Refusal
 from ffosolve._many import solve
 from tests import many
-from tests.many import ACTING, INTERRUPTED
 from tests.support import SECONDS, limited, need, processes_in, run, stored, unshared, wait_until, write
 
 WORDS = ("--lines=4", "--book-in=one.book", *many.WORDS[1:])  # 15 parts
@@ -52,7 +51,7 @@ class Cluster:
         self.case, self.python, self.daemons, self.port = case, python, {}, "0"
         self.hasty = case.install("hasty", ("cluster", "LOST_SECONDS = 30", "LOST_SECONDS = 12"),
                                   ("solve", "KNOWN_SECONDS = 30", "KNOWN_SECONDS = 5"),
-                                  ("engine", "(1 if is_terminal else 60)", "1"), script=ACTING)
+                                  ("engine", "(1 if is_terminal else 60)", "1"), script=many.ACTING)
 
     def daemon(self, name, *command, **places):
         """Starts Dask's scheduler or a worker, with `places` added to the environment; it logs to NAME.log."""
@@ -71,10 +70,9 @@ class Cluster:
     def start_workers(self, *names, options=(), **places):
         """Starts workers of one thread, and waits until they are registered. A shell starts each again when it ends."""
         for name in names:
-            command = ("sh", "-c", 'while :; do "$@"; sleep 0.1; done', "sh", self.python, "-m",
-                       "distributed.cli.dask_worker")
-            self.daemon(name, *command, f"127.0.0.1:{self.port}", "--nthreads=1", f"--local-directory=workers/{name}",
-                        *options, **places)
+            loop = f'while :; do "{self.python}" -m distributed.cli.dask_worker "$@"; sleep 0.1; done'
+            self.daemon(name, "sh", "-c", loop, "sh", f"127.0.0.1:{self.port}", "--nthreads=1",
+                        f"--local-directory=workers/{name}", *options, **places)
         wait_until(lambda: all("Registered to" in Path(f"{name}.log").read_text() for name in names))
 
     def signal(self, number, *names):
@@ -278,7 +276,7 @@ def test_a_worker_that_fails_now_and_then_is_not_left_out(cluster, case):
 
 def test_parts_that_fail_everywhere_take_no_worker_out(cluster, case):
     cluster.start_workers("worker1", "worker2", "worker3", PAUSE="0.2")
-    write("list.obf", b"".join(b"%% FAIL %d\n" % number for number in range(24)) + case.SMALL)
+    write("list.obf", b"".join(b"%% RUN sys.exit('%d')\n" % number for number in range(24)) + case.SMALL)
     told = cluster.ended(cluster.begin(), 1)
     count = int(re.search(r": not solved: (\d) of \d\d parts: part 0000000 \(lines 1 to ", told)[1])
     assert (told.count(" failed part "), "left out" in told, count > 3) == (3 * count, False, True)
@@ -288,7 +286,7 @@ def test_parts_that_fail_everywhere_take_no_worker_out(cluster, case):
 
 def test_a_part_that_kills_its_worker_is_not_solved_and_the_others_are(cluster, case):
     cluster.start_workers("worker1", options=["--nthreads=2"])
-    write("list.obf", case.SMALL[:68 * 22] + b"% KILL\n" + case.SMALL[68 * 22:])
+    write("list.obf", case.SMALL[:68 * 22] + b"% RUN os.kill(os.getppid(), signal.SIGKILL)\n" + case.SMALL[68 * 22:])
     told = cluster.ended(cluster.begin(), 1)
     (part,) = re.findall(r": not solved: 1 of \d+ parts: (part \d+ \(lines \d+ to \d+\))\. ", told)
     assert told.count(f"failed {part}: 4 workers ended that had it\n") == 2
@@ -328,7 +326,7 @@ def test_a_caller_that_a_signal_ends_leaves_nothing_on_the_workers(cluster):
         ran = cluster.begin()
         wait_until(lambda: cluster.programs("worker1") and cluster.programs("worker2"))
         ran.send_signal(number)
-        assert cluster.ended(ran, -number).endswith(INTERRUPTED) == (number != signal.SIGKILL)
+        assert cluster.ended(ran, -number).endswith(many.INTERRUPTED) == (number != signal.SIGKILL)
     rng = random.Random(1)
     for _ in range(3):
         ran = cluster.begin()
