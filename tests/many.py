@@ -16,13 +16,13 @@ from tests.support import built, copy_many, positions, processes_in, run, write
 BOARD = b"-OXXXXX-XXXXXXXOXXXXXXXXXXXXXXXXXXXOXXXXXXXXXXXXXXXXXXXXXXXXXXXX"  # two empty squares
 WORDS = ("--lines=20", "work", "list.obf", "--book-out", "joined.book")  # a command for the folder of a `Case`
 INTERRUPTED = "ffosolve-many: interrupted; the same command goes on with what is solved\n"
-FAIL = b"% RUN sys.exit('ffosolve: out of memory')\n"  # a line that ACTING runs
-# A script that replaces the program @real@ and runs it. It appends its arguments to the file $WORDS, and runs the
-# Python code of lines `% RUN code`. For a part of a list, it first sleeps $PAUSE seconds, or 45 once $LAST parts are
-# solved, and the Python function $SPOIL changes the output. $SPOIL_KNOWN changes that for the line solve.KNOWN.
+# A script that replaces the program @real@ and runs it. It appends its arguments to the file $WORDS. If its input has
+# DIE, FAIL or KILL, it kills itself, fails, or kills its parent. For a part of a list, it first sleeps $PAUSE seconds,
+# or 45 once $LAST parts are solved, and the Python function $SPOIL changes the output. $SPOIL_KNOWN changes that for
+# the line solve.KNOWN.
 ACTING = """\
 #!@python@ -IS
-import glob, os, re, signal, subprocess, sys, time
+import glob, os, signal, subprocess, sys, time
 places, text, command = os.environ, b"", ["@real@", *sys.argv[1:]]
 if sys.stdin.seekable():  # not the pipe of a run for its version, or to test a book
     text = sys.stdin.buffer.read()
@@ -30,8 +30,12 @@ if sys.stdin.seekable():  # not the pipe of a run for its version, or to test a 
 is_part = text and b"H1:+62; A1:+52;" not in text
 if "WORDS" in places:
     open(places["WORDS"], "a").write(" ".join(command[1:]) + "\\n")
-for code in re.findall(b"% RUN (.*)", text):
-    exec(code)
+if b"DIE" in text:
+    os.kill(os.getpid(), signal.SIGKILL)
+if b"FAIL" in text:
+    sys.exit("ffosolve: out of memory")
+if b"KILL" in text:
+    os.kill(os.getppid(), signal.SIGKILL)
 if is_part:
     is_last = len(glob.glob("work/results/" + "?" * 64)) >= int(places.get("LAST", 10_000))
     time.sleep(45 if is_last else float(places.get("PAUSE", 0)))

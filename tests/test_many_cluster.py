@@ -276,7 +276,7 @@ def test_a_worker_that_fails_now_and_then_is_not_left_out(cluster, case):
 
 def test_parts_that_fail_everywhere_take_no_worker_out(cluster, case):
     cluster.start_workers("worker1", "worker2", "worker3", PAUSE="0.2")
-    write("list.obf", b"".join(b"%% RUN sys.exit('%d')\n" % number for number in range(24)) + case.SMALL)
+    write("list.obf", b"".join(b"%% FAIL %d\n" % number for number in range(24)) + case.SMALL)
     told = cluster.ended(cluster.begin(), 1)
     count = int(re.search(r": not solved: (\d) of \d\d parts: part 0000000 \(lines 1 to ", told)[1])
     assert (told.count(" failed part "), "left out" in told, count > 3) == (3 * count, False, True)
@@ -286,7 +286,7 @@ def test_parts_that_fail_everywhere_take_no_worker_out(cluster, case):
 
 def test_a_part_that_kills_its_worker_is_not_solved_and_the_others_are(cluster, case):
     cluster.start_workers("worker1", options=["--nthreads=2"])
-    write("list.obf", case.SMALL[:68 * 22] + b"% RUN os.kill(os.getppid(), signal.SIGKILL)\n" + case.SMALL[68 * 22:])
+    write("list.obf", case.SMALL[:68 * 22] + b"% KILL\n" + case.SMALL[68 * 22:])
     told = cluster.ended(cluster.begin(), 1)
     (part,) = re.findall(r": not solved: 1 of \d+ parts: (part \d+ \(lines \d+ to \d+\))\. ", told)
     assert told.count(f"failed {part}: 4 workers ended that had it\n") == 2

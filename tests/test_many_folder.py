@@ -20,7 +20,7 @@ import pytest
 
 from ffosolve._command_line import counted
 from ffosolve._many import folder, solve
-from tests.many import ACTING, BOARD, FAIL, INTERRUPTED, WORDS, files
+from tests.many import ACTING, BOARD, INTERRUPTED, WORDS, files
 from tests.support import (MOST_BYTES, NOBODY, SECONDS, ends, limited, positions, preload, processes_in, run, unshared,
                            wait_until, write)
 
@@ -215,7 +215,7 @@ def test_a_list_may_change_and_only_the_parts_that_hold_the_change_are_solved(ca
     case.many(*WORDS, message=", 3 of them solved before")
     assert {*Path("work/results").iterdir()} == results | {Path("work/results/mine.txt")}
     assert not [*Path("work").glob("*.new")]
-    case.write_list(case.SMALL + FAIL)
+    case.write_list(case.SMALL + b"% FAIL\n")
     case.many("--prune", *WORDS, by=case.ACTS, status=1)
     case.many("--prune", *WORDS)
     kept = {case.record(number) for number in range(len(os.listdir("work/results")) - 1)}
@@ -279,7 +279,7 @@ def test_another_limit_of_empty_squares_takes_over_the_parts_in_which_no_line_is
 
 
 def test_only_the_parts_that_failed_are_solved_again(case):
-    case.write_list(case.SMALL + FAIL + case.SMALL + b"% RUN os.kill(os.getpid(), signal.SIGKILL)\n")
+    case.write_list(case.SMALL + b"% FAIL\n" + case.SMALL + b"% DIE\n")
     part = r"part (\d{7}) \(lines \d+ to \d+\)"
     message = rf"not solved: 2 of (\d) parts: {part}, {part}\. The same command solves only these\n"
     for _ in range(2):
@@ -389,7 +389,7 @@ def test_a_program_that_fails_for_a_part_and_then_for_a_known_line_ends_the_run(
     assert " failed part " not in errors
     assert errors.endswith("on this machine the program can't solve a known line: broken\n")
     assert case.parts_solved() == 3
-    failing = b"".join(b"%% RUN sys.exit('%d')\n" % number for number in range(7))
+    failing = b"".join(b"%% FAIL %d\n" % number for number in range(7))
     case.write_list(case.SMALL[:68 * 3] + failing + case.SMALL[68 * 3:68 * 6])
     errors = case.many("--jobs=1", "--lines=1", "other", *WORDS[2:], by=case.ACTS, status=1)
     assert (errors.count(" failed part "), "not solved: 7 of 13 parts" in errors) == (7, True)

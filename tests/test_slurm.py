@@ -7,7 +7,7 @@ from pathlib import Path
 
 import pytest
 
-from tests.many import FAIL, WORDS
+from tests.many import WORDS
 from tests.support import SECONDS, need, processes_in, run, stored, wait_until, write
 
 CONFIGURATION = """\
@@ -48,7 +48,7 @@ def slurm(case, monkeypatch):
 
 def test_the_job_array_of_the_document_solves_all_parts_and_shows_why_some_fail(case, slurm):
     write("part.sh", ARRAY.replace(b"100", b"6").replace(b"99", b"5"))
-    case.write_list(case.SMALL + FAIL)
+    case.write_list(case.SMALL + b"% FAIL\n")
     words = ("--lines=3", *WORDS[1:])
     run(case.ACTS, "--cut", *words, check=True)
     run("sbatch", "--wait", "--array=0-3", "part.sh", timeout=5 * SECONDS)
@@ -76,7 +76,7 @@ def test_the_job_of_the_document_solves_a_list_on_its_own_cluster_and_ends_with_
     os.symlink(case.ACTS.parent, "bin")
     job = JOB.replace(b"--nodes=4", b"--nodes=1").replace(b"--cpus-per-task=8", b"--cpus-per-task=2")
     write("job.sh", job.replace(b"list.obf", b"--lines=3 list.obf"))
-    for number, (text, status) in enumerate(((case.SMALL, 0), (case.SMALL + FAIL, 1)), 1):
+    for number, (text, status) in enumerate(((case.SMALL, 0), (case.SMALL + b"% FAIL\n", 1)), 1):
         case.write_list(text)
         write(f"scheduler-{number}.json", '{"address": "tcp://127.0.0.1:1"}')  # of a start that was killed
         ran = run("sbatch", "--wait", "--output=job.log", "job.sh", timeout=5 * SECONDS)
