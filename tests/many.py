@@ -5,12 +5,13 @@ import random
 import re
 import shutil
 import sys
+import types
 from pathlib import Path
 
 import pytest
 
 from ffosolve._many import solve
-from tests.support import built, copy_many, positions, run, write
+from tests.support import built, copy_many, positions, processes_in, run, write
 
 BOARD = b"-OXXXXX-XXXXXXXOXXXXXXXXXXXXXXXXXXXOXXXXXXXXXXXXXXXXXXXXXXXXXXXX"  # two empty squares
 WORDS = ("--lines=20", "work", "list.obf", "--book-out", "joined.book")  # a command for the folder of a `Case`
@@ -46,45 +47,28 @@ sys.stdout.buffer.write(eval(spoil)(subprocess.run(command, stdout=subprocess.PI
 
 
 @pytest.fixture(scope="module")
-def many_python():
-    """The Python that runs ffosolve-many in the tests of a module."""
-    return sys.executable
-
-
-@pytest.fixture(scope="module")
-def install(many_python, shared_folder):
+def install(shared_folder):
     """A function that installs ffosolve-many in the new folder `name` of `shared_folder`, and returns the path of
     bin/ffosolve-many there. Beside it are ffosolve and ffoscores or, under both names, scripts with the text `script`,
     in which @real@ is replaced by the path of the real program, @python@ by Python's. Each (module, old, new) of
-    `changes` replaces `old`. Meanwhile, `python3` on the PATH runs `many_python`."""
-    programs = [built("ffosolve"), built("ffoscores")]
-
+    `changes` replaces `old`."""
     def begin(name, *changes, script=None):
         many = copy_many(shared_folder / name)
         for module, old, new in changes:
             path = many.parent.parent / f"python/src/ffosolve/_many/{module}.py"
             before, after = path.read_text().split(old)  # fails unless the text occurs once
             path.write_text(before + new + after)
-        for program in programs:
-            place = shutil.copy(program, many.with_name(f"real-{program.name}" if script else program.name))
+        for program in ("ffosolve", "ffoscores"):
+            place = shutil.copy(built(program), many.with_name(f"real-{program}" if script else program))
             if script:
                 text = script.replace("@real@", str(place)).replace("@python@", sys.executable)
-                write(many.with_name(program.name), text)
+                write(many.with_name(program), text)
         return many
 
     with pytest.MonkeyPatch.context() as patch:
         (shared_folder / "tmp").mkdir()
-        write(shared_folder / "python/python3", f'#!/bin/sh\nexec "{many_python}" "$@"\n')  # another may be slow
         patch.setenv("TMPDIR", f"{shared_folder}/tmp")
-        patch.setenv("PATH", f"{shared_folder}/python:{os.environ['PATH']}")
         yield functools.cache(begin)
-
-
-def shuffled(text, seed):
-    """Returns the lines of a text in a random order."""
-    lines = text.splitlines(keepends=True)
-    random.Random(seed).shuffle(lines)
-    return b"".join(lines)
 
 
 class Case:
@@ -93,7 +77,9 @@ class Case:
     ACTING instead of ffosolve and ffoscores. SMALL, the list at first, is 60 lines of 68 bytes. With --lines=20 it has
     three parts of 20 lines, and with 3, 4, 5, 6 and 7 as many as if each had so many lines."""
 
-    SMALL = shuffled(positions(60, 1, 5), 819489)
+    lines = positions(60, 1, 5).splitlines(keepends=True)
+    random.Random(819489).shuffle(lines)
+    SMALL = b"".join(lines)
 
     def __init__(self, install, folder, start):
         self.install, self.folder, self.start = install, folder, start
@@ -137,6 +123,10 @@ class Case:
     def parts_solved(self):
         return len(list(Path("work/results").glob("?" * 64)))
 
+    def programs(self):
+        """Returns the IDs of the processes that solve parts."""
+        return {number for number, words in processes_in(self.folder).items() if "--max-empties" in words}
+
     def record(self, number, folder="work"):
         """Returns the path of a part's results in a folder with a list."""
         task = solve.read_task(Path(folder))
@@ -153,3 +143,11 @@ def files():
 @pytest.fixture
 def case(install, folder, start):
     return Case(install, folder, start)
+
+
+@pytest.fixture
+def clock(monkeypatch):
+    """A clock that shows `clock.now`, in seconds."""
+    clock = types.SimpleNamespace(now=0.0)
+    monkeypatch.setattr("time.monotonic", lambda: clock.now)
+    return clock

@@ -21,7 +21,6 @@ C = ["cc", "-std=c11", *STRICT, "-O1"]
 CXX = ["c++", "-std=c++11", *STRICT, "-O1", "-x", "c++"]
 PIP = [sys.executable, *"-m pip --disable-pip-version-check install --quiet --no-index --no-build-isolation".split()]
 LONGEST = 300  # seconds that a command may take, since compilers and solvers are slow on a busy machine
-END = "\x01end\x01"
 # For each line of the file `asked`, shows all completions, and appends what the line is with the first one to the file
 # `completed`.
 ZSHRC = """
@@ -87,13 +86,13 @@ def stripped(text):
 def print_what_is_shown(text, **how):
     """Asserts that the commands in blocks `console` of a document print what it shows. A command begins with `$ `, and
     its continuation lines with `> `. Below, the block shows what it prints on standard output and standard error. One
-    shell runs all commands, without input, and prints END after each. `how` is as for `run`."""
+    shell runs all commands, without input, and prints NUL after each. `how` is as for `run`."""
     found = re.findall(r"^\$ (.*\n(?:> .*\n)*)((?:(?!\$ ).*\n)*)", blocks_of(text, "console"), re.M)
     commands = [command.replace("\n> ", "\n") for command, _ in found]
-    end = f"}} </dev/null; status=$?; echo; echo '{END}'; (exit $status)\n"
+    end = "} </dev/null; status=$?; printf '\\0'; (exit $status)\n"
     words = ("timeout", 800, "bash", "-c", "".join(f"{{ {command}{end}" for command in commands))
     ran = run(*words, timeout=860, stderr=subprocess.STDOUT, text=True, errors="replace", **how)
-    printed = ran.stdout.split(f"\n{END}\n")  # the last one comes after the last END
+    printed = ran.stdout.split("\0")  # the last one comes after the last NUL
     assert len(printed) == len(commands) + 1, f"the shell hung at: {commands[len(printed) - 1:][:1]}"
     for command, (_, shown), output in zip(commands, found, printed):
         assert stripped(output) == stripped(shown), command
@@ -144,8 +143,7 @@ class Prefix:
     def make(self, *words, **how):
         """Runs a command, by default in `work`, and returns its CompletedProcess; raises AssertionError if it fails."""
         ran = self.run(*words, **how)
-        if ran.returncode != 0:
-            raise AssertionError(f"{' '.join(map(str, words))}\n{ran.stdout}{ran.stderr}")
+        assert ran.returncode == 0, f"{' '.join(map(str, words))}\n{ran.stdout}{ran.stderr}"
         return ran
 
     def compile(self, compiler, name, sources, *words):

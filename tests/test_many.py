@@ -4,7 +4,6 @@ import re
 import subprocess
 import sys
 import time
-import types
 from concurrent.futures import Future
 from pathlib import Path
 from unittest import mock
@@ -242,8 +241,7 @@ REFUSED = [
     (2, "--max-empties: takes a number from 0 to 60, not '61'", "work", "list.obf", "--max-empties", "61"),
     (2, "--workers: takes a number from 0 to 64, not 'x'", "work", "list.obf", "--workers=x"),
     (2, "--table: takes a number from 0 to 4194304, not '99999999'", "work", "list.obf", "--table=99999999"),
-    (2, "--scoring: invalid choice: 'a;b' (choose from 'winner', 'discs', 'sign')", "work", "list.obf", "--scoring",
-     "a;b"),
+    (2, "--scoring: invalid choice: 'a;b' (choose from 'winner', 'discs', 'sign')", "list.obf", "--scoring", "a;b"),
     (3, "bad.book: book line 1: bad square", "work", "list.obf", "--book-in=bad.book"),  # in the words of the program
 ]
 
@@ -413,21 +411,13 @@ TOOK = (0.010, 0.278, 0.010, 0.223, 0.028, 0.331, 0.060, 0.105, 0.138, 1.174, 0.
 EASY, HARD = [(positions(100, 2, 2), 0.008)] * 200, [(positions(1, 18, 18), 0.20)] * 40
 
 
-@pytest.fixture
-def clock(monkeypatch):
-    """A clock that shows `clock.now`, in seconds."""
-    clock = types.SimpleNamespace(now=0.0)
-    monkeypatch.setattr("time.monotonic", lambda: clock.now)
-    return clock
-
-
 def progress(weights, lines=1):
     """Returns an engine.Progress (what is left to do) for parts with these weights, each of `lines` lines."""
     one = folder.Run.__new__(folder.Run)
     one.statuses, one.count = {}, len(weights) * lines
     one.parts = [folder.Part(number, 0, 0, 1 + number * lines, lines, 0, 0, f"of {number}", weight)
                  for number, weight in enumerate(weights)]
-    return engine.Progress(one, types.SimpleNamespace(running={}, trouble="", silent=0))
+    return engine.Progress(one, mock.Mock(tries=3, trouble="", silent=0, running={}, most=mock.Mock(return_value=1)))
 
 
 def at_work(one, hosts, ended={}):
@@ -501,35 +491,33 @@ def test_progress_shows_the_time_left_the_machines_and_a_part_that_runs_long(clo
 
 
 def test_a_part_that_has_failed_twice_is_tried_once_more_after_all_others_alone():
-    run, sent, most = progress(4 * [1]).run, [], mock.Mock(return_value=1)
+    one, sent = progress(4 * [1]), []
 
     def send(part, failed):
-        sent.append((part.number, most.call_args[1]["is_alone"]))
+        sent.append((part.number, one.engine.most.call_args[1]["is_alone"]))
         done = Future()
-        done.set_result((part, *((types.SimpleNamespace(seconds=1), "") if part.number else (None, "why")), ["h1"]))
+        done.set_result((part, *((mock.Mock(seconds=1), "") if part.number else (None, "why")), ["h1"]))
         return done
 
-    made = types.SimpleNamespace(tries=3, trouble="", silent=0, running={1: ("h1", 0)}, look=lambda: None, most=most,
-                                 send=send)
-    engine.solve_parts(run, made, quiet=True)
+    one.engine.send, one.engine.running = send, {1: ("h1", 0)}
+    engine.solve_parts(one.run, one.engine, quiet=True)
     assert sent == [(0, False), (0, False), (1, False), (2, False), (3, False), (0, True)]
-    assert made.running == {1: ("h1", 0)}  # as the engine saw it, so that brief parts show that a machine is at work
+    assert one.engine.running == {1: ("h1", 0)}  # as the engine saw it, so that brief parts show a machine at work
 
 
 def test_trouble_is_told_at_once_in_a_log_and_again_after_a_minute(clock, monkeypatch):
-    run, done, told, times = progress([1]).run, Future(), [], iter((5, 10, 30, 66, 70, 200))
+    one, done, told, times = progress([1]), Future(), [], iter((5, 10, 30, 66, 70, 200))
 
     def look():
         clock.now = next(times)
-        made.trouble = "silence" * (clock.now >= 10)
+        one.engine.trouble = "silence" * (clock.now >= 10)
         if clock.now == 200:
-            done.set_result((run.parts[0], types.SimpleNamespace(seconds=1), "", ["h1"]))
+            done.set_result((one.run.parts[0], mock.Mock(seconds=1), "", ["h1"]))
 
-    made = types.SimpleNamespace(tries=3, trouble="", silent=0, running={}, look=look, most=mock.Mock(return_value=1),
-                                 send=lambda *_: done)
+    one.engine.look, one.engine.send.return_value = look, done
     monkeypatch.setattr(os, "isatty", lambda _: False)
     monkeypatch.setattr(engine, "say", lambda text: told.append((clock.now, "silence" in text)))
-    engine.solve_parts(run, made, quiet=False)
+    engine.solve_parts(one.run, one.engine, quiet=False)
     assert told == [(10, True), (70, True)]
 
 

@@ -1,6 +1,5 @@
 """ffosolve-many on a Dask cluster of this machine prints what one run of ffosolve or ffoscores does, or an error."""
 import asyncio
-import contextlib
 import os
 import pickle
 import pickletools
@@ -21,7 +20,6 @@ import pytest
 from ffosolve._command_line import Refusal
 from ffosolve._many import solve
 from tests import many
-from tests.many import ACTING, INTERRUPTED
 from tests.support import SECONDS, limited, need, processes_in, run, stored, unshared, wait_until, write
 
 WORDS = ("--lines=4", "--book-in=one.book", *many.WORDS[1:])  # 15 parts
@@ -38,7 +36,7 @@ SILENT = """if True:
 
 
 @pytest.fixture(scope="module")
-def many_python():
+def dask_python():
     """A Python that has distributed."""
     for python in (sys.executable, "/usr/bin/python3"):
         if run(python, "-c", "import distributed").returncode == 0:
@@ -53,11 +51,10 @@ class Cluster:
         self.case, self.python, self.daemons, self.port = case, python, {}, "0"
         self.hasty = case.install("hasty", ("cluster", "LOST_SECONDS = 30", "LOST_SECONDS = 12"),
                                   ("solve", "KNOWN_SECONDS = 30", "KNOWN_SECONDS = 5"),
-                                  ("engine", "(1 if is_terminal else 60)", "1"), script=ACTING)
+                                  ("engine", "(1 if is_terminal else 60)", "1"), script=many.ACTING)
 
     def daemon(self, name, *command, **places):
-        """Starts Dask's scheduler or a worker with `places` added to the environment; it logs to NAME.log. By default,
-        the scheduler removes workers that are silent for 5 seconds."""
+        """Starts Dask's scheduler or a worker, with `places` added to the environment; it logs to NAME.log."""
         settings = {"DASK_DISTRIBUTED__SCHEDULER__WORKER_TTL": "5s", "DASK_DISTRIBUTED__COMM__TIMEOUTS__CONNECT": "3s"}
         with open(f"{name}.log", "wb") as log:
             self.daemons[name] = self.case.start(*command, "--no-dashboard", stdout=log, stderr=log,
@@ -73,10 +70,9 @@ class Cluster:
     def start_workers(self, *names, options=(), **places):
         """Starts workers of one thread, and waits until they are registered. A shell starts each again when it ends."""
         for name in names:
-            command = ("sh", "-c", 'while :; do "$@"; sleep 0.1; done', "sh", self.python, "-m",
-                       "distributed.cli.dask_worker")
-            self.daemon(name, *command, f"127.0.0.1:{self.port}", "--nthreads=1", f"--local-directory=workers/{name}",
-                        *options, **places)
+            loop = f'while :; do "{self.python}" -m distributed.cli.dask_worker "$@"; sleep 0.1; done'
+            self.daemon(name, "sh", "-c", loop, "sh", f"127.0.0.1:{self.port}", "--nthreads=1",
+                        f"--local-directory=workers/{name}", *options, **places)
         wait_until(lambda: all("Registered to" in Path(f"{name}.log").read_text() for name in names))
 
     def signal(self, number, *names):
@@ -92,9 +88,8 @@ class Cluster:
         return ran
 
     def ended(self, ran, status=0):
-        """Waits for the end of a run that `begin` started. Asserts that its report and its book are those of one run of
-        ffosolve or, unless its `status` is 0, that it prints nothing; and that nothing of it is left on the workers,
-        unless the scheduler is lost. Returns the run's messages."""
+        """Waits for the end of a run that `begin` started, and returns its messages. Asserts that its report and its
+        book are those of one run of ffosolve, and that nothing of it is left on the workers if there is a scheduler."""
         output, _ = ran.communicate(timeout=3 * SECONDS)
         assert (ran.returncode, output) == (status, b"" if status else self.case.one), messages()
         if status == 0:
@@ -104,22 +99,18 @@ class Cluster:
         return messages()
 
     def leaves_nothing(self):
-        wait_until(lambda: not self.programs() and not self.packs())
+        wait_until(lambda: not self.case.programs() and not self.packs())
         assert {path.parts[0] for path in Path(".").rglob("ffosolve-?")} <= {"work", "scores"}
 
-    def programs(self, worker=None):
-        """Returns the IDs of the processes that solve parts on a worker or, by default, anywhere."""
-        found = [number for number, words in processes_in(self.case.folder).items() if "--max-empties" in words]
-        below = psutil.Process(self.daemons[worker].pid).children(recursive=True) if worker else ()
-        return [number for number in found if not worker or number in [it.pid for it in below]]
+    def programs(self, worker):
+        """Returns the IDs of the processes that solve parts on a worker."""
+        below = psutil.Process(self.daemons[worker].pid).children(recursive=True)
+        return self.case.programs() & {process.pid for process in below}
 
     def packs(self):
-        """Returns the files that the workers keep in memory."""
-        files = []
-        for number in processes_in(self.case.folder):
-            with contextlib.suppress(OSError):  # the process has ended
-                files += [path for path in Path(f"/proc/{number}/fd").iterdir() if "memfd:ffo" in os.readlink(path)]
-        return files
+        """Returns the paths of the files that the workers keep in memory."""
+        folders = [f"/proc/{number}/fd" for number in processes_in(self.case.folder)]
+        return run("find", "/proc/self/fd", *folders, "-lname", "*memfd:ffo*").stdout
 
 
 def messages():
@@ -127,14 +118,12 @@ def messages():
 
 
 @pytest.fixture
-def cluster(case, many_python):
+def cluster(case, dask_python):
     """A `Cluster` with a scheduler."""
-    it = Cluster(case, many_python)
+    it = Cluster(case, dask_python)
     it.start_scheduler()
     yield it
-    for name in it.daemons:
-        with contextlib.suppress(ProcessLookupError):
-            it.signal(signal.SIGKILL, name)
+    it.signal(signal.SIGKILL, *it.daemons)
 
 
 def test_report_book_and_scores_are_those_of_one_run(cluster, case):
@@ -262,11 +251,9 @@ def test_another_version_of_dask_is_refused_at_the_start_by_both_versions(cluste
     words = ("--scheduler=scheduler.json", "work", "list.obf")
     told = case.many(*words, status=3, message=": they have to be the same\n")
     assert re.search(r" has distributed (\d\S+), its workers 1\.2\.3, \S+ \1: they", told)
-    cluster.start_workers("worker2")
-    wait_until(lambda: "Registered to" in Path("worker2.log").read_text())
-    cluster.signal(signal.SIGKILL, "scheduler", "worker1", "worker2")
+    cluster.signal(signal.SIGKILL, "scheduler", "worker1")
     cluster.start_scheduler(PYTHONPATH=f"{case.folder}/lib")
-    told = case.many(*words, status=3, message=" has distributed 1.2.3, its workers none, ")
+    case.many(*words, status=3, message=" has distributed 1.2.3, its workers none, ")
 
 
 def test_a_folder_where_no_program_may_run_is_fine_and_a_finished_one_needs_no_scheduler(cluster, case):
@@ -339,12 +326,11 @@ def test_a_caller_that_a_signal_ends_leaves_nothing_on_the_workers(cluster):
         ran = cluster.begin()
         wait_until(lambda: cluster.programs("worker1") and cluster.programs("worker2"))
         ran.send_signal(number)
-        assert cluster.ended(ran, -number).endswith(INTERRUPTED) == (number != signal.SIGKILL)
+        assert cluster.ended(ran, -number).endswith(many.INTERRUPTED) == (number != signal.SIGKILL)
     rng = random.Random(1)
     for _ in range(3):
         ran = cluster.begin()
-        with contextlib.suppress(AssertionError):  # a moment of its first seconds
-            wait_until(lambda: ran.poll() is not None, rng.uniform(0.5, 4))
+        time.sleep(rng.uniform(0.5, 4))
         ran.kill()
         cluster.ended(ran, -signal.SIGKILL)
     cluster.signal(signal.SIGKILL, "worker2")
@@ -380,16 +366,21 @@ def test_what_is_sent_needs_no_certain_python_and_no_package_but_dask():
 
 @pytest.fixture
 def one(monkeypatch):
-    """The product's Cluster, with a mock of Dask's client. It knows three fit workers of one thread: a, b and c."""
+    """The product's Cluster, with a mock of Dask's client. It knows three fit workers of one thread: a, b and c. If it
+    asks, it is told `about` these and d, of two threads each."""
     pytest.importorskip("distributed")
     from ffosolve._many import cluster
-    with contextlib.ExitStack() as stack:
+    with monkeypatch.context() as patch:
         for what in ("logging.disable", "warnings.simplefilter", "asyncio.run_coroutine_threadsafe"):
-            stack.enter_context(mock.patch(what))
-        stack.enter_context(mock.patch.object(cluster.Cluster, "ask", mock.Mock()))
-        stack.enter_context(mock.patch.object(cluster, "client_of", return_value=mock.Mock(status="running")))
+            patch.setattr(what, mock.Mock())
+        patch.setattr(cluster.Cluster, "ask", mock.Mock())
+        patch.setattr(cluster, "client_of", mock.Mock(return_value=mock.Mock(status="running")))
         one = cluster.Cluster("tcp://h1:1", mock.Mock(statuses={}, pack=solve.Pack("", {"files": {}}, {})))
     one.workers, one.count, one.threads, one.key = {(name, name): 1 for name in "abc"}, 3, 3, "ffosolve-key"
+    one.about = {name: {"local_directory": name, "nthreads": 2, "host": "h1", "last_seen": 0, "metrics": {}}
+                 for name in "abcd"}
+    one.client.scheduler.identity = mock.AsyncMock(return_value={"workers": one.about})
+    one.client.processing = mock.AsyncMock(return_value={})
     one.said = mock.Mock()
     monkeypatch.setattr(cluster, "say", one.said)
     return one
@@ -418,12 +409,9 @@ def test_workers_are_left_out_for_parts_that_others_solve_not_for_those_that_fai
 
 
 def test_a_worker_that_is_silent_or_not_fit_gets_no_part_and_the_only_pack_is_not_left_to_it(one):
-    about = {name: {"local_directory": name, "nthreads": 2, "host": "h1", "last_seen": 100, "metrics": {}}
-             for name in "abc"}
-    one.client.scheduler.identity = mock.AsyncMock(return_value={"workers": about})
-    at_work = {"a": ["ffosolve-other-5-x", "ffosolve-key-3-x"], "b": ["ffosolve-key-7-x"]}  # one part of another run
-    one.client.processing = mock.AsyncMock(return_value=at_work)
-    one.left_out, one.signs, begun = {("c", "c")}, {("b", "b"): (100, time.monotonic() - 31)}, set()
+    one.client.processing.return_value = {"a": ["ffosolve-other-5-x", "ffosolve-key-3-x"], "b": ["ffosolve-key-7-x"]}
+    one.left_out, one.signs, begun = {("c", "c")}, {("b", "b"): (0, time.monotonic() - 31)}, set()
+    del one.about["d"]
     for holders in ("b", "bc", "ab"):
         one.pack = pack = mock.Mock(key="pack", status="finished")
         one.client.who_has = mock.AsyncMock(return_value={"pack": [*holders]})
@@ -435,51 +423,44 @@ def test_a_worker_that_is_silent_or_not_fit_gets_no_part_and_the_only_pack_is_no
     assert len(begun) == 1  # a part goes on
 
 
-def test_a_worker_that_begins_none_of_its_parts_is_stuck_and_named(one, monkeypatch):
+def test_a_worker_that_begins_none_of_its_parts_is_stuck_and_named(clock, one):
     """Its parts are for others, until it begins one. The others have no parts, or are at work, or have brief parts, or
     wait for another Pack."""
-    clock = mock.Mock(return_value=0.0)
-    monkeypatch.setattr("time.monotonic", clock)
-    about = {name: {"local_directory": name, "nthreads": 1, "host": "h1", "last_seen": 0} for name in "abcd"}
-    one.client.scheduler.identity = mock.AsyncMock(return_value={"workers": about})
     packs = mock.Mock(), mock.Mock()
-    for second in range(0, 150, 5):
-        clock.return_value, is_stuck = second, 90 < second <= 120
-        one.pack = packs[second >= 30]
-        for name, count in (("a", second > 120), ("b", 0), ("c", 1), ("d", 0)):
-            about[name].update(last_seen=second, metrics={"task_counts": {"executing": int(count)}})
-        one.client.processing = mock.AsyncMock(return_value={
-            "a": ["ffosolve-key-1-x"], "c": ["ffosolve-key-2-x"], "d": [f"ffosolve-key-{second}-x"]})
+    for clock.now in range(0, 150, 5):
+        is_stuck = 90 < clock.now <= 120
+        one.pack = packs[clock.now >= 30]
+        for name, count in (("a", clock.now > 120), ("b", 0), ("c", 1), ("d", 0)):
+            one.about[name].update(last_seen=clock.now, metrics={"task_counts": {"executing": int(count)}})
+        one.client.processing.return_value = {
+            "a": ["ffosolve-key-1-x"], "c": ["ffosolve-key-2-x"], "d": [f"ffosolve-key-{clock.now}-x"]}
         asyncio.run(one.ask())
         assert (("a", "a") in one.workers) == (not is_stuck) and {("b", "b"), ("c", "c")} < one.workers.keys()
     (told,) = one.said.call_args_list
     assert told[0] == ("a begins no part: is its memory too small for the program and any --book-in?",)
 
 
-def test_a_question_that_fails_is_asked_again_and_the_seconds_in_which_this_process_is_stopped_do_not_count(
-        one, monkeypatch):
+def test_a_question_that_fails_is_asked_again_and_the_seconds_in_which_this_process_is_stopped_do_not_count(clock, one):
     """A scheduler that answers no question is lost after 30 seconds."""
-    clock = mock.Mock(return_value=time.monotonic())
-    monkeypatch.setattr("time.monotonic", clock)
     one.asked, one.ask, one.in_dask = Future(), mock.Mock(), mock.Mock(return_value=Future())
     one.asked.set_exception(OSError("Timed out"))
     one.look()
     assert one.in_dask.call_count == 1
     for stopped in (0, 60, 600):
-        clock.return_value += stopped
+        clock.now += stopped
         one.look()
         assert one.trouble == ""
     for second in range(1, 31):
-        clock.return_value += 1
+        clock.now += 1
         one.look()
         assert one.trouble == (f"the scheduler has been silent for {second} s" if second > 5 else "")
-    clock.return_value += 1
+    clock.now += 1
     with pytest.raises(Refusal, match="^the scheduler tcp://h1:1 is lost; the same command goes on "):
         one.look()
 
 
-@pytest.mark.parametrize("workers, count, most, alone", [("", 0, 100, 1), ("", 2, 0, 0), ("ab", 2, 104, 1),
-                                                         ("abcd", 4, 108, 2), ("ab", 3, 4, 1)])
+@pytest.mark.parametrize("workers, count, most, alone", [
+    ("", 0, 100, 1), ("", 2, 0, 0), ("ab", 2, 104, 1), ("abcd", 4, 108, 2), ("ab", 3, 4, 1)])
 def test_parts_are_sent_ahead_unless_some_workers_may_not_have_them(one, workers, count, most, alone):
     one.workers, one.count, one.threads = {(name, name): 1 for name in workers}, count, len(workers)
     assert (one.most(is_alone=False), one.most(is_alone=True)) == (most, alone)
@@ -487,50 +468,42 @@ def test_parts_are_sent_ahead_unless_some_workers_may_not_have_them(one, workers
     assert one.most(is_alone=False) == 0
 
 
-TWO = {("a", "a"): 1, ("b", "b"): 1}
-
-
-OTHER = {"pack": mock.Mock(status="pending")}
-
-
-@pytest.mark.parametrize("change, at, copies", [
-    ({}, "", 0), ({"workers": TWO.copy()}, "", 1), (OTHER, "", 1), ({"workers": TWO.copy()}, "a", 0), (OTHER, "a", 1),
-    ({"count": 1, "workers": TWO.copy()}, "", 0), ({"workers": TWO.copy()}, "c", 1), ({"workers": {}}, "c", 0)])
-def test_a_part_is_sent_after_the_pack_and_again_if_no_fit_worker_has_it(one, change, at, copies):
-    """The worker `at`, which is fit or not, has the part, or it waits. The first answer counts; then the others are
-    cancelled."""
+@pytest.mark.parametrize("workers, count, is_new, at, copies", [
+    ("a", 3, False, "", 0), ("ab", 3, False, "", 1), ("a", 3, True, "", 1), ("ab", 3, False, "a", 0),
+    ("a", 3, True, "a", 1), ("ab", 1, False, "", 0), ("ab", 3, False, "c", 1), ("", 3, False, "c", 0)])
+def test_a_part_is_sent_after_the_pack_and_again_if_no_fit_worker_has_it(one, workers, count, is_new, at, copies):
+    """Only the worker a is fit, then these `workers` are, and the Pack may be a new one. The worker `at`, which is fit
+    or not, has the part, or it waits. The first answer counts; then the others are cancelled."""
     class Sent(asyncio.Future):  # what Dask's client returns for a part
         async def cancel(self):
             super().cancel()
 
     def submit(*words, key="", **how):
-        made = Sent() if key else mock.Mock(status="pending")
-        made.key = key
-        return made
+        if not key:
+            packs.append(mock.Mock(status="pending", **how))
+            return packs[-1]
+        parts.append(Sent())
+        parts[-1].key, parts[-1].how = key, how
+        return parts[-1]
 
     async def first_seconds():
         sent = [asyncio.ensure_future(one.solve(mock.Mock(number=7), failed)) for failed in ([], ["a"], ["a", "b"])]
         await asyncio.sleep(0.5)
-        vars(one).update(change, places={made.key: (at, at) for made in made_parts() if at})
+        one.workers, one.places = {(name, name): 1 for name in workers}, {part.key: (at, at) for part in parts if at}
+        one.pack = mock.Mock(status="pending") if is_new else one.pack
         await asyncio.sleep(0.8)
-        made, said = made_parts(), one.client.submit.call_args_list
-        is_done = [future.done() for future in sent]
-        made[-1].set_result((("a", "a"), "unfit", b"", ""))
+        assert not any(future.done() for future in sent)
+        parts[-1].set_result((("a", "a"), "unfit", b"", ""))
         await asyncio.sleep(0.1)
-        return made, [it.cancelled() for it in made], is_done, sent[-1].done(), [call[1] for call in said]
+        assert (sent[-1].done(), sum(part.cancelled() for part in parts)) == (True, copies)
 
-    def made_parts():
-        return [made for made in results if made.key]
-
-    results = []
-    one.client.submit.side_effect = lambda *words, **how: (results.append(submit(*words, **how)), results[-1])[1]
-    one.workers, one.count, one.ask = {("a", "a"): 1}, change.get("count", 3), mock.AsyncMock()
-    made, is_cancelled, is_done, is_answered, (pack, *parts) = asyncio.run(first_seconds())
-    assert (is_done, is_answered, one.ask.call_count) == ([False] * 3, True, 2)
-    assert (len(made), sum(is_cancelled)) == (3 + 3 * copies, copies)
-    parts = [part for part in parts if "key" in part]
-    assert [part.get("priority", 0) for part in parts[:3]] == [0, 1, 2] and pack.get("priority", 0) > 2
-    assert [part["workers"] for part in parts[:3]] == [["a"] if one.count > 1 else None] * 3
+    packs, parts = [], []
+    one.client.submit.side_effect = submit
+    one.workers, one.count, one.ask = {("a", "a"): 1}, count, mock.AsyncMock()
+    asyncio.run(first_seconds())
+    assert (len(parts), one.ask.call_count) == (3 + 3 * copies, 2)
+    assert [part.how["priority"] for part in parts[:3]] == [0, 1, 2] and packs[0].priority > 2
+    assert [part.how["workers"] for part in parts[:3]] == [["a"] if count > 1 else None] * 3
 
 
 def test_workers_that_end_with_the_program_and_a_book_alone_end_the_run(one):
@@ -562,10 +535,7 @@ def test_no_part_is_to_blame_before_four_workers_have_ended_and_a_machine_whose_
         assert told == [("", [])] * (count - 1) + [(why, at)]
     (said,), = (call[0] for call in one.said.call_args_list)
     assert said.startswith(f"h1 is left out: {ends} workers ended before they had solved a known line")
-    about = {"local_directory": "b", "nthreads": 2, "host": "h1", "last_seen": 1, "metrics": {}}
-    about = {"a": {**about, "local_directory": "a"}, "b": about}
-    one.client.scheduler.identity = mock.AsyncMock(return_value={"workers": about})
-    one.client.processing, one.tested = mock.AsyncMock(return_value={}), {("a", "a")}
+    one.tested = {("a", "a")}
     asyncio.run(one.ask())
     assert one.workers == {("a", "a"): 2}  # which has solved one
     one.ends.clear()
@@ -574,15 +544,15 @@ def test_no_part_is_to_blame_before_four_workers_have_ended_and_a_machine_whose_
     assert one.ends == {"h1": {"pack": 1}}
 
 
-def test_the_adaptive_cluster_of_the_document_starts_and_ends_workers_by_need(case, many_python):
+def test_the_adaptive_cluster_of_the_document_starts_and_ends_workers_by_need(case, dask_python):
     (text,) = re.findall(b"```python\n(import subprocess\n.*?)```", stored("docs/many-machines.md"), re.DOTALL)
     write("adaptive.py", text.replace(b"threads_per_worker=1", b"threads_per_worker=1, dashboard_address=None"))
     os.symlink(case.MANY.parent, "bin")
-    ran = run(many_python, "adaptive.py", timeout=3 * SECONDS)
+    ran = run(dask_python, "adaptive.py", timeout=3 * SECONDS)
     assert (ran.returncode, Path("list.report").read_bytes()) == (0, case.one), ran.stderr
     case.same_book("list.book")
     os.remove("list.obf")
-    assert run(many_python, "adaptive.py", timeout=3 * SECONDS).returncode == 3
+    assert run(dask_python, "adaptive.py", timeout=3 * SECONDS).returncode == 3
 
 
 NO_ADDRESS = "cannot reach a scheduler: {} is no address such as tcp://h1:8786, and no file with one\n"
@@ -623,17 +593,16 @@ def test_a_scheduler_with_tls_is_named(cluster, case):
     run("openssl", "req", "-x509", "-newkey", "rsa:2048", "-nodes", "-keyout", "key", "-out", "cert", "-subj", "/CN=x",
         check=True)
     cluster.signal(signal.SIGKILL, "scheduler")
-    cluster.port = "0"
     cluster.start_scheduler("--protocol=tls", "--tls-ca-file=cert", "--tls-cert=cert", "--tls-key=key")
     no_scheduler(case, f"tcp://127.0.0.1:{cluster.port}", NO_ANSWER)
     assert cluster.daemons["scheduler"].poll() is None
 
 
-def test_a_missing_or_malformed_dask_is_named(case, many_python):
-    case.refused(4, f"--scheduler needs the package distributed, which {many_python} lacks (No module named ", "-S",
-                 case.MANY, "--scheduler=h1:8786", "other", "list.obf", by=many_python)
-    if many_python == "/usr/bin/python3":  # otherwise, it takes the place of one that lacks the package
-        os.symlink(many_python, "python3")
+def test_a_missing_or_malformed_dask_is_named(case, dask_python):
+    case.refused(4, f"--scheduler needs the package distributed, which {dask_python} lacks (No module named ", "-S",
+                 case.MANY, "--scheduler=h1:8786", "other", "list.obf", by=dask_python)
+    if dask_python == "/usr/bin/python3":  # otherwise, it takes the place of one that lacks the package
+        os.symlink(dask_python, "python3")
         case.refused(3, "cannot read none: No such file or directory", "-S", case.MANY, "--scheduler=h1:8786", "none",
                      by="./python3")
     write("dask/dask.yaml", "distributed: [")

@@ -12,7 +12,7 @@ import sys
 import threading
 import time
 import zlib
-from collections import defaultdict
+from collections import Counter
 from pathlib import Path
 from unittest import mock
 
@@ -27,11 +27,11 @@ from tests.support import (MOST_BYTES, NOBODY, SECONDS, ends, limited, positions
 SOLVE = (sys.executable, "work/solve.py")
 
 
-@pytest.mark.parametrize("program, book, lines", [
-    ("ffosolve", b"%", [b"[1]", b"1 +02 A1 agree", b"solved 1 refused 0"]),
-    ("ffoscores", b"", [b"A1:+02;", b"%", b"% blank and comment", b"", b"% blank", b"\r"])])
+@pytest.mark.parametrize("program, book, whole", [
+    ("ffosolve", b"%", b"[1]\n1 +02 A1 agree\nsolved 1 refused 0\n"),
+    ("ffoscores", b"", b"A1:+02;\n%\n% blank and comment\n\n% blank\n\r\n")])
 def test_results_are_complete_with_a_row_for_each_line_and_on_the_disk_if_they_took_a_second(
-        tmp_path, program, book, lines):
+        tmp_path, program, book, whole):
     task = {"program": program, "options": {"--max-empties": 20}, "lines": 9}
     text = BOARD + b" X;\n\n%\n \t% X\n\r\n \t\r"
     (part,) = folder.cut(io.BytesIO(text), "list", task)
@@ -39,8 +39,7 @@ def test_results_are_complete_with_a_row_for_each_line_and_on_the_disk_if_they_t
     one.folder, one.place, one.task, one.statuses = tmp_path, tmp_path, task, {}
     write(tmp_path / "list", text)
     (tmp_path / "results").mkdir()
-    whole = b"\n".join(lines) + b"\n"
-    for output in (whole, whole[:-1], b"", whole + b"\n", b"".join(whole.splitlines(keepends=True)[1:])):
+    for output in (whole, whole[:-1], b"", whole + b"\n", whole.partition(b"\n")[2]):
         for seconds in (0.9, 1.0):
             record = solve.sealed(part.digest, b"0 %d %.3f\n" % (len(output), seconds) + output + book)
             with mock.patch.object(os, "fsync") as synced:
@@ -114,7 +113,6 @@ def test_a_group_that_may_write_the_results_solves_parts_of_a_folder(case):
 
 def test_a_part_whose_results_are_not_complete_is_solved_again(case):
     case.many(*WORDS)
-    case.many(*WORDS, message="in 3 parts, 3 of them solved before;")
     path, task = case.record(1), solve.read_task(Path("work"))
     whole, text = path.read_bytes(), case.SMALL[68 * 20:68 * 40]
     found = solve.read_record(path.name, whole)
@@ -189,14 +187,14 @@ def test_a_changed_line_costs_one_part():
     """On average, hardly more: the line may be the last one of a part."""
     rng = random.Random(1)
     lines = [b"%x\n" % rng.getrandbits(99) for _ in range(2000)]
-    before, costs = {*map(tuple, solve.parts_of(iter(lines), 20))}, defaultdict(list)
+    before, costs = {*map(tuple, solve.parts_of(iter(lines), 20))}, Counter()
     for at in (rng.randrange(2000) for _ in range(60)):
         for name, new in (("removed", lines[:at] + lines[at + 1:]), ("claimed", [*lines[:at], b"%", *lines[at + 1:]]),
                           ("inserted", [*lines[:at], b"%", *lines[at:]]), ("moved", lines[at:] + lines[:at]),
                           ("added", lines + [b"%"])):
-            costs[name].append(len({*map(tuple, solve.parts_of(iter(new), 20))} - before))
-    means = {name: sum(costs) / 60 for name, costs in costs.items()}
-    assert max(means[name] for name in ("removed", "claimed", "inserted", "added")) < 1.3 and means["moved"] < 5
+            costs[name] += len({*map(tuple, solve.parts_of(iter(new), 20))} - before)
+    assert max(costs[name] for name in ("removed", "claimed", "inserted", "added")) < 60 * 1.3
+    assert costs["moved"] < 60 * 5
 
 
 def test_a_list_may_change_and_only_the_parts_that_hold_the_change_are_solved(case):
@@ -217,12 +215,11 @@ def test_a_list_may_change_and_only_the_parts_that_hold_the_change_are_solved(ca
     case.many(*WORDS, message=", 3 of them solved before")
     assert {*Path("work/results").iterdir()} == results | {Path("work/results/mine.txt")}
     assert not [*Path("work").glob("*.new")]
-    for by, status in ((case.ACTS, 1), (case.MANY, 0)):
-        case.write_list(case.SMALL + b"% FAIL\n")
-        before = len(results)
-        case.many("--prune", *WORDS, by=by, status=status)
+    case.write_list(case.SMALL + b"% FAIL\n")
+    case.many("--prune", *WORDS, by=case.ACTS, status=1)
+    case.many("--prune", *WORDS)
     kept = {case.record(number) for number in range(len(os.listdir("work/results")) - 1)}
-    assert {*Path("work/results").iterdir()} == kept | {Path("work/results/mine.txt")} and len(kept) < before
+    assert {*Path("work/results").iterdir()} == kept | {Path("work/results/mine.txt")} and len(kept) < len(results)
     case.many(*WORDS, message=f", {len(kept)} of them solved before")
     end = BOARD.replace(b"X", b"O", 1) + b" X;"
     for text in (case.SMALL + end, case.SMALL + end + b" A1:+02;\n"):  # the former without an end of its last line
@@ -283,27 +280,24 @@ def test_another_limit_of_empty_squares_takes_over_the_parts_in_which_no_line_is
 
 def test_only_the_parts_that_failed_are_solved_again(case):
     case.write_list(case.SMALL + b"% FAIL\n" + case.SMALL + b"% DIE\n")
+    part = r"part (\d{7}) \(lines \d+ to \d+\)"
+    message = rf"not solved: 2 of (\d) parts: {part}, {part}\. The same command solves only these\n"
     for _ in range(2):
-        named = [r"part 00000\d\d \(lines \d+ to \d+\)"] * 2
-        message = "not solved: 2 of {} parts: {}, {}. The same command solves only these\n".format(r"(\d)", *named)
         errors = case.many(*WORDS, by=case.ACTS, status=1)
-        count, *failed = re.findall(r"of (\d) parts|part (\d{7})", re.search(message, errors)[0])
-        count = int(count[0])
-        for part, why in zip(named, ("ffosolve: out of memory", "killed by SIGKILL")):
+        count, *failed = map(int, re.search(message, errors).groups())
+        for why in ("ffosolve: out of memory", "killed by SIGKILL"):
             assert re.search(f": this machine failed {part}: {why}\n", errors)
-        assert [case.record(number).exists() for number in range(count)].count(False) == 2
-        assert not any(case.record(int(number)).exists() for _, number in failed) and not os.path.exists("joined.book")
+        assert [number for number in range(count) if not case.record(number).exists()] == failed
+        assert not os.path.exists("joined.book")
     case.many(*WORDS, message=f", {count - 2} of them solved before")
     case.many("--scores", "--lines=20", "work2", "list.obf", by=case.ACTS, status=3,
               message=f"not solved: 2 of {count} parts: ")
 
 
-PRINTED = "    print_all(run.output())\n"
-
-
 def test_a_record_that_is_damaged_late_is_solved_again(case):
     late = "    open(run.path(run.parts[1]), 'r+').write('?'), os.unlink(run.path(run.parts[2]))\n"
-    by = case.install("damaging", ("command", PRINTED, late + PRINTED), script=ACTING)
+    printed = "    print_all(run.output())\n"
+    by = case.install("damaging", ("command", printed, late + printed), script=ACTING)
     for message in (", 0 of them", ", 3 of them"):
         case.many(*WORDS, by=by, message=message)
         case.many(*WORDS, message=", 3 of them solved before")
@@ -512,11 +506,6 @@ def test_a_folder_with_other_files_or_of_an_earlier_version_is_refused_and_untou
 SIGNALLED = ("--jobs=2", "--lines=5", *WORDS[1:])
 
 
-def programs(case):
-    """Returns the IDs of the processes that solve parts."""
-    return [number for number, words in processes_in(case.folder).items() if "/ffosolve-0" in words]
-
-
 def begin(case, *program, last=99):
     """Starts `program` with SIGNALLED in a new session. case.ACTS takes 45 s per part after the first `last` parts."""
     places = {**os.environ, "PAUSE": "0.15", "LAST": str(last)}
@@ -527,7 +516,7 @@ def at_work(case, done):
     """Starts a run of 12 parts; returns its process once `done` parts are solved and two are being solved."""
     ran = begin(case, case.ACTS, last=done)
     wait_until(lambda: case.parts_solved() >= done)
-    wait_until(lambda: len(programs(case)) == 2)
+    wait_until(lambda: len(case.programs()) == 2)
     return ran
 
 
@@ -596,16 +585,16 @@ def test_as_many_parts_are_solved_at_once_as_there_are_jobs_by_default_one_for_e
     ran = case.start("taskset", "-c", ",".join(map(str, processors)), case.ACTS, *words, "--lines=1", *WORDS[1:],
                      env={**os.environ, "PAUSE": "45"})
     count = 20 if words else len(processors)
-    wait_until(lambda: len(programs(case)) == count)
+    wait_until(lambda: len(case.programs()) == count)
     time.sleep(0.5)  # in which more might begin
-    assert len(programs(case)) == count
+    assert len(case.programs()) == count
     end(case, ran, signal.SIGTERM)
 
 
 def test_signals_that_the_caller_ignores_do_not_end_the_run_such_as_that_of_a_terminal_that_closes_after_nohup(case):
     for number, last in ((signal.SIGKILL, 0), (signal.SIGTERM, 99)):  # the former ends long programs, too
         ran = begin(case, "sh", "-c", 'trap "" INT TERM; exec nohup "$@"', "sh", case.ACTS, last=last)
-        wait_until(lambda: len(programs(case)) == 2)  # not only that for the known line
+        wait_until(lambda: len(case.programs()) == 2)  # not only that for the known line
         output, _ = end(case, ran, signal.SIGINT, signal.SIGHUP, number)
         wanted = (b"", -number) if number == signal.SIGKILL else (case.one, 0)
         assert (output, ran.returncode) == wanted
@@ -616,8 +605,8 @@ def test_control_c_on_a_terminal_is_no_signal_for_the_programs_and_they_end_firs
     ran = at_work(case, 0)
     case.many(*SIGNALLED, by=case.ACTS, status=3, message="another run works in work\n")
     assert ran.poll() is None
-    assert os.getpgid(ran.pid) not in map(os.getpgid, programs(case))
-    assert {Path(f"/proc/{number}/oom_score_adj").read_text() for number in programs(case)} == {"1000\n"}
+    assert os.getpgid(ran.pid) not in map(os.getpgid, case.programs())
+    assert {Path(f"/proc/{number}/oom_score_adj").read_text() for number in case.programs()} == {"1000\n"}
     assert end(case, ran, signal.SIGINT)[1].count("\n") == 2  # the first line, and that it was interrupted
 
 

@@ -15,15 +15,15 @@ from ffosolve import Answer, Position, Solver, _bulk
 SHARED, WIDE = Position(3, 2), Position(1, 6)
 NAMES = "solve_all", "solve_iter", "move_scores_all", "move_scores_iter"
 ARRAYS = "solve_arrays", "move_scores_arrays"
-each_call = pytest.mark.parametrize("name", NAMES)
-each_list = pytest.mark.parametrize("name", ["solve_all", "move_scores_all"])
-each_iterator = pytest.mark.parametrize("name", ["solve_iter", "move_scores_iter"])
 each_refusal = pytest.mark.parametrize("bad, error", [(SHARED, ffosolve.SharedSquare), (WIDE, ffosolve.TooManyEmpties)])
 on_threads = pytest.mark.parametrize("threads", [1, 2])
 POSITIONS = random_positions(400, range(11))
 
 
-def masks_of(positions):
+def arguments(name, positions):
+    """Returns what the call `name` takes for positions: these, or arrays of their masks."""
+    if name not in ARRAYS:
+        return [positions]
     pytest.importorskip("numpy")
     return ffosolve.masks_of(positions)
 
@@ -46,7 +46,7 @@ def mocked(monkeypatch, request):
     return solver, solver._library
 
 
-@each_call
+@pytest.mark.parametrize("name", NAMES)
 @pytest.mark.parametrize("threads, given", [(1, list), (2, iter), (4, tuple), (3, iter), (1, iter)])
 def test_calls_for_many_positions_return_in_order_what_calls_for_one_return(name, threads, given, wanted):
     long = random_positions(1, [13])  # whose result comes first nevertheless
@@ -95,19 +95,16 @@ def test_answers_that_are_found_come_before_a_timeout(threads):
 
 @pytest.mark.parametrize("threads", [3, 6])
 @pytest.mark.parametrize("name", [*NAMES, *ARRAYS])
-def test_as_many_threads_as_asked_make_calls_at_once_with_the_scoring_and_table_of_the_solver(name, threads, mocked,
-                                                                                              monkeypatch):
+def test_as_many_threads_as_asked_make_calls_at_once_with_the_scoring_and_table_of_the_solver(name, threads, mocked):
     """Each position is a part of its own. The calls wait until there are as many as threads."""
     (solver, library), positions, at_once = mocked, random_positions(2 * threads, [16]), threading.Barrier(threads)
-    started = mock.Mock(wraps=_bulk.is_started)
-    monkeypatch.setattr(_bulk, "is_started", started)
-    call = getattr(solver, name)
-    given = masks_of(positions) if name in ARRAYS else [positions]
+    call, given = getattr(solver, name), arguments(name, positions)
     alone = str(list(call(*given)))
     for made in (library.ffosolve_solve_all, library.ffosolve_move_scores_all):
         made.side_effect = lambda *_: (at_once.wait(SECONDS), mock.DEFAULT)[1]
     library.reset_mock()
-    assert str(list(call(*given, threads=threads))) == alone
+    with mock.patch.object(_bulk, "is_started", wraps=_bulk.is_started) as started:
+        assert str(list(call(*given, threads=threads))) == alone
     assert [call.args[2:4] for call in library.method_calls] == [(2, solver._entries)] * 2 * threads
     assert started.call_count == threads
 
@@ -140,19 +137,18 @@ def test_a_closed_iterator_waits_for_nothing_begins_nothing_and_has_read_few_pos
     assert next(taken) < 100
 
 
-@each_iterator
+@pytest.mark.parametrize("name", ["solve_iter", "move_scores_iter"])
 @each_refusal
 @on_threads
 @pytest.mark.parametrize("place", [0, 7, 299])
 def test_an_iterator_yields_the_answers_before_a_refusal(name, bad, error, threads, place, wanted):
     found = []
     with pytest.raises(error) as refused:
-        for answer in getattr(Solver(), name)([*POSITIONS[:place], bad, *POSITIONS[place:], SHARED], threads=threads):
-            found.append(answer)
+        found.extend(getattr(Solver(), name)([*POSITIONS[:place], bad, *POSITIONS[place:], SHARED], threads=threads))
     assert (found, refused.value.index) == (wanted[name][:place], place)
 
 
-@each_list
+@pytest.mark.parametrize("name", ["solve_all", "move_scores_all", *ARRAYS])
 @each_refusal
 @on_threads
 @pytest.mark.parametrize("more", [[], POSITIONS[:300]], ids=["the first part", "another part"])
@@ -160,23 +156,21 @@ def test_a_list_is_refused_before_anything_is_solved(name, bad, error, threads, 
     """The first position would take hours to solve."""
     before = random_positions(1, [34]) + more
     with pytest.raises(error) as refused:
-        getattr(Solver(max_empties=34), name)([*before, bad, SHARED], threads=threads)
+        getattr(Solver(max_empties=34), name)(*arguments(name, [*before, bad, SHARED]), threads=threads)
     assert refused.value.index == len(before)
 
 
 @pytest.mark.parametrize("name", [*NAMES, *ARRAYS])
 @pytest.mark.parametrize("threads, error", [(0, ValueError), (-1, ValueError), ("4", TypeError), (1.5, TypeError)])
 def test_a_number_of_threads_is_refused_by_its_name(name, threads, error):
-    given = masks_of([]) if name in ARRAYS else [[]]
     with pytest.raises(error, match="^threads is .*, not "):
-        getattr(Solver(), name)(*given, threads=threads)
+        getattr(Solver(), name)(*arguments(name, []), threads=threads)
 
 
 @pytest.mark.parametrize("scoring, threads, count", [(0, 1, 90), (1, 1, 90), (2, 1, 90), (0, 3, 400), (0, 2, 0)])
 def test_arrays_hold_what_lists_hold(scoring, threads, count):
     solver, positions = Solver(scoring=scoring), POSITIONS[:count]
-    own, opp = masks_of(positions)
-    answers, scores = (call(own, opp, threads=threads) for call in (solver.solve_arrays, solver.move_scores_arrays))
+    answers, scores = (getattr(solver, name)(*arguments(name, positions), threads=threads) for name in ARRAYS)
     assert [str(array.dtype) for array in (*answers, scores)] == ["int32", "int32", "uint64", "int8"]
     assert scores.shape == (count, 64)
     assert all(array.flags.carray for array in (*answers, scores))  # they can be changed, and are contiguous
@@ -188,17 +182,11 @@ def test_arrays_hold_what_lists_hold(scoring, threads, count):
 
 
 @pytest.mark.parametrize("name", ARRAYS)
-def test_wrong_positions_and_arrays_are_refused(name):
-    call = getattr(Solver(), name)
-    for bad, error in ((SHARED, ffosolve.SharedSquare), (WIDE, ffosolve.TooManyEmpties)):
-        own, opp = masks_of([*POSITIONS[:57], bad, *POSITIONS[58:300], SHARED])
-        with pytest.raises(error) as refused:
-            call(own, opp, threads=2)
-        assert refused.value.index == 57
-    own, opp = masks_of(POSITIONS)
+def test_arrays_of_other_shapes_are_refused(name):
+    own, opp = arguments(name, POSITIONS)
     for given in (own[:-1], own.reshape(20, 20)):
         with pytest.raises(ValueError, match="^the masks are two arrays of one dimension and of equal length$"):
-            call(given, opp)
+            getattr(Solver(), name)(given, opp)
 
 
 def test_no_program_needs_numpy():
