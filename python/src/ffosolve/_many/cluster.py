@@ -99,7 +99,7 @@ class Cluster(Engine):
         self.heard = self.looked = time.monotonic()
         self.asked = self.in_dask(self.ask())
 
-    def in_dask(self, question: Coroutine[Any, Any, Any]) -> "Future[Any]":
+    def in_dask(self, question: Coroutine[Any, Any, Any]) -> Future[Any]:
         """Runs a coroutine in Dask's thread. No call waits for Dask, which may be silent for any time."""
         return asyncio.run_coroutine_threadsafe(question, self.client.loop.asyncio_loop)
 
@@ -153,11 +153,10 @@ class Cluster(Engine):
         # Half of the workers stay free for a part that ends its own, so that it does not end those of others, too.
         return max(1, fit // 2) if is_alone else 2 * self.threads + AHEAD * (fit == self.count)
 
-    def send(self, part: Part, failed: List[str]) -> "Future[Outcome]":
+    def send(self, part: Part, failed: List[str]) -> Future[Outcome]:
         return self.in_dask(self.solve(part, failed))
 
     def submitted(self, part: Part, failed: List[str]) -> Sent:
-        """Sends a part to the workers that may have it."""
         workers = self.chosen(failed)
         some = [*workers] if len(workers) < self.count else None
         if not self.pack or self.pack.status in ("cancelled", "error"):
@@ -194,7 +193,6 @@ class Cluster(Engine):
                     await task.cancel()
 
     async def solve(self, part: Part, failed: List[str]) -> Outcome:
-        """Lets Dask solve a part on one of the `chosen` workers."""
         if failed:
             with contextlib.suppress(OSError):
                 await self.ask()  # otherwise, a worker that fails it again might be the only one that is known

@@ -1,6 +1,5 @@
 """Runs ffosolve-many: reads its command line, and then solves a list and prints the results, or merges books."""
 import argparse
-import contextlib
 import io
 import itertools
 import os
@@ -220,8 +219,7 @@ def solve_list(command: argparse.Namespace, programs: str) -> int:
         header = f"{BOOK_HEADER}{run.task['options']['--scoring']}\n".encode()  # all of the book if there are no lines
         books = ((str(part), io.BytesIO(found.book)) for part, found in run.solved())
         replace(command.book_out, merged([("", io.BytesIO(header)), *books]))
-    with contextlib.nullcontext() if command.prune else contextlib.suppress(OSError):
-        run.clean(command.prune)
+    run.clean(command.prune)
     return max(run.statuses.values(), default=DONE)
 
 

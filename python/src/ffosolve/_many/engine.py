@@ -25,7 +25,7 @@ class Engine(Protocol):
 
     tries: int  # after which a part is not solved
     threads: int  # that solve parts, each one at a time
-    running: Dict[int, Tuple[str, float]]  # {number: (host, start time)} of parts at work or, for a moment, just solved
+    running: Dict[int, Tuple[str, float]]  # {number: (host, start time)} of parts at work; some may be solved since
     trouble: str = ""  # why nothing is known of the machines at work, if so
     silent: int = 0  # workers that have parts and do not answer
 

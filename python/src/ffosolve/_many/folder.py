@@ -133,7 +133,6 @@ class Run:
         return self.place / "results" / part.digest
 
     def text(self, part: Part) -> bytes:
-        """Returns the bytes of a part's lines, as they are in the folder's list."""
         with refusing("read", self.folder / "list"), (self.place / "list").open("rb") as file:
             file.seek(part.start)
             return file.read(part.size)
@@ -194,7 +193,8 @@ class Run:
         yield b"solved %d refused %d\n" % (count - refused, refused)
 
     def clean(self, prunes: bool) -> None:
-        """Removes what killed processes were writing and, if this `prunes`, the results that this run has not."""
-        for path in [*self.place.glob("*.????????.new"), *(self.place / "results").glob("?" * 64 + "*")]:
-            if path.name.endswith(".new") or prunes and path.name not in self.statuses and len(path.name) == 64:
-                path.unlink()
+        """Removes what killed processes were writing, if possible. If this `prunes`, also results that are not its."""
+        with contextlib.nullcontext() if prunes else contextlib.suppress(OSError):
+            for path in [*self.place.glob("*.????????.new"), *(self.place / "results").glob("?" * 64 + "*")]:
+                if path.name.endswith(".new") or prunes and path.name not in self.statuses and len(path.name) == 64:
+                    path.unlink()
