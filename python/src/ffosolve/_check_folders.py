@@ -14,9 +14,8 @@ SOLVER = "ffosolve-many"
 
 
 def exact_scores(folders: Mapping[str, List[Position]], lines: int, words: List[str]) -> Dict[Position, int]:
-    """Lets ffosolve-many, which is next to this program or on the path, solve the positions that belong to each folder,
-    with parts of `lines` lines and the options `words`. Returns {canonical position: score for its mover}; with --cut,
-    only cuts the lists. Before anything is solved, refuses the folders that ffosolve-many refuses."""
+    """Lets ffosolve-many solve the positions that belong to each folder, with parts of `lines` lines and the options
+    `words`. Returns {canonical position: score for its mover}, {} with --cut. Refuses a folder before any is solved."""
     here = os.path.dirname(os.path.realpath(sys.argv[0]))
     program = shutil.which(os.path.join(here, SOLVER)) or shutil.which(SOLVER)
     if program is None:

@@ -3,7 +3,7 @@ import heapq
 import itertools
 import re
 from operator import itemgetter
-from typing import Any, Iterable, Iterator, List, Tuple
+from typing import Any, BinaryIO, Iterable, Iterator, List, Tuple
 
 from .._books import ENTRY
 from .._command_line import MISUSED, Refusal
@@ -37,21 +37,20 @@ def entries_of(name: str, lines: Iterable[bytes]) -> Iterator[Tuple[Tuple[int, i
         yield masks, name, number, text
 
 
-def merged(books: Iterable[Tuple[str, Iterable[bytes]]]) -> Iterator[bytes]:
-    """Yields the lines of one book with all positions of `books`, each a name and lines. Refuses two scorings, and
+def merged(books: Iterable[Tuple[str, BinaryIO]]) -> Iterator[bytes]:
+    """Yields the lines of one book with all positions of `books`, each a name and a file. Refuses two scorings, and
     lines that disagree. Raises ValueError where `entries_of` does."""
     entries: List[Iterator[Any]] = []
     first_name = first_scoring = ""
     for name, book in books:
-        lines = iter(book)
-        first = next(lines, b"")
-        header = first.decode("latin-1").rstrip()
+        header = book.readline().decode("latin-1").rstrip()
+        book.seek(0)
         scoring = re.sub(f"^{BOOK_HEADER}", "", header) if header.startswith("% ffobook ") else "winner"
         first_name, first_scoring = first_name or name, first_scoring or scoring
         if scoring != first_scoring:
             raise Refusal(f"{first_name} has the scoring {first_scoring} and {name} {scoring}: only books of one "
                           "scoring can be merged", MISUSED)
-        entries.append(entries_of(name, itertools.chain([first], lines)))
+        entries.append(entries_of(name, book))
     yield f"{BOOK_HEADER}{first_scoring}\n".encode()
     for _, (kept, *others) in itertools.groupby(heapq.merge(*entries, key=itemgetter(0)), itemgetter(0)):
         _, name, number, text = kept

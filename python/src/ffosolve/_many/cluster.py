@@ -2,7 +2,6 @@
 again on another one if that ends, and brings workers the programs; so the scheduler runs no code of ours."""
 import asyncio
 import contextlib
-import functools
 import json
 import logging
 import os
@@ -10,13 +9,13 @@ import sys
 import time
 import warnings
 from collections import defaultdict
-from concurrent.futures import CancelledError
+from concurrent.futures import CancelledError, Future
 from pathlib import Path
-from typing import Any, DefaultDict, Dict, List, Optional, Sequence, Set, Tuple
+from typing import Any, Coroutine, DefaultDict, Dict, List, Optional, Sequence, Set, Tuple
 
 from .._command_line import MISSING, Refusal, say
 from .._text import shown
-from .engine import Outcome
+from .engine import Engine, Outcome
 from .folder import Part, Run
 from .solve import content_of
 
@@ -53,8 +52,7 @@ def address_of(name: str) -> str:
 
 
 def client_of(address: str) -> Any:
-    """Returns a client of the scheduler at an address. Refuses another server, and if it or all workers have another
-    version."""
+    """Returns a client of a scheduler. Refuses another server, and if that or all workers have another version."""
     async def check() -> None:
         security = distributed.Security().get_connection_args("client")
         async with distributed.rpc(address, timeout=LOST_SECONDS, connection_args=security) as server:
@@ -80,10 +78,8 @@ def client_of(address: str) -> Any:
         raise Refusal(f"cannot reach the scheduler {shown(address)}: {reason}") from None
 
 
-class Cluster:
-    """A Dask cluster, as an engine: see `Threads`."""
-
-    tries, trouble = 3, ""
+class Cluster(Engine):
+    tries = 3
 
     def __init__(self, name: str, run: Run) -> None:
         logging.disable()
@@ -99,11 +95,13 @@ class Cluster:
         self.failed: DefaultDict[Worker, Set[str]] = defaultdict(set)  # the parts that each failed in a row
         self.ends: DefaultDict[str, Dict[str, int]] = defaultdict(dict)  # of workers with a part or at a host, by keys
         self.signs: Dict[Worker, Tuple[object, float]] = {}  # what each worker does, and since when
-        self.running: Dict[int, Tuple[str, float]] = {}
-        # Runs a coroutine in Dask's thread. No call waits for Dask, which may be silent for any time.
-        self.in_dask: Any = functools.partial(asyncio.run_coroutine_threadsafe, loop=self.client.loop.asyncio_loop)
+        self.running = {}
         self.heard = self.looked = time.monotonic()
         self.asked = self.in_dask(self.ask())
+
+    def in_dask(self, question: Coroutine[Any, Any, Any]) -> Future[Any]:
+        """Runs a coroutine in Dask's thread. No call waits for Dask, which may be silent for any time."""
+        return asyncio.run_coroutine_threadsafe(question, self.client.loop.asyncio_loop)
 
     async def ask(self) -> None:
         """Notes which workers there are, and what they do. Drops a Pack that only stuck workers have."""
@@ -147,7 +145,7 @@ class Cluster:
         return trusted - {*failed} or trusted
 
     def most(self, is_alone: bool) -> int:
-        """Does what `Threads.most` does. None is sent while nothing is known of the workers, or all are unfit."""
+        """Allows no part while nothing is known of the workers, or all are unfit."""
         fit = len(self.workers)
         if self.trouble or self.client.status != "running" or self.count and not fit:
             return 0
@@ -155,11 +153,10 @@ class Cluster:
         # Half of the workers stay free for a part that ends its own, so that it does not end those of others, too.
         return max(1, fit // 2) if is_alone else 2 * self.threads + AHEAD * (fit == self.count)
 
-    def send(self, part: Part, failed: List[str]) -> Any:
+    def send(self, part: Part, failed: List[str]) -> Future[Outcome]:
         return self.in_dask(self.solve(part, failed))
 
     def submitted(self, part: Part, failed: List[str]) -> Sent:
-        """Sends a part to the workers that may have it."""
         workers = self.chosen(failed)
         some = [*workers] if len(workers) < self.count else None
         if not self.pack or self.pack.status in ("cancelled", "error"):
@@ -167,10 +164,9 @@ class Cluster:
             # If all workers end, parts that wait in the scheduler's queue must not come before what they need.
             self.pack = self.client.submit(make, *words, pure=False, priority=self.tries, workers=some,
                                            allow_other_workers=bool(some))
-        key = f"{self.key}-{part.number}-{os.urandom(4).hex()}"
         # A part that has failed is urgent, since it may show which worker is to blame.
-        task = self.client.submit(toolz.apply, self.pack, self.key, self.run.text(part), part.most, key=key,
-                                  workers=some, priority=len(failed))
+        task = self.client.submit(toolz.apply, self.pack, self.key, self.run.text(part), part.most, workers=some,
+                                  priority=len(failed), key=f"{self.key}-{part.number}-{os.urandom(4).hex()}")
         return task, workers if some else None, self.pack
 
     def is_in_hand(self, sent: Sent, failed: List[str]) -> bool:
@@ -197,7 +193,6 @@ class Cluster:
                     await task.cancel()
 
     async def solve(self, part: Part, failed: List[str]) -> Outcome:
-        """Lets Dask solve a part on one of the `chosen` workers."""
         if failed:
             with contextlib.suppress(OSError):
                 await self.ask()  # otherwise, a worker that fails it again might be the only one that is known
@@ -256,7 +251,7 @@ class Cluster:
         self.workers.pop(worker, None)
 
     def look(self) -> None:
-        """Does what `Threads.look` does. Refuses after LOST_SECONDS of silence, unless this process was stopped."""
+        """Refuses after LOST_SECONDS of silence, unless this process was stopped."""
         now, before = time.monotonic(), self.looked
         self.heard, self.looked = now if now > before + SILENT_SECONDS else self.heard, now
         if self.asked.done():

@@ -1,6 +1,5 @@
 """Runs ffosolve-many: reads its command line, and then solves a list and prints the results, or merges books."""
 import argparse
-import contextlib
 import io
 import itertools
 import os
@@ -24,7 +23,6 @@ from .solve import GUARD, Task, opened, without_folder
 
 NAME = "ffosolve-many"
 EXCLUDED = {"scheduler": {"jobs", "cut"}, "scores": {"book_in", "book_out"}, "cut": {"prune"}}  # {option: not with it}
-WITH_MERGE_BOOKS = {"merge_books", "book_out", "quiet"}
 
 USAGE = f"""{NAME} [OPTIONS] [FOLDER] LIST
        {NAME} --merge-books [--book-out FILE] BOOK.."""
@@ -90,7 +88,7 @@ def parse(words: List[str]) -> argparse.Namespace:
         if word.startswith("-") and word != "-":
             raise misused(f"'{shown(word)}' is not an option; a file of that name is ./{shown(word)}")
     given = {name for name, values in vars(command).items() if values}
-    for option, excluded in {**EXCLUDED, "merge_books": given - WITH_MERGE_BOOKS}.items():
+    for option, excluded in {**EXCLUDED, "merge_books": given - {"merge_books", "book_out", "quiet"}}.items():
         for other in excluded & given if option in given else ():
             raise misused(f"--{other} is not an option of --{option}".replace("_", "-"))
     for name, values in vars(command).items():
@@ -102,16 +100,6 @@ def parse(words: List[str]) -> argparse.Namespace:
     if "" in (*command.words, command.scheduler, command.book_in, command.book_out):
         raise misused("'' is not the name of a file")
     return command
-
-
-def task_of(command: argparse.Namespace) -> Task:
-    """Returns the options of a command as "options" and "speed" of a task."""
-    most = DEFAULT_EMPTIES if command.max_empties is None else command.max_empties
-    return {"program": "ffoscores" if command.scores else "ffosolve", "lines": command.lines or 1000,
-            "options": {"--max-empties": most, "--scoring": command.scoring or "winner",
-                        "--complete": "" if command.complete else None},
-            # The parts keep all processors busy, so none of them needs more than one thread.
-            "speed": {"--workers": command.workers or 0, "--table": command.table}}
 
 
 def files_of(program: Path) -> Files:
@@ -181,8 +169,13 @@ def run_of(command: argparse.Namespace, programs: str) -> Run:
     if header and not command.scoring:
         scoring = header[1].decode()
         raise misused(f"{name} is a book of the scoring {scoring}: use --scoring {scoring}")
-    task = task_of(command)
-    program = Path(programs, task["program"])
+    program = Path(programs, "ffoscores" if command.scores else "ffosolve")
+    most = DEFAULT_EMPTIES if command.max_empties is None else command.max_empties
+    task: Task = {"program": program.name, "lines": command.lines or 1000,
+                  "options": {"--max-empties": most, "--scoring": command.scoring or "winner",
+                              "--complete": "" if command.complete else None},
+                  # The parts keep all processors busy, so none of them needs more than one thread.
+                  "speed": {"--workers": command.workers or 0, "--table": command.table}}
     files = files_of(program)
     if command.book_in:
         book = regular(command.book_in)
@@ -225,9 +218,8 @@ def solve_list(command: argparse.Namespace, programs: str) -> int:
     if command.book_out:
         header = f"{BOOK_HEADER}{run.task['options']['--scoring']}\n".encode()  # all of the book if there are no lines
         books = ((str(part), io.BytesIO(found.book)) for part, found in run.solved())
-        replace(command.book_out, merged([("", [header]), *books]))
-    with contextlib.nullcontext() if command.prune else contextlib.suppress(OSError):
-        run.clean(command.prune)
+        replace(command.book_out, merged([("", io.BytesIO(header)), *books]))
+    run.clean(command.prune)
     return max(run.statuses.values(), default=DONE)
 
 

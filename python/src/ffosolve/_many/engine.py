@@ -7,7 +7,7 @@ import time
 from collections import defaultdict, deque
 from concurrent.futures import FIRST_COMPLETED, Future, ThreadPoolExecutor, wait
 from datetime import timedelta
-from typing import Any, DefaultDict, Deque, Dict, List, Optional, Set, Tuple
+from typing import DefaultDict, Dict, List, Optional, Protocol, Set, Tuple
 
 from .._command_line import Refusal, counted, say, show
 from .folder import Part, Run
@@ -20,10 +20,30 @@ LONG_SECONDS = 600  # after which a part that is still being solved is named
 Outcome = Tuple[Part, Optional[Solved], str, List[str]]
 
 
+class Engine(Protocol):
+    """What solves parts for `solve_parts`."""
+
+    tries: int  # after which a part is not solved
+    threads: int  # that solve parts, each one at a time
+    running: Dict[int, Tuple[str, float]]  # {number: (host, start time)} of parts at work; some may be solved since
+    trouble: str = ""  # why nothing is known of the machines at work, if so
+    silent: int = 0  # workers that have parts and do not answer
+
+    def look(self) -> None:
+        """Notes what is at work, and any trouble. `solve_parts` calls it every second."""
+        return  # by default, these are known
+
+    def most(self, is_alone: bool) -> int:
+        """Returns how many parts may be sent at a time; if `is_alone`, each to a machine of its own."""
+
+    def send(self, part: Part, failed: List[str]) -> Future[Outcome]:
+        """Begins to solve a part, if possible elsewhere than where it has `failed`."""
+
+
 class Progress:
     """What is left of a run on an engine. `done` is the work that this command has done, in `seconds` of its parts."""
 
-    def __init__(self, run: Run, engine: Any) -> None:
+    def __init__(self, run: Run, engine: Engine) -> None:
         self.run, self.engine, self.done, self.seconds = run, engine, 0.0, 0.0
 
     def running(self) -> List[Tuple[Part, str, float]]:
@@ -58,11 +78,10 @@ class Progress:
         return text
 
 
-class Threads:
-    """An engine for `solve_parts`: solves parts on threads of this machine, each running one program at a time."""
+class Threads(Engine):
+    """Threads of this machine, each running one program at a time."""
 
-    # After how many tries a part is not solved; why nothing is known of the machines at work, or ""; silent workers.
-    tries, trouble, silent = 1, "", 0
+    tries = 1
 
     def __init__(self, run: Run, jobs: int) -> None:
         most = resource.getrlimit(resource.RLIMIT_NOFILE)[1]
@@ -70,19 +89,12 @@ class Threads:
         fit = jobs_that_fit(jobs, 2 + int(run.task["speed"]["--workers"]))  # a thread here, and those of the program
         if fit < jobs:
             say(f"{fit} of {jobs} jobs work at a time, since no more files or processes are allowed (ulimit -n, -u)")
-        self.run, self.pool, self.threads = run, ThreadPoolExecutor(fit), fit
-        # {number: (host, start time)} of parts at work, of which some may have been solved since.
-        self.running: Dict[int, Tuple[str, float]] = {}
-
-    def look(self) -> None:
-        """Notes what is at work, and any trouble. `solve_parts` calls it every second."""
+        self.run, self.pool, self.threads, self.running = run, ThreadPoolExecutor(fit), fit, {}
 
     def most(self, is_alone: bool) -> int:
-        """Returns how many parts may be sent at a time; if `is_alone`, each to a machine of its own."""
         return self.threads
 
     def send(self, part: Part, failed: List[str]) -> Future[Outcome]:
-        """Begins to solve a part, if possible elsewhere than where it has `failed`."""
         self.running[part.number] = HERE, time.monotonic()
         try:
             future = self.pool.submit(lambda: (part, *self.run.solve(part), [HERE]))
@@ -107,17 +119,16 @@ def jobs_that_fit(jobs: int, threads: int) -> int:
     return max(1, count)
 
 
-def solve_parts(run: Run, engine: Any, quiet: bool) -> None:
+def solve_parts(run: Run, engine: Engine, quiet: bool) -> None:
     """Solves a run's unsolved parts, except those that fail `engine.tries` times. One that has failed twice is tried
     once more after all others, alone. If `quiet`, shows only failures."""
     waiting, progress = deque({part.digest: part for part in run.unsolved()}.values()), Progress(run, engine)
-    last: Deque[Part] = deque()
     failures: DefaultDict[int, List[str]] = defaultdict(list)  # {number: where that part failed}
     sent: Set[Future[Outcome]] = set()
     is_terminal, due, shown, trouble = os.isatty(2), 0.0, time.monotonic(), ""
-    while waiting or last or sent:
-        while (parts := waiting or last) and len(sent) < engine.most(is_alone=not waiting):
-            part = parts.popleft()
+    while waiting or sent:
+        while waiting and len(sent) < engine.most(is_alone=len(failures[waiting[0].number]) > 1):
+            part = waiting.popleft()
             sent.add(engine.send(part, failures[part.number]))
         if (now := time.monotonic()) >= due:
             due = now + (1 if sent else 0.2)
@@ -136,5 +147,5 @@ def solve_parts(run: Run, engine: Any, quiet: bool) -> None:
             if found:
                 progress.done, progress.seconds = progress.done + part.weight, progress.seconds + found.seconds
             elif len(failed) < engine.tries:
-                (last if len(failed) > 1 else waiting).appendleft(part)
+                (waiting.append if len(failed) > 1 else waiting.appendleft)(part)
     show("")

@@ -7,7 +7,6 @@ import stat
 from pathlib import Path
 from typing import BinaryIO, Dict, Iterator, List, NamedTuple, Optional, Tuple
 
-from . import solve
 from .._command_line import MISSING, MISUSED, Refusal, lock_file, refusing, say, write_whole
 from .._obf import SIDE, side_as_read
 from .._text import shown, text_lines, typed
@@ -27,8 +26,6 @@ def weight_of(empties: List[int], most: int) -> float:
 
 
 class Part(NamedTuple):
-    """A part of a list."""
-
     number: int  # from 0
     start: int  # its offset in bytes
     size: int  # in bytes
@@ -102,10 +99,9 @@ class Run:
             contents = {name: content for name, (content, _) in files.items()}
             task.update(parts=len(self.parts), files={name: sha256(content) for name, content in contents.items()},
                         known=read_task(self.place).get("known", {}))
-            for part in self.parts:
-                if part.digest not in self.statuses:
-                    self.check(part, content_of(self.path(part)))
-            code = Path(solve.__file__).read_bytes()
+            for part in self.unsolved():
+                self.check(part, content_of(self.path(part)))
+            code = Path(__file__).with_name("solve.py").read_bytes()
             self.pack = Pack(code.decode(), task, {}, self.place)
             try:
                 (self.place / "results").mkdir(0o755, exist_ok=True)
@@ -137,7 +133,6 @@ class Run:
         return self.place / "results" / part.digest
 
     def text(self, part: Part) -> bytes:
-        """Returns the bytes of a part's lines, as they are in the folder's list."""
         with refusing("read", self.folder / "list"), (self.place / "list").open("rb") as file:
             file.seek(part.start)
             return file.read(part.size)
@@ -160,8 +155,7 @@ class Run:
 
     def keep(self, part: Part, record: bytes, why: str) -> Tuple[Optional[Solved], str]:
         """Stores a complete record of a part. Returns its results; or None and a reason, by default `why`."""
-        found = self.check(part, record)
-        if found:
+        if found := self.check(part, record):
             with refusing("write", self.folder / "results" / part.digest):
                 mode = (self.place / "list").stat().st_mode & 0o666
                 write_whole({str(self.path(part)): [record]}, True, mode, is_synced=found.seconds >= SYNCED_SECONDS)
@@ -199,7 +193,8 @@ class Run:
         yield b"solved %d refused %d\n" % (count - refused, refused)
 
     def clean(self, prunes: bool) -> None:
-        """Removes what killed processes were writing and, if this `prunes`, the results that this run has not."""
-        for path in [*self.place.glob("*.????????.new"), *(self.place / "results").glob("?" * 64 + "*")]:
-            if path.name.endswith(".new") or prunes and path.name not in self.statuses and len(path.name) == 64:
-                path.unlink()
+        """Removes what killed processes were writing, if possible. If this `prunes`, also results that are not its."""
+        with contextlib.nullcontext() if prunes else contextlib.suppress(OSError):
+            for path in [*self.place.glob("*.????????.new"), *(self.place / "results").glob("?" * 64 + "*")]:
+                if path.name.endswith(".new") or prunes and path.name not in self.statuses and len(path.name) == 64:
+                    path.unlink()

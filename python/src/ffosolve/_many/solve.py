@@ -8,13 +8,13 @@ import hashlib
 import json
 import os
 import re
-import subprocess
 import sys
 import tempfile
 import threading
 import time
 import zlib
 from pathlib import Path
+from subprocess import PIPE, Popen, TimeoutExpired
 from typing import Any, BinaryIO, Callable, Dict, Iterable, Iterator, List, NamedTuple, Optional, Set, Tuple
 
 FORM = "task 2"  # what the file `task` is about; each version that changes a run's folder has its own
@@ -29,13 +29,11 @@ FRONT = re.compile(rb"^(?![ \t]*(?:%%|\r?$))[ \t]*((?:[-.%b]{64}(?=[ \t]*[%b])(?
                    % (LETTER, LETTER), re.M)
 
 # What a run's file `task` has. "program", its name; "options": {option that decides the results: value}, "" for one
-# without value and None for one that is not given; "speed", the like for others, except --book-in; "lines", how many a
-# part has on average; "parts", how many there are; "files", {name: SHA-256} of the program's builds and of any book-in;
-# "known", {digest of KNOWN: results}.
+# without value, None for one not given; "speed", the like for others, except --book-in; "lines" of a part on average;
+# "parts", their number; "files", {name: SHA-256} of the builds and any book-in; "known", {digest of KNOWN: results}.
 Task = Dict[str, Any]
 
-# The results of a part: the program's exit status, its output, its book, and how many seconds it took.
-Solved = NamedTuple("Solved", [("status", int), ("output", bytes), ("book", bytes), ("seconds", float)])
+Solved = NamedTuple("Solved", [("status", int), ("output", bytes), ("book", bytes), ("seconds", float)])  # of a part
 
 
 def sha256(content: bytes) -> str:
@@ -54,9 +52,8 @@ def unsealed(about: str, text: bytes) -> bytes:
 
 
 def parts_of(lines: Iterable[bytes], usual: int) -> Iterator[List[bytes]]:
-    """Cuts a list by what its lines are, so that few parts end elsewhere after a change. A part has at most 7/4 of the
-    `usual` number of lines, and PART_BYTES. Of the lines that may be its last, the one of the least checksum is, unless
-    the list ends before."""
+    """Cuts a list by what its lines are, so that few parts end elsewhere after a change. Unless the list ends before, a
+    part ends with the line of the least checksum among those that fit: 7/4 of the `usual` number, and PART_BYTES."""
     found: List[bytes] = []
     sums: List[int] = []
     size, most = 0, max(1, 7 * usual // 4)
@@ -113,8 +110,7 @@ def place_of(file: int) -> str:
 
 class Pack:
     """A run's programs and --book-in, which solve parts on this machine: files in its folder, `place`, or `contents` in
-    memory. Each worker of a Dask cluster has one, and drops it when the client ends. They pass it on as built-in types,
-    so they need no package of ours, and no certain Python: `source` is the text of this module."""
+    memory. Each worker of a Dask cluster makes one by `source`, this module's text, until the client ends."""
 
     def __init__(self, source: str, task: Task, contents: Dict[str, bytes], place: Path = Path()) -> None:
         self.source, self.task, self.contents = source, task, contents
@@ -123,7 +119,7 @@ class Pack:
         self.program, self.fault, self.lock = "", "", threading.Lock()
 
     def __reduce__(self) -> Tuple[Any, ...]:
-        """Returns a function and its arguments that make a copy on a machine without this module."""
+        """Returns a function and its arguments that make a copy, of built-in types: for any Python, without ours."""
         contents = self.contents or {name: Path(path).read_bytes() for name, path in self.files.items()}
         names = {"source": self.source, "names": {"__name__": "ffosolve"}, "task": self.task, "contents": contents}
         return eval, ("exec(source, names) or names['Pack'](source, task, contents)", {}, names)
@@ -166,8 +162,7 @@ class Pack:
             return self.fault
 
     def fault_of(self, program: str) -> str:
-        """Returns why a program is not fit, or "" if it has a SHA-256 of the task and solves KNOWN in KNOWN_SECONDS, as
-        the task knows or will know."""
+        """Returns "" if a program is the task's and solves KNOWN in time and, if known, as before; or why not."""
         if sha256(Path(program).read_bytes()) not in self.task["files"].values():
             return "is damaged"
         end = time.monotonic() + KNOWN_SECONDS
@@ -182,8 +177,7 @@ class Pack:
     def solve(self, program: str, text: bytes, most: Optional[int] = None,
               is_wanted: Callable[[], bool] = lambda: True) -> Tuple[bytes, str]:
         """Solves the lines `text` of a part with the program of that path, and kills it once `is_wanted` returns false.
-        Returns (record, "") or, if the program fails, (b"", the reason). A record has the results under their digest.
-        For `most`, see `digest_of`."""
+        Returns (record, "") or, if it fails, (b"", the reason). The record is sealed with `digest_of`, for `most`."""
         task, start = self.task, time.monotonic()
         given = {**task["options"], **task["speed"], "--book-in": self.files.get("book-in")}
         words = [name if value == "" else f"{name}={value}" for name, value in given.items() if value is not None]
@@ -192,12 +186,11 @@ class Pack:
         try:  # after a timeout, `communicate` loses the rest of the input, so the lines are a file
             with unnamed(text) as lines, unnamed(b"") as book:
                 command += [f"--book-out={place_of(book.fileno())}"] * has_book
-                process = subprocess.Popen(command, start_new_session=True, stdin=lines, stdout=subprocess.PIPE,
-                                           stderr=subprocess.PIPE)
+                process = Popen(command, start_new_session=True, stdin=lines, stdout=PIPE, stderr=PIPE)
                 while process.returncode is None:
                     try:
                         output, errors = process.communicate(timeout=0.5)
-                    except subprocess.TimeoutExpired:
+                    except TimeoutExpired:
                         if not is_wanted():
                             process.kill()
                 results = output + book.read()
@@ -226,8 +219,7 @@ def read_task(folder: Path) -> Task:
 
 @functools.lru_cache(maxsize=None)
 def opened(folder: Path) -> Path:
-    """Returns a path to a folder that leads through this process: it is UTF-8, as the program wants, and once this
-    process has ended, no program starts there."""
+    """Returns a path to a folder that is UTF-8, as programs want, and leads nowhere once this process has ended."""
     return Path(place_of(os.open(folder, os.O_RDONLY)))
 
 
@@ -248,11 +240,10 @@ def parts_in(words: List[str], count: int) -> Set[int]:
 def solve_into(folder: Path, mode: int, pack: Pack, text: bytes) -> str:
     """Solves a part unless its record is in the folder of results. Returns "", or why it isn't. A new file takes the
     place of a damaged one, or of a link. Makes room for the record first, so that no part is solved in vain."""
-    digest = digest_of(pack.task, text)
-    path = folder / digest
+    path = folder / digest_of(pack.task, text)
     new = f"{path}.{os.urandom(4).hex()}.new"
     try:
-        if path.is_file() and path.stat().st_size < MOST_READ and read_record(digest, path.read_bytes()):
+        if path.is_file() and path.stat().st_size < MOST_READ and read_record(path.name, path.read_bytes()):
             return ""
         with open(os.open(new, os.O_WRONLY | os.O_CREAT | os.O_EXCL, 0o600), "wb") as file:
             os.posix_fallocate(file.fileno(), 0, 4 * len(text) + 1000)
