@@ -101,17 +101,9 @@ def line_of(position, comment):
 
 def book_of(positions):
     """Returns a book with the exact scores of positions, but in their order, and with `--` in place of best moves."""
-    lines = (f"{canonical(player.line(own, opp, True)[:64])} X; --:{player.values(own, opp)[0]:+03};\n"
+    lines = (f"{Position(own, opp).canonical().to_obf()} --:{player.values(own, opp)[0]:+03};\n"
              for own, opp, _ in positions)
     return "% ffobook 2 winner\n" + "".join(lines)
-
-
-def canonical(board):
-    """Returns the image of a board that a book has: the squares of X, then those of O, are the least number."""
-    rows = [board[at:at + 8] for at in range(0, 64, 8)]
-    mirrored = [it for some in (rows, ["".join(row) for row in zip(*rows)]) for it in (some, some[::-1])]
-    images = ["".join(it) for some in mirrored for it in (some, [row[::-1] for row in some])]
-    return min(images, key=lambda it: [[square == side for square in it[::-1]] for side in "XO"])
 
 
 def games(*words, status=None, out="", err="", **how):

@@ -5,7 +5,6 @@ import os
 import re
 import shutil
 import signal
-import stat
 import sys
 from pathlib import Path
 from unittest import mock
@@ -14,11 +13,13 @@ import pytest
 
 from bench import player
 from tests.games import NAMES, PROGRAM, book_of, discs_of_black, games, positions_of, random_games, record, wthor
-from tests.support import NOBODY, ROOT, SECONDS, built, limited, run, stored, unshared, wait_until, write
+from tests.many import files as everything
+from tests.prefix import blocks_of
+from tests.support import NOBODY, ROOT, SECONDS, built, ends, limited, run, stored, unshared, wait_until, write
 from ffosolve import ReadingWarning, read_games
+from ffosolve._command_line import write_whole
 from ffosolve._games import corrected
 
-pytestmark = pytest.mark.usefixtures("folder")
 EMPTIES = 5
 PLAYED = [game for game in random_games(14, seed=7) if EMPTIES in positions_of(game)]
 POSITIONS = [positions_of(game)[EMPTIES] for game in PLAYED]
@@ -30,8 +31,11 @@ RECORDS, EXACT_RECORDS = (list(map(record, PLAYED, scores)) for scores in (PUBLI
 WHOLE, RIGHT = (wthor(records, empties=EMPTIES) for records in (RECORDS, EXACT_RECORDS))
 BOOK = book_of(POSITIONS)
 HEADER, *LINES = BOOK.splitlines(True)
-COMPARE = ("compare", "book", "it.wtb")
+COMPARE, CHECK = ("compare", "book", "it.wtb"), ("check", "it.wtb", "--quiet")
+REGULAR = 0o100644  # the mode of a file that all may read, and its owner write
 CHANGED = f"new.wtb: theoretical scores changed 2 of {COUNT}, not compared 0"
+EXISTS = "{} already exists and would be overwritten"
+FAILED = "ffosolve-games: ffosolve-many has not solved all, so no score is compared"
 
 
 @pytest.fixture(autouse=True)
@@ -54,18 +58,12 @@ def counts(compared=COUNT, differ=2, unsolved=0):
     return f"compared {compared} differ {differ} unsolved {unsolved}\n"
 
 
-def contents():
-    """Returns {path: content} for all files below the current folder. The content of a link is its target."""
-    paths = [path for path in Path().rglob("*") if path.is_symlink() or path.is_file()]
-    return {str(path): os.readlink(path) if path.is_symlink() else path.read_bytes() for path in paths}
-
-
 def fix(status, err, *words, place="new.wtb", written=None, out=None, files=("it.wtb",), **how):
     """Runs `compare book FILES --fix PLACE WORDS`. Asserts its status, its errors and, unless `out` is None, its
     output; that it writes the files `written`, {path: content}, by default none; and that it changes no other."""
-    before = contents()
+    before = everything()
     games("compare", "book", *files, "--fix", place, *words, status=status, err=err, out=out, **how)
-    assert contents() == {**before, **(written or {})}
+    assert everything() == {**before, **{Path(path): (text, REGULAR) for path, text in (written or {}).items()}}
 
 
 @pytest.mark.parametrize("empties, is_over, kinds", ((3, False, 6), (1, True, 2)))
@@ -86,27 +84,25 @@ def test_scores_are_discs_of_black_and_the_winner_gets_the_empty_squares(empties
     games(*COMPARE, status=1, out=out + counts(len(played), len(played)), err=err)
 
 
-# Games that are over with many empty squares, and their real scores.
-SHORT = {"e6f4e3f6g5d6e7f5c5": 64, "d3c5d6e3f5g5c4c3e6e7": 0, "f5d6c5f6d3g5h5h4g7e7f8b5a5c3b2h6d8f7b4a3": 59,
-         "d3c5c6e3f5g5f3c2c4g3e2c3e6b5b4e1g2d7d6h1f6a4c7e7e8b7": 1}
-
-
 def test_a_game_that_is_over_before_its_position_has_the_score_of_its_end(alone):
     """Without other games, ffosolve-many is not needed. A list has no position of such a game."""
-    played = [[NAMES.index(text[at:at + 2].upper()) for at in range(0, len(text), 2)] for text in SHORT]
-    wrong, right = ([record(it, 30 if is_wrong else real) for it, real in zip(played, SHORT.values())]
-                    for is_wrong in (True, False))
+    real_scores = {
+        "e6f4e3f6g5d6e7f5c5": 64, "d3c5d6e3f5g5c4c3e6e7": 0, "f5d6c5f6d3g5h5h4g7e7f8b5a5c3b2h6d8f7b4a3": 59,
+        "d3c5c6e3f5g5f3c2c4g3e2c3e6b5b4e1g2d7d6h1f6a4c7e7e8b7": 1}
+    played = [[NAMES.index(move.upper()) for move in re.findall("..", text)] for text in real_scores]
+    wrong = [record(game, 30) for game in played]
+    right = list(map(record, played, real_scores.values()))
     write("it.wtb", wthor(wrong, empties=30))
-    out = "".join(difference(number, real, 30 - real) for number, real in enumerate(SHORT.values(), 1))
+    out = "".join(difference(number, real, 30 - real) for number, real in enumerate(real_scores.values(), 1))
     ran = alone("check", "it.wtb", "--fix=new.wtb")
     assert (ran.returncode, ran.stdout) == (1, out + counts(4, 4)), ran.stderr
     assert Path("new.wtb").read_bytes() == wthor(right, empties=30)
     assert alone("check", "new.wtb").stdout == counts(4, 0)
     write("it.wtb", wthor(right + EXACT_RECORDS, empties=EMPTIES))
     games(*COMPARE, out=counts(4 + COUNT, 0))
-    ends = zip((51, 50, 40, 34), (9, 10, 20, 26), range(1, 5))
+    where = zip((51, 50, 40, 34), (9, 10, 20, 26), range(1, 5))
     games("new.wtb", err="".join(f"new.wtb, game {number}, move {moves}: it ends here, with {left} empty squares; "
-                                 "30 are asked for\n" for left, moves, number in ends))
+                                 "30 are asked for\n" for left, moves, number in where))
 
 
 @pytest.mark.parametrize("content, book, out", (
@@ -148,7 +144,7 @@ def test_what_is_no_book_of_scores_that_games_have_is_refused_with_its_line(book
     write("book", book)
     for words in ((), ("--fix", "new.wtb", "--real")):
         games(*COMPARE, *words, status=3, err=f"book is not a book of exact scores: {why}", out="")
-    assert sorted(contents()) == ["book", "it.wtb"]
+    assert sorted(os.listdir()) == ["book", "it.wtb"]
 
 
 @pytest.mark.parametrize("empties, black", ((4, True), (5, False)))
@@ -239,7 +235,6 @@ def test_the_scores_that_are_wrong_are_changed_and_no_other_byte():
     more = b"more" * 50_000
     write("it.wtb", WHOLE + more)
     fix(1, goes_on.format("it.wtb") + CHANGED, written={"new.wtb": RIGHT + more}, out=both() + counts())
-    assert stat.S_IMODE(os.stat("new.wtb").st_mode) == 0o644
     games("compare", "book", "new.wtb", err=goes_on.format("new.wtb"), out=counts(differ=0))
     write("it.wtb", RIGHT)
     again = f"again.wtb: theoretical scores changed 0 of {COUNT}, not compared 0"
@@ -291,9 +286,6 @@ def test_several_files_are_written_all_or_none_and_a_full_disk_leaves_no_file():
         fix(3, "cannot write new.wtb: File too large", preexec_fn=limited(RLIMIT_FSIZE=size))
 
 
-EXISTS = "{} already exists and would be overwritten"
-
-
 @pytest.mark.parametrize("place, names, err", (
     *((place, ["it.wtb"], EXISTS.format(place))
       for place in ("it.wtb", "./it.wtb", "link.wtb", "twin.wtb", "broken.wtb", "other.wtb", "book")),
@@ -315,9 +307,7 @@ def test_no_file_is_overwritten_and_each_place_is_one_for_a_new_file(place, name
 
 def test_a_file_system_without_hard_links_gets_the_file(monkeypatch):
     """The content is on the disk before the file gets its name. With hard links, no existing file is replaced."""
-    from ffosolve._command_line import write_whole
-
-    before, synced = contents(), []
+    before, synced = everything(), []
     with monkeypatch.context() as patch:
         patch.setattr(os, "link", mock.Mock(side_effect=PermissionError))
         patch.setattr(os, "fsync", lambda file: synced.append((os.fstat(file).st_size, os.path.exists("new.wtb"))))
@@ -325,18 +315,18 @@ def test_a_file_system_without_hard_links_gets_the_file(monkeypatch):
     assert synced == [(7, False)]
     with pytest.raises(FileExistsError):
         write_whole({"new.wtb": [b"other"]})
-    assert contents() == {**before, "new.wtb": b"newfile"}
+    assert everything() == {**before, Path("new.wtb"): (b"newfile", REGULAR)}
 
 
 def test_one_of_several_runs_writes_the_file(start):
-    before = contents()
+    before = everything()
     runs = [start(sys.executable, PROGRAM, *COMPARE, "--fix", "new.wtb") for _ in range(6)]
-    ends = sorted((it.communicate(timeout=SECONDS)[1].decode(), it.returncode) for it in runs)
+    found = sorted((it.communicate(timeout=SECONDS)[1].decode(), it.returncode) for it in runs)
     said = "ffosolve-games: "
     written, lost = f"{said}{CHANGED}\n", [EXISTS.format("new.wtb"), "cannot write new.wtb: File exists"]
-    assert ends.count((written, 1)) == 1 and len(ends) == 6
-    assert set(ends) - {(written, 1)} <= {(f"{said}{why}\n", 3) for why in lost}
-    assert contents() == {**before, "new.wtb": RIGHT}
+    assert found.count((written, 1)) == 1 and len(found) == 6
+    assert set(found) - {(written, 1)} <= {(f"{said}{why}\n", 3) for why in lost}
+    assert everything() == {**before, Path("new.wtb"): (RIGHT, REGULAR)}
 
 
 @pytest.mark.parametrize("number", (signal.SIGINT, signal.SIGTERM, signal.SIGKILL))
@@ -355,27 +345,17 @@ def test_an_interrupted_run_leaves_no_file_under_the_name(start, number):
     fix(1, CHANGED, written={"new.wtb": RIGHT})
 
 
-CHECK = ("check", "it.wtb", "--quiet")
-FOLDER = "it.wtb.check"
-FAILED = "ffosolve-games: ffosolve-many has not solved all, so no score is compared"
-
-
-def refused(*words, why, **how):
+def refused(*words, why):
     """Asserts that `check` says why ffosolve-many refuses a folder, and that it changes no file that was there."""
-    before = contents()
-    ran = run(sys.executable, PROGRAM, *words, text=True, **how)
-    assert (ran.returncode, ran.stdout) == (2, "")
-    assert ran.stderr == f"ffosolve-many: {why}\n{FAILED}; --folder names another folder\n"
-    assert contents() == {**contents(), **before}
-
-
-def parts():
-    return len(list(Path(FOLDER, "results").glob("?" * 64)))
+    before = everything()
+    said = f"ffosolve-many: {why}\n{FAILED}; --folder names another folder\n"
+    ends((2, "", said), sys.executable, PROGRAM, *CHECK, *words)
+    assert before.items() <= everything().items()
 
 
 def results():
     """Returns {path: (inode, time)} for the results of all parts in the current folder."""
-    found = {str(path): path.stat() for path in Path().rglob("results/*")}
+    found = {str(path): path.stat() for path in Path().rglob(f"results/{'?' * 64}")}
     return {name: (about.st_ino, about.st_mtime_ns) for name, about in found.items()}
 
 
@@ -433,9 +413,9 @@ def test_each_check_solves_only_the_parts_that_hold_a_change(folder_named):
 def test_another_number_of_empty_squares_goes_on_in_the_same_folder():
     for empties, added in ((5, True), (6, True), (5, False), (6, False)):
         write("it.wtb", wthor([record(it, discs_of_black(positions_of(it)[empties])) for it in PLAYED], empties=0))
-        before = parts()
+        before = len(results())
         games(*CHECK, f"--empties={empties}", out=counts(differ=0))
-        assert (parts() > before) == added
+        assert (len(results()) > before) == added
 
 
 @pytest.fixture
@@ -451,31 +431,29 @@ def slow_check():
 def test_an_interrupted_check_goes_on(start, slow_check, number, of_all):
     words, printed = slow_check
     child = start(*words, start_new_session=True)
-    wait_until(parts)
+    wait_until(results)
     (os.killpg if of_all else os.kill)(child.pid, number)
     child.communicate(timeout=SECONDS)
     assert child.returncode == -number
-    assert 0 < parts() < 90
+    assert 0 < len(results()) < 90
     games(*words[2:], out=printed)
-    assert parts() == 90
+    assert len(results()) == 90
 
 
 def test_a_second_check_in_one_folder_is_refused(start, slow_check):
     words, printed = slow_check
     first = start(*words, start_new_session=True)
-    wait_until(parts)
+    wait_until(results)
     os.killpg(first.pid, signal.SIGSTOP)
-    ran = run(*words, text=True)
+    ends((3, "", f"ffosolve-many: another run works in it.wtb.check\n{FAILED}\n"), *words)
     os.killpg(first.pid, signal.SIGCONT)
-    assert (ran.returncode, ran.stdout) == (3, "")
-    assert ran.stderr == f"ffosolve-many: another run works in it.wtb.check\n{FAILED}\n"
     assert first.communicate(timeout=SECONDS)[0].decode() == printed
 
 
 def test_check_can_be_cut_for_another_scheduler():
     ran = run(sys.executable, PROGRAM, *CHECK, "--lines=4", "--cut", text=True)
-    assert (ran.returncode, parts()) == (0, 0) and "python3 it.wtb.check/solve.py 0-" in ran.stdout
-    run(sys.executable, f"{FOLDER}/solve.py", "0-99", check=True)
+    assert (ran.returncode, len(results())) == (0, 0) and "python3 it.wtb.check/solve.py 0-" in ran.stdout
+    run(sys.executable, "it.wtb.check/solve.py", "0-99", check=True)
     games(*CHECK, "--lines=4", status=1, out=both() + counts())
 
 
@@ -491,12 +469,12 @@ def test_check_refuses_before_it_solves():
     games(*CHECK, "--fix=closed", status=3, **NOBODY,
           err="cannot write closed/it.wtb: its folder is missing, or may not be written")
     why = "'book' is not a folder: name one FOLDER and one LIST. Try 'ffosolve-many --help'"
-    refused(*CHECK, "--folder=book", why=why)
+    refused("--folder=book", why=why)
     write("other.wtb", WHOLE)
     write("other.wtb.check/check.obf", "of an earlier version")
     other = "other.wtb.check has files that are not ffosolve-many's, or those of an earlier version, such as check.obf"
-    refused(*CHECK, "other.wtb", why=f"{other}: name a new or an empty folder")
-    assert parts() == 0
+    refused("other.wtb", why=f"{other}: name a new or an empty folder")
+    assert len(results()) == 0
 
 
 def test_scores_are_not_taken_from_a_folder_that_others_own_or_may_write():
@@ -505,8 +483,8 @@ def test_scores_are_not_taken_from_a_folder_that_others_own_or_may_write():
     write("it.wtb.check/check.book", BOOK.replace("+", "-"))
     games(*CHECK, status=1, out=both() + counts())
     os.chmod("it.wtb.check", 0o777)
-    refused(*CHECK, "--fix=new.wtb", why="other users may write it.wtb.check: name another folder, or type "
-                                         "chmod go-w it.wtb.check")
+    refused("--fix=new.wtb",
+            why="other users may write it.wtb.check: name another folder, or type chmod go-w it.wtb.check")
     os.chmod("it.wtb.check", 0o755)
     unshare, *words = unshared()
     mount = 'mount --bind . . && mount -o remount,bind,ro . && cd "$PWD" && ! echo >new && exec "$@"'
@@ -514,7 +492,7 @@ def test_scores_are_not_taken_from_a_folder_that_others_own_or_may_write():
     assert (ran.returncode, ran.stdout) == (1, both() + counts()), ran.stderr  # on a disk that may only be read
     if NOBODY:
         os.chown("it.wtb.check", NOBODY["user"], -1)
-        refused(*CHECK, "--fix=new.wtb", why="it.wtb.check belongs to another user: name another folder")
+        refused("--fix=new.wtb", why="it.wtb.check belongs to another user: name another folder")
         os.chown("it.wtb.check", 0, -1)
         games(*CHECK, status=1, out=both() + counts(), **NOBODY)  # of root
 
@@ -571,7 +549,7 @@ def test_the_status_is_that_of_ffosolve_many_if_it_is_missing_or_fails(folder, a
 
 
 def test_the_commands_of_guide_and_help_check_and_fix_a_file():
-    guide = "".join(re.findall(r"^```sh\n(.*?)^```", stored("docs", "check-wthor.md").decode(), re.M | re.S))
+    guide = blocks_of(stored("docs", "check-wthor.md").decode(), "sh")
     of_help = re.search(r"^examples:\n.*?\n\n(.*?)\n\nstatus:", run(PROGRAM, "--help").stdout.decode(), re.M | re.S)[1]
     for place, commands, count in (("guide", guide, 2), ("help", of_help, 4)):
         commands = [line for line in commands.splitlines() if line]

@@ -1,5 +1,5 @@
-"""ffosolve-games and Python read games: the positions are those of bench/player.py, and what is wrong is reported."""
-import contextlib
+"""ffosolve-games and Python read games: the positions are those of bench/player.py, and what is wrong is reported. The
+command line of ffosolve-games, and how it reports what it can't read or write."""
 import gzip
 import inspect
 import io
@@ -8,7 +8,6 @@ import pickle
 import random
 import re
 import sys
-import textwrap
 
 import pytest
 
@@ -16,15 +15,21 @@ from bench import player
 from tests.games import (AT, GAME, GAME_RECORD, NAMES, PROGRAM, SQUARE_BYTES, discs_of_black, games, line_of,
                          masks_after, positions_of, random_games, reads, real_score, record, squares_of, transcript,
                          transcript_rows, wthor)
-from tests.support import run, write
+from tests.support import MOST_BYTES, cannot_write, ends, limited, run, write
 import ffosolve
 from ffosolve import Solver
 
-pytestmark = pytest.mark.usefixtures("folder")
 RANDOM = random_games(1000, seed=53)
 KNOWN = list(map(positions_of, RANDOM))
 PLAYED = random_games(60, seed=66)
 LINE = line_of(AT[22], "it.wtb, game 1, theoretical score 33")
+TEXT, WTHOR, LISTED = transcript(GAME), wthor([GAME_RECORD], empties=20), line_of(AT[20], "{}, game 1")
+
+
+@pytest.fixture(autouse=True)
+def files(folder):
+    write("text", TEXT)
+    write("it.wtb", WTHOR)
 
 
 @pytest.mark.parametrize("name, count, numbers", (
@@ -67,11 +72,11 @@ def ggf(game, first=GGF_BOARD, with_passes=True):
 F5, F5D6 = positions_of([37]), positions_of([37, 43])
 AFTER = f"is not a legal move for Black in {player.line(*F5D6[58])}"
 OVER = f"is not a legal move: the game is over in {player.line(*AT[60 - len(GAME)])}"
-FIRST = f"is not a legal move for Black in {player.line(*F5D6[60])}"
+AT_START = f"is not a legal move for Black in {player.line(*F5D6[60])}"
 REFUSED = (  # transcript, move, reason
     ("f5d6d5", 3, f"D5 {AFTER}"), ("f5d6psc3", 3, f"a pass {AFTER}"),
     ("1. f5 2. d5 3. c3", 2, f"D5 is not a legal move for White in {player.line(*F5[59])}"),
-    ("pass", 1, f"a pass {FIRST}"),
+    ("pass", 1, f"a pass {AT_START}"),
     *((transcript(GAME + [square]), len(GAME) + 1, f"{NAMES[square]} {OVER}") for square in (GAME[0], GAME[-1])),
     *((text, move, f"'{word}' is not a square") for text, move, word in (
         ("F5 D6 C5 z9", 4, "z9"), ("f5d6i1c3", 3, "i1"), ("f5d6c3d3c4f4c5b3c2\ufffd", 10, "\ufffd"))),
@@ -117,10 +122,6 @@ def changed(byte):
     return GAME_RECORD[:18] + bytes([byte]) + GAME_RECORD[19:]
 
 
-SIDE = "Black" if AT[50][2] else "White"
-ILLEGAL = f"{NAMES[GAME[9]]} is not a legal move for {SIDE} in {player.line(*AT[50])}"
-
-
 @pytest.mark.parametrize("more, count, why", (
     ([GAME_RECORD[:67]], 2, ": the file ends after 67 of the 68 bytes of this game, but its header counts 2 games"),
     ([GAME_RECORD[:1]], 7, ": the file ends after 1 of the 68 bytes of this game, but its header counts 7 games"),
@@ -129,7 +130,8 @@ ILLEGAL = f"{NAMES[GAME[9]]} is not a legal move for {SIDE} in {player.line(*AT[
     ([b"\n"], 1, ": the file goes on, but its header counts 1 game"),
     ([changed(0)], 2, ", move 11: 0 is not a square"),
     ([changed(99)], 2, ", move 11: 99 is not a square"),
-    ([changed(GAME_RECORD[17])], 2, f", move 11: {ILLEGAL}"),
+    ([changed(GAME_RECORD[17])], 2,
+     f", move 11: {NAMES[GAME[9]]} is not a legal move for Black in {player.line(*AT[50])}"),
     ([record([])], 2, ": it has no moves"),
     ([record(GAME[:37])], 2, ", move 37: it ends here, with 23 empty squares; 22 are asked for"),
 ))
@@ -193,14 +195,12 @@ def test_an_archive_is_reported_as_what_it_is(content):
         reads(name, content, *words.split(), status=3, err=err)
 
 
-PLAIN = {empties: line_of(position, "it.wtb, game 1") for empties, position in AT.items()}
-SCORED = {empties: line.rstrip() + ", theoretical score 20\n" for empties, line in PLAIN.items()}
-
-
 def test_a_theoretical_score_is_printed_only_for_its_number_of_empty_squares_which_is_asked_for():
-    for words, empties, out in (((), 24, SCORED[24]), (("--empties", "24"), 24, SCORED[24]),
-                                (("--empties", "22"), 24, PLAIN[22]), (("--empties", "22"), 0, SCORED[22])):
-        reads("it.wtb", wthor([record(GAME, 20)], empties=empties), *words, out=out)
+    plain, scored = "it.wtb, game 1", "it.wtb, game 1, theoretical score 20"
+    for words, of_header, empties, comment in (
+            ([], 24, 24, scored), (["--empties", "24"], 24, 24, scored), (["--empties", "22"], 24, 22, plain),
+            (["--empties", "22"], 0, 22, scored)):
+        reads("it.wtb", wthor([record(GAME, 20)], empties=of_header), *words, out=line_of(AT[empties], comment))
     reads("it.wtb", wthor([GAME_RECORD], empties=0), status=2,
           err="it.wtb does not say how many squares are empty at its theoretical scores; "
               "try --empties 22 or 24, the usual numbers")
@@ -276,13 +276,11 @@ def test_games_in_ggf_are_read():
             has_positions(text, game)
 
 
-RECORDS = wthor([record(game, 20 + at, 40) for at, game in enumerate(PLAYED[:30])], empties=22)
-TEXT = "".join(f"{transcript(game)}\n\n" for game in PLAYED[:30]).encode()
-
-
 @pytest.mark.parametrize("content, name, wanted", (
-    (RECORDS, "it.wtb", [(at + 1, 20 + at, 40, 22) for at in range(30)]),
-    (TEXT, "it.txt", [(2 * at + 1, None, None, None) for at in range(30)]),
+    (wthor([record(game, 20 + at, 40) for at, game in enumerate(PLAYED[:30])]), "it.wtb",
+     [(at + 1, 20 + at, 40, 22) for at in range(30)]),
+    ("".join(f"{transcript(game)}\n\n" for game in PLAYED[:30]).encode(), "it.txt",
+     [(2 * at + 1, None, None, None) for at in range(30)]),
 ), ids=("wthor", "text"))
 def test_texts_and_wthor_files_are_read_by_path_and_from_files_of_each_kind(folder, content, name, wanted):
     write(name, content)
@@ -300,18 +298,16 @@ def test_texts_and_wthor_files_are_read_by_path_and_from_files_of_each_kind(fold
     assert [it.empties for it in ffosolve.read_games("it.wtb")] == [None]
 
 
-def test_the_example_of_read_games_finds_wrong_theoretical_scores():
+def test_the_example_of_read_games_finds_wrong_theoretical_scores(capsys):
     """The last game is over after nine moves."""
     found = [game for game in PLAYED if 6 in positions_of(game)][:20]
     exact = [discs_of_black(positions_of(game)[6]) for game in found] + [64]
     found.append([NAMES.index(square) for square in "E6 F4 E3 F6 G5 D6 E7 F5 C5".split()])
     published = [it ^ (at in (3, 11, 20)) for at, it in enumerate(exact)]
     write("WTH_2001.wtb", wthor(list(map(record, found, published)), empties=6))
-    code = textwrap.dedent(inspect.getdoc(ffosolve.read_games).split(":\n\n")[1])
-    printed = io.StringIO()
-    with contextlib.redirect_stdout(printed):
-        exec(code, {"Solver": Solver, "read_games": ffosolve.read_games})
-    assert printed.getvalue() == f"4 {published[3]}\n12 {published[11]}\n21 65\n"
+    code = "if True:\n" + inspect.getdoc(ffosolve.read_games).split(":\n\n")[1]
+    exec(code, {"Solver": Solver, "read_games": ffosolve.read_games})
+    assert capsys.readouterr().out == f"4 {published[3]}\n12 {published[11]}\n21 65\n"
 
 
 @pytest.mark.parametrize("count, why", ((2, "the file ends"), (0, "the file goes on")))
@@ -335,5 +331,144 @@ def test_a_wrong_file_is_refused_at_once(source, error, why):
     write("it.wtb", wthor([record(PLAYED[0])], board=10))
     with pytest.raises(error, match=f"^{why}" if why else None):
         list(ffosolve.read_games(source))
-    with pytest.raises(TypeError, match="^a game is a Game or the text of a transcript, not "):
-        Solver().positions(5)
+
+
+def test_the_list_has_names_of_files_as_they_are_and_a_hyphen_or_no_file_means_standard_input():
+    for words in ((), ("-",)):
+        games("--empties=20", *words, input=TEXT.encode(), out=LISTED.format("-"))
+    games("-", input=WTHOR, out=LISTED.format("-").rstrip() + ", theoretical score 33\n")
+    for name, shown in (("a b%c, game 7", "a b%c, game 7"), ("new\nline", "$'new\\nline'"), ("-V", "-V")):
+        reads(name, TEXT, "--empties=20", "--", out=LISTED.format(shown))
+    name = b"\xff.WTB"
+    write(os.fsdecode(name), WTHOR)
+    assert b"% \xff.WTB, game 1, theoretical score 33\n" in run(sys.executable, PROGRAM, name).stdout
+
+
+@pytest.mark.parametrize("name", (b"\xff", b"new\nline", b"it's \x01 \\ \xc3\xa9", b"\xc2\xa0"))
+def test_names_in_messages_can_be_typed(name):
+    err = run(sys.executable, PROGRAM, "--empties=20", name).stderr.decode()
+    shown = err.removeprefix("ffosolve-games: cannot read ").removesuffix(": No such file or directory\n")
+    assert shown.isprintable() and shown.startswith("$'"), err
+    assert run("bash", "-c", f"printf %s {shown}").stdout == name
+    for printable, shown in (("", "''"), ("it's \u00e9", "it's \u00e9")):
+        games("--empties=20", printable, status=3, err=f"cannot read {shown}: No such file or directory")
+
+
+def test_the_status_is_the_highest_that_a_refused_file_causes():
+    err = "cannot read none: No such file or directory\n"
+    games("none", "text", status=3, err=err + "text is a text: its games need --empties N")
+    err += "cannot read .: Is a directory"
+    games("--empties=20", "none", ".", "text", status=3, out=LISTED.format("text"), err=err)
+
+
+@pytest.mark.parametrize("content, why", (
+    (b"\xef\xbb\xbf" + TEXT.encode() + b"\n", "it begins with a byte-order mark"),
+    (("\ufeff" + TEXT).encode("utf-16-le"), "it begins with a byte-order mark"),
+    (("\ufeff" + TEXT).encode("utf-16-be"), "it begins with a byte-order mark"),
+    (f"% games\r{TEXT}\r{TEXT}\r".encode(), "its lines end with CR alone"),
+    (b"\r" + TEXT.encode(), "its lines end with CR alone"),
+    (b"f5\0d6\n" + TEXT.encode(), "its line 1 has a NUL byte, so it is not a text"),
+    (b"PK\3\4\24\0\r\0", "it is an archive (.zip or .gz), so unpack it first"),
+))
+def test_files_that_are_not_texts_are_refused_and_the_next_is_read(content, why):
+    write("bad", content)
+    err = f"cannot read bad: {why}"
+    games("--empties=20", "bad", "text", status=3, out=LISTED.format("text"), err=err)
+    games("compare", "bad", "it.wtb", status=3, err=err)
+    for words in (["--empties=20"], ["compare", "-", "it.wtb"]):
+        games(*words, input=content, status=3, err=f"cannot read -: {why}")
+
+
+@pytest.mark.parametrize("content", (
+    '[Event "a"]\n[Black "b"]\n\n1. f5 d6\n2. c3 d3\n', '[Event "a"]\r\n1. f5 d6 2. c3\r\nd3\r\n',
+    "(;FF[4]GM[2]SZ[8]\n;B[f5];W[d6])\n"))
+def test_a_game_on_several_lines_is_told_to_be_one(content):
+    """The headers of a PGN may have lines of their own, and the result of the game another one."""
+    err = "cannot read it: a game is on several lines, as in a PGN or SGF file, but a text has one game in each line"
+    reads("it", content, "--empties=58", status=3, err=err)
+    with pytest.raises(ValueError, match=f"^{err}$"):
+        list(ffosolve.read_games("it"))
+    for text in ('[Event "a"]\n[Black "b"]\n\nf5d6\n33-31\n', "(;GM[Othello]B[f5]W[d6];)\n" * 2):
+        write("it", text)
+        assert {game.squares == ["F5", "D6"] for game in ffosolve.read_games("it")} == {True}
+
+
+@pytest.mark.parametrize("words, before, out", (
+    (("--empties=20", "-"), TEXT + "\n", LISTED.format("-")),
+    (("compare", "-", "it.wtb"), "% ffobook 2 winner\n", ""),
+))
+def test_a_long_line_is_refused_without_reading_it_all(words, before, out):
+    write("long", before + "f5" if out else before)
+    os.truncate("long", 300_000_000)
+    err = f"cannot read -: its line 2 has more than {MOST_BYTES} bytes"
+    with open("long", "rb") as file:
+        games(*words, stdin=file, status=3, out=out, err=err, preexec_fn=limited(RLIMIT_AS=500_000_000))
+        assert os.lseek(file.fileno(), 0, os.SEEK_CUR) < 2 * MOST_BYTES
+    longest = (TEXT + "%").ljust(MOST_BYTES - 1, "x") + "\n"
+    reads("longest", longest, "--empties=20", out=LISTED.format("longest"))
+
+
+FIRST = "which has to be the first word"
+BY_NAME = "takes WTHOR files by their names, not standard input"
+
+
+@pytest.mark.parametrize("words, why", (
+    *((f"--empties {it}", f"--empties: takes a number from 0 to 60, not '{it}'") for it in ("61", "-1", "x")),
+    *((it, f"{it.split()[-1]}: expected one argument") for it in ("--empties", "compare text it.wtb --fix")),
+    *((it, f"unrecognized arguments: {it.split()[-1]}") for it in ("--no", "check it.wtb --scores", "3 --emp")),
+    *((it, "compare takes a BOOK and WTHOR files") for it in ("compare", "compare text")),
+    *((it, f"--fix and --real go with check or compare, {FIRST}") for it in ("--fix a compare b it.wtb", "--real a")),
+    ("compare text it.wtb -", f"compare {BY_NAME}"), ("check it.wtb -", f"check {BY_NAME}"),
+    ("compare text it.wtb --fix=-", "--fix takes a file or a folder, not standard output"),
+    ("compare text it.wtb --real", "--real goes with --fix"),
+    ("compare text it.wtb --jobs=2", f"--jobs goes with check, {FIRST}"),
+    ("it.wtb --folder=new", f"--folder goes with check, {FIRST}"),
+    *((f"it.wtb {it}=1", f"{it} goes with check, {FIRST}") for it in ("--max-empties", "--lines")),
+    ("check it.wtb --max-empties=61", "--max-empties: takes a number from 0 to 60, not '61'"),
+    *((f"check it.wtb --lines={it}", f"--lines: takes a number from 1 to 10000, not '{it}'") for it in ("0", "10001")),
+    ("check", "check takes WTHOR files"),
+    ("check it.wtb --cut --fix new.wtb", "--fix does not go with --cut"),
+))
+def test_wrong_words_are_refused(words, why):
+    games(*words.split(), status=2, err=f"{why}. Try 'ffosolve-games --help'")
+
+
+def test_help_has_all_uses_in_80_columns(monkeypatch):
+    games("--version", out=f"ffosolve-games {ffosolve.__version__}\n")
+    monkeypatch.setenv("COLUMNS", "80")
+    printed = run(PROGRAM, "--help", check=True, text=True).stdout
+    for task in ("compare", "check"):
+        games(task, "--help", out=printed)
+    assert re.search("Black's discs.*the winner gets the empty squares", " ".join(printed.split()))
+    uses = "usage: ffosolve-games .*\n       ffosolve-games check .*\n       ffosolve-games compare "
+    assert re.match(uses, printed)
+    assert max(map(len, printed.splitlines())) <= 80
+
+
+@pytest.mark.parametrize("words", (
+    ["--empties=20", "text"], ["--empties=20", "many"], ["--help"], ["--version"], ["compare", "--help"],
+))
+def test_standard_output_that_cannot_be_written_ends_with_status_3(words):
+    write("many", (TEXT + "\n") * 1000)
+    cannot_write(PROGRAM, *words)
+    for unbuffered in ("", "1"):
+        ends((3, "", "ffosolve-games: cannot write standard output: File too large\n"),
+             "sh", "-c", 'exec "$0" "$@" >out', PROGRAM, *words, preexec_fn=limited(RLIMIT_FSIZE=1),
+             env={**os.environ, "PYTHONUNBUFFERED": unbuffered})
+
+
+def test_standard_error_that_cannot_be_written_changes_no_output_and_no_status():
+    write("wrong", "a1\n" + TEXT)
+    text = LISTED.format("text")
+    wrong = LISTED.format("wrong").replace("game 1", "game 2")
+    for words, status, out in ((("wrong", "text"), 1, wrong + text), (("none", "text"), 3, text)):
+        for errors in ("2>errors", "2>&-"):
+            ends((status, out, ""), "sh", "-c", f'exec "$0" "$@" {errors}', PROGRAM, "--empties=20", *words,
+                 preexec_fn=limited(RLIMIT_FSIZE=1))
+
+
+@pytest.mark.parametrize("words", (("--empties=20", "text"), ("compare", "book", "it.wtb"), ("check", "it.wtb")))
+def test_a_missing_library_ends_with_status_4(words):
+    ran = run(PROGRAM, *words, env={**os.environ, "FFOSOLVE_LIBRARY": "/nowhere"})
+    assert (ran.returncode, ran.stdout) == (4, b"")
+    assert re.fullmatch("ffosolve-games: /nowhere: .*\n", ran.stderr.decode())

@@ -10,8 +10,10 @@ import pytest
 from tests.support import built, run, stored, write
 from ffosolve import Position, Solver, WrongScore, compare_scores, masks_of
 
-BOARD = "-OXXXXX-XXXXXXXOXXXXXXXXXXXXXXXXXXXOXXXXXXXXXXXXXXXXXXXXXXXXXXXX X;"  # H1 is +62, and A1 +52
+BOARD = "-OXXXXX-XXXXXXXOXXXXXXXXXXXXXXXXXXXOXXXXXXXXXXXXXXXXXXXXXXXXXXXX X;"
 AT_PASS = "-OOOOOOXXXXXXXXXXXXXXXXXXXXXXXXXXXXXXXXXXXXXXXXXXXXXXXXXXXXXXXXX O;"  # -64
+BOTH = Position.from_obf(BOARD), Position.from_obf(AT_PASS)
+MOVES = {"H1": 62, "A1": 52}  # of BOARD
 LONG = "9" * 400
 LISTED = f"""% an evaluation
 {BOARD} H1:+62; A1:+52;
@@ -63,7 +65,7 @@ def test_a_solver_finds_what_ffoscores_prints(scored):
 
 
 def test_positions_have_scores_without_a_file():
-    board, at_pass = Position.from_obf(BOARD), Position.from_obf(AT_PASS)
+    board, at_pass = BOTH
     over = board.play("H1").play_all("")
     found = compare_scores({board: 60.5, at_pass: -64})
     root = math.sqrt(1.5**2 / 2)
@@ -75,10 +77,6 @@ def test_positions_have_scores_without_a_file():
     assert found[:-1] == (4, 4, [WrongScore(1, "H1", 3, 62), WrongScore(1, "A1", 3.5, 52)], 107.5 / 4, root, -107.5 / 4,
                           59, 2, 5, 0.5, 0, 1, 0)
     assert compare_scores([(board, {"A1": 52, "H1": 52})]).mean_loss == 10  # of equal ones the first
-
-
-BOTH = Position.from_obf(BOARD), Position.from_obf(AT_PASS)
-MOVES = {"H1": 62, "A1": 52}
 
 
 @pytest.mark.parametrize("listed, known, by_moves, alone", (
@@ -107,12 +105,6 @@ def test_arrays_of_answers_are_known():
         compare_scores(lines, known=answers)
 
 
-@pytest.mark.parametrize("wrong", (65, -66, 1.5, {"H1": 62}, {**MOVES, "B1": 2}, {"PS": 2}, {"H1": 1, "A1": 99}))
-def test_known_scores_that_do_not_fit_are_refused(wrong):
-    with pytest.raises(ValueError, match=f"^not the exact scores of the legal moves in {BOARD} "):
-        compare_scores({BOTH[0]: 60}, known={BOTH[0]: wrong})
-
-
 def test_a_timeout_is_for_both_calls():
     positions = [Position.start(), BOTH[0]]
     for listed in ({positions[0]: 2}, {positions[0]: {"F5": 2}}):
@@ -125,22 +117,19 @@ def test_a_timeout_is_for_both_calls():
     assert 8 < solver.solve_all.call_args.kwargs["timeout"] < solver.move_scores_all.call_args.kwargs["timeout"] < 9
 
 
-@pytest.mark.parametrize("values, error, why", (
-    ("60", TypeError, "the score of a position is a number, not '60'"),
-    ({"H1": None}, TypeError, "the score of H1 is a number, not None"),
-    ({"H9": 2}, ValueError, "a move is the name of a square, PS or --, not 'H9'"),
-    ({"h1": float("nan")}, ValueError, "the score of H1 is a finite number, not nan"),
-    (float("-inf"), ValueError, "the score of a position is a finite number, not -inf"),
+@pytest.mark.parametrize("listed, known, error, why", (
+    ({BOTH[0]: "60"}, {}, TypeError, "the score of a position is a number, not '60'"),
+    ({BOTH[0]: {"H1": None}}, {}, TypeError, "the score of H1 is a number, not None"),
+    ({BOTH[0]: {"H9": 2}}, {}, ValueError, "a move is the name of a square, PS or --, not 'H9'"),
+    ({BOTH[0]: {"h1": float("nan")}}, {}, ValueError, "the score of H1 is a finite number, not nan"),
+    ({BOTH[0]: float("-inf")}, {}, ValueError, "the score of a position is a finite number, not -inf"),
+    *((wrong, {}, TypeError, ".*") for wrong in (7, [7], [(1, 2, 3)], [("A1", 3)])),
+    *(({BOTH[0]: 60}, {BOTH[0]: wrong}, ValueError, f"not the exact scores of the legal moves in {BOARD} .*")
+      for wrong in (65, -66, 1.5, {"H1": 62}, {**MOVES, "B1": 2}, {"PS": 2}, {"H1": 1, "A1": 99})),
 ))
-def test_scores_that_are_no_numbers_of_moves_are_refused(values, error, why):
+def test_lists_and_scores_that_do_not_fit_are_refused(listed, known, error, why):
     with pytest.raises(error, match=f"^{why}$"):
-        compare_scores({Position.from_obf(BOARD): values})
-
-
-def test_a_list_has_lines_or_pairs():
-    for wrong in (7, [7], [(1, 2, 3)], [("A1", 3)]):
-        with pytest.raises(TypeError):
-            compare_scores(wrong)
+        compare_scores(listed, known=known)
 
 
 def test_scores_of_many_digits_are_not_read(scored):

@@ -1,5 +1,4 @@
-"""Tests of the package ffosolve, installed or on PYTHONPATH, with the library that `Solver()` loads: its calls, their
-refusals, perfect play, games turn by turn, arrays of positions, Solvers in other processes, and lines of OBF text.
+"""Tests of the package ffosolve, installed or on PYTHONPATH, with the library that `Solver()` loads:
 
     python3 -m pytest python/tests
 """
@@ -13,22 +12,26 @@ import pathlib
 import pickle
 import pydoc
 import re
-import sys
-import textwrap
 import tracemalloc
 from concurrent.futures import ProcessPoolExecutor
+from functools import partial
 from unittest import mock
 
 import pytest
 
-from calls import ANSWER, AT_PASS, CORNERS, ITERATORS, LISTS, MANY, ONE, OVER, POSITION, SEARCHES, find
+from calls import (
+    ANSWER, AT_PASS, CORNERS, END, ITERATORS, LISTS, MANY, ONE, OVER, PASS, PASSES, POSITION, SEARCHES, find)
 import ffosolve
-from ffosolve import START, Answer, Game, Kind, Position, Scoring, Solver, masks_of, parse_lines, read_lines
+from ffosolve import (
+    START, Answer, Board, Game, GameRefused, Kind, NoMove, Position, Scoring, SharedSquare, Solver, Symmetry,
+    TooManyEmpties, TooManyEntries, UnknownScoring, UnknownSymmetry, masks_of, parse_lines, read_lines, square_name,
+    square_names, square_number)
 from ffosolve._library import libraries_to_try, load
 
 EIGHT = Position.from_obf("XOOOO-O-XOOO-OO-XOOOO-OXXXXXXXO-XXOXXXO-OOOOXOOOOXXXOOOOOX-XXXXO X;")  # 8 empty squares
 SHARED, WIDE, WIDER = Position(3, 2), Position(1, 2**31 - 2), Position(1, 2**30 - 2)  # 33 and 34 empty squares
-MORE = "34 empty squares are more than max_empties=33 of the Solver"
+SHARES, MORE = "the masks share a square", "34 empty squares are more than max_empties=33 of the Solver"
+MASK = "a mask is a whole number from 0 to 2**64 - 1"
 
 
 def library_that_returns(status):
@@ -38,11 +41,11 @@ def library_that_returns(status):
 
 
 def refused(error, call, *given):
-    """Asserts that a call raises exactly `error`, and returns what it raises."""
+    """Asserts that a call raises exactly `error`. Returns what it raises, and a pickled copy of that."""
     with pytest.raises(ffosolve.Refused) as caught:
         call(*given)
     assert type(caught.value) is error
-    return caught.value
+    return caught.value, pickle.loads(pickle.dumps(caught.value))
 
 
 def test_the_examples_of_the_help_print_what_it_shows():
@@ -89,9 +92,6 @@ def test_the_turns_of_a_game_are_the_positions_in_which_its_moves_are_made():
         assert position.to_obf() == (at.passed() if move == "E7" else at).to_obf()
         at = position.play(move)
     assert [move for _, move in turns] == "F5 F6 D3 G5 H5 H4 F7 H6 E7".split()
-    for wrong in ("f5f5", "z9"):
-        with pytest.raises(ffosolve.GameRefused):
-            Game.of_text(wrong).turns()
     assert Game(1).turns() == []
 
 
@@ -99,7 +99,7 @@ def test_the_example_of_turns_prints_the_moves_that_lose_discs(capsys):
     """The scores of the positions after D7 and the other moves are those of plain minimax."""
     game = Game.of_text("d3c5f6e3c4e6c6b7c7c2f3c3e2b4e7f2f1g2c1b3f5e1g3h3f4g1d2b1a1e8a8g6h2d1"
                         "a2h1b2g4b5a3g5a6a5c8d8b6f7d6h7h4h6h5a7h8d7b8g7f8a4g8")
-    exec(textwrap.dedent(inspect.getdoc(Game.turns).split(":\n\n")[1]), {"game": game, "solver": Solver(max_empties=6)})
+    exec("if True:\n" + inspect.getdoc(Game.turns).split(":\n\n")[1], {"game": game, "solver": Solver(max_empties=6)})
     assert capsys.readouterr().out == "X D7 2 instead of 10\n"
 
 
@@ -108,7 +108,7 @@ def test_a_game_of_moves_without_words_has_squares():
     assert game.squares == ["F5", "D6", "C3"]
     assert Game(1, moves=[37, 43, 18]).turns() == Game.of_text("f5d6c3").turns()
     for move in (255, -1, 256 + 43, "D6"):
-        with pytest.raises(ffosolve.GameRefused, match=rf"^game 1, move 2: {move!r} is not a square$"):
+        with pytest.raises(GameRefused, match=rf"^game 1, move 2: {move!r} is not a square$"):
             Solver().positions(Game(1, moves=[37, move]))
         assert Game(1, moves=[37, move]).squares == ["F5", str(move)]
 
@@ -125,6 +125,8 @@ def test_positions_become_arrays_and_arrays_positions():
     assert {position.side for position in ffosolve.positions_from(own, opp, "O")} == {"O"}
     for empty in ([], iter(())):
         assert ffosolve.positions_from(*masks_of(empty)) == []
+    objects = numpy.array(positions)
+    assert (objects.dtype, objects.shape, list(objects)) == (object, (6,), positions)
     assert Solver().solve(Position(own[0], opp[0])) == Solver().solve(POSITION)
     assert repr(Position(True, numpy.int8(2))) == "Position(own=1, opp=2)"
     with pytest.raises(TypeError, match="^a mask is a whole number from 0 to .*, not array"):
@@ -162,20 +164,6 @@ def test_a_solver_is_shown_copied_and_pickled(settings, shown, monkeypatch):
             assert list(pool.map(it.solve, [POSITION, AT_PASS])) == solver.solve_all([POSITION, AT_PASS])
 
 
-def test_positions_with_equal_masks_are_equal_and_keep_their_colours():
-    own, opp = POSITION
-    assert len({POSITION, Position(own, opp), Position(own, opp, "O")}) == 1
-    assert repr(POSITION) == f"Position(own={own}, opp={opp})"
-    assert repr(Position(1, 2, "O")) == "Position(own=1, opp=2, side='O')"
-    assert repr(POSITION.show()) == str(POSITION)
-    white, squares = Position(1, 2, "O"), "OX" + "-" * 62
-    for text in (white.to_obf(), "oB" + "." * 62 + "w;A1:+2;"):
-        assert Position.from_obf(text).to_obf() == squares + " O;"
-    assert white.to_obf("X") == "XO" + "-" * 62 + " X;"
-    assert white.passed().to_obf() == squares + " X;"
-    assert Solver().play(tuple(START), "f5").side == "O"
-
-
 def test_scorings_limits_and_versions_are_those_of_the_library_and_scorings_and_kinds_print_as_their_names():
     assert [f"{it} {it!s:>7}" for it in Scoring] == ["winner  winner", "discs   discs", "sign    sign"]
     assert [f"{it}" for it in Kind] == ["moves", "pass", "over"]
@@ -211,36 +199,129 @@ def test_the_library_gets_the_scoring_the_size_of_the_table_and_the_claim(settin
     assert given == (0xFF0, 0xF, -3, Kind.OVER, 4)
 
 
-def test_calls_keep_no_memory():
-    calls = [
-        *((find, name, 1, Solver(), [POSITION] * 9) for name in ONE + MANY[:4]),
-        (START.play_all, "f5d6c3"), (lambda lines: list(read_lines(lines)), [CORNERS] * 9), (START.symmetries,),
-    ]
-    for call, *given in calls:
-        call(*given)
-    tracemalloc.start()
-    try:
-        for call, *given in calls:
-            before = tracemalloc.get_traced_memory()[0]
-            for _ in range(100):
-                call(*given)
-            gc.collect()
-            assert tracemalloc.get_traced_memory()[0] - before < 2000
-    finally:
-        tracemalloc.stop()
-
-
-@pytest.mark.parametrize("names, given, error, why, index", [
-    (ONE, [SHARED], ffosolve.SharedSquare, "the masks share a square", None),
-    (SEARCHES, [WIDER], ffosolve.TooManyEmpties, MORE, None),
-    (LISTS, [WIDE, WIDER, SHARED], ffosolve.TooManyEmpties, f"position at index 1: {MORE}", 1),
-    (ITERATORS, [POSITION, WIDER, SHARED], ffosolve.TooManyEmpties, f"position at index 1: {MORE}", 1),
+@pytest.mark.parametrize("call", [
+    *(lambda name=name: find(name, 1, Solver(), [POSITION] * 9) for name in ONE + MANY[:4]),
+    lambda: START.play_all("f5d6c3"), lambda: list(read_lines([CORNERS] * 9)), START.symmetries,
 ])
-def test_positions_are_refused_by_each_call(names, given, error, why, index):
-    """In a list, before anything is solved: the first position would take hours."""
+def test_calls_keep_no_memory(call):
+    call()
+    tracemalloc.start()
+    for _ in range(100):
+        call()
+    gc.collect()
+    kept, _ = tracemalloc.get_traced_memory()
+    tracemalloc.stop()
+    assert kept < 2000
+
+
+# In the lists of three, the first position would take hours: they are refused before anything is solved.
+@pytest.mark.parametrize("names, given, error, why, index", [
+    (ONE, [SHARED], SharedSquare, SHARES, None),
+    (SEARCHES, [WIDER], TooManyEmpties, MORE, None),
+    (LISTS, [WIDE, WIDER, SHARED], TooManyEmpties, f"position at index 1: {MORE}", 1),
+    (ITERATORS, [POSITION, WIDER, SHARED], TooManyEmpties, f"position at index 1: {MORE}", 1),
+    *((ONE + MANY, [POSITION, it], TypeError, r"a position is two masks, as Position\(own, opp\) and .* not .*", None)
+      for it in ("x", "ab", None, 5, ANSWER, (1,), (1, 2, 3), (0.5, 1), ("a", "b"), CORNERS)),
+    *((ONE + MANY, [POSITION, it], ValueError, re.escape(MASK), None) for it in (Position(-1, 0), Position(0, 2**64))),
+    (MANY, POSITION, TypeError, r"positions are a list or .*, as \[position\], not a single one", None),
+    (MANY, tuple(POSITION), TypeError, "a position is two masks, .* not [0-9.]+", None),
+])
+def test_each_call_refuses_positions_that_it_may_not_solve_and_other_objects(names, given, error, why, index):
     for name in names:
-        refusal = refused(error, find, name, 1, Solver(max_empties=33), given)
-        assert (str(refusal), refusal.index) == (why, index)
+        with pytest.raises(error, match=f"^{why}$") as caught:
+            find(name, 1, Solver(max_empties=33), given)
+        assert (type(caught.value), getattr(caught.value, "index", None)) == (error, index), name
+
+
+FIRST = f"{'-' * 27}OX{'-' * 6}XO{'-' * 27} X;"
+SECOND = f"{'-' * 27}OX{'-' * 6}XXX{'-' * 26} O;"  # after F5
+THIRD = f"{'-' * 27}OX{'-' * 6}OXX{'-' * 5}O{'-' * 20} X;"  # after D6
+AFTER, FULL = Position.from_obf(SECOND), Position(2**64 - 1, 0)
+SCORING, SIDE = "a scoring is 'winner', 'discs' or 'sign', not ", "the side to move is 'X' or 'O', not "
+LISTED = "a move is listed by the name of a square, as PS or as --, not as "
+LINES = "lines are read from a path or an iterable of lines such as an open file, not from "
+SHOWN = "scores are an Answer, or a mapping from squares' names such as move_scores returns, not "
+
+
+@pytest.mark.parametrize("error, why, call", [
+    (NoMove, f"E3 is not a legal move for Black in {FIRST}", lambda: START.play("e3")),
+    (NoMove, f"F5 is not a legal move for White in {SECOND}", lambda: AFTER.play(37)),
+    (NoMove, f"F5 is not a legal move for White in {SECOND}", lambda: Solver().play(AFTER, "f5")),
+    (NoMove, f"A1 is not a legal move: White has to pass in {PASS}", lambda: AT_PASS.play("A1")),
+    (NoMove, f"A5 is not a legal move: the game is over in {END}", lambda: OVER.play("A5")),
+    (NoMove, f"move 3: D6 is not a legal move for Black in {THIRD}", lambda: START.play_all("f5d6d6")),
+    (NoMove, f"move 2: a pass is not a legal move for White in {SECOND}", lambda: START.play_all("f5 --")),
+    (NoMove, "move 2: no square has the name 'z9'", lambda: START.play_all("f5z9")),
+    *((NoMove, f"move 2: D6 is not a legal move for Black in {THIRD}", partial(AFTER.play_all, moves))
+      for moves in ("d6d6", ["D6", "D6"], iter([43, 43]))),
+    (ValueError, "it is a game in SGF, or in GGF without GM[Othello]", lambda: START.play_all("(;GM[2]B[f5];)")),
+    *((GameRefused, None, Game.of_text(text).turns) for text in ("f5f5", "z9")),
+    (TypeError, "a game is a Game or the text of a transcript, not 5", lambda: Solver().positions(5)),
+    *((NoMove, f"square {square} is not a legal move for Black in {FIRST}", partial(START.play, square))
+      for square in (64, -1, 255, 256, 256 + 19)),
+    *((NoMove, f"a pass is not a legal move for Black in {FIRST}", partial(START.play, word)) for word in PASSES),
+    *((NoMove, f"a pass is not a legal move: the game is over in {FULL.to_obf()}", partial(FULL.play, word))
+      for word in PASSES),
+    *((ValueError, f"no square has the name {it!r}", partial(call, it))
+      for call in (START.play, START.is_legal, START.piece_at, square_number) for it in ("I9", "", "I1", "A9", "A11")),
+    *((ValueError, f"no square has the number {number}", partial(call, number))
+      for call in (square_name, START.piece_at) for number in (-1, 64)),
+    *((TypeError, f"a square is a name such as 'F5' or a number from 0 to 63, not {it!r}", partial(call, it))
+      for call in (START.play, START.piece_at) for it in (None, 1.5, ["F5"])),
+    (TypeError, None, lambda: square_name("A1")),
+    *((TypeError, f"moves are a transcript or a list of squares, not {it!r}", partial(START.play_all, it))
+      for it in (5, None, b"f5d6")),
+    *((ValueError, f"{MASK}, not {mask}", partial(call, mask))
+      for call in (square_names, Symmetry.HALF_TURN.mask) for mask in (-1, 1 << 64)),
+    (ValueError, f"the game is not over, so only a Solver finds the score: {FIRST}", START.score),
+    (ValueError, f"the game is not over, so only a Solver finds the score: {PASS}", AT_PASS.score),
+    (UnknownScoring, f"{SCORING}'loser'", lambda: OVER.score("loser")),
+    *((SharedSquare, SHARES, call) for call in (
+        lambda: SHARED.legal_moves, lambda: SHARED.must_pass, lambda: SHARED.is_over, SHARED.score, SHARED.canonical,
+        lambda: SHARED.play(9), lambda: SHARED.play_all("f5"))),
+    *((UnknownSymmetry, f"a symmetry has a number from 0 to 7, not {number}", partial(START.image, number))
+      for number in (-1, 8, 256, 2**32)),
+    *((TypeError, f"{MASK}, not {it!r}", call) for it in (0.5, "a", None) for call in (
+        partial(Position, it, 2), partial(Position, 1, it), partial(START._replace, own=it))),
+    *((ValueError, f"{SIDE}{it!r}", call) for it in ("black", "x") for call in (
+        partial(Position, 1, 2, it), partial(POSITION.show, {}, it), partial(START._replace, side=it))),
+    (TypeError, None, lambda: START._replace(last_move="A1")),
+    *(((AttributeError, TypeError), None, call) for call in (
+        lambda: POSITION < START, lambda: POSITION[0], lambda: len(POSITION), lambda: POSITION + POSITION,
+        lambda: POSITION.count(1), lambda: POSITION.index(1), lambda: setattr(POSITION, "note", ""))),
+    (ValueError, "C1 has a score, but is not empty", lambda: POSITION.show({"C1": 3})),
+    *((ValueError, f"no square has the name {it!r}", lambda it=it: POSITION.show({it: 3})) for it in (9, "I9")),
+    *((TypeError, f"the score of A1 is a number, not {it!r}", call) for it in ("x", None) for call in (
+        lambda it=it: POSITION.show({"A1": it}), lambda it=it: POSITION.to_obf(moves={"A1": it}))),
+    *((TypeError, SHOWN + repr(it), partial(POSITION.show, it)) for it in (62, [], [("H1", 62)], POSITION.listed)),
+    (ValueError, "a board is saved as a picture in SVG, so its file's name ends with .svg: it.png",
+     lambda: START.show().save("it.png")),
+    (FileNotFoundError, None, lambda: START.show().save("/nowhere/it.svg")),
+    (ValueError, "A1 was the last move, but is empty", lambda: Board(*START, "X", last_move="A1")),
+    (ValueError, "no square has the name 'I9'", lambda: Board(*START, "X", last_move="I9")),
+    (ValueError, f"{LISTED}'I9'", lambda: POSITION.to_obf(moves={"I9": 3})),
+    (ValueError, f"{LISTED}3", lambda: POSITION.to_obf(moves=[(3, 3)])),
+    *((TypeError, f"a claim is an Answer(score, kind, best), not {it!r}", lambda it=it: Solver().confirm(POSITION, it))
+      for it in (62, None, (62, 0, 128), POSITION.listed)),
+    (TypeError, None, lambda: Solver().confirm(POSITION, Answer(0.5, Kind.MOVES, 1))),
+    *((TypeError, f"OBF text is of the type str or bytes, not {type(it).__name__}", partial(call, it))
+      for call in (Position.from_obf, parse_lines) for it in (5, None, ["a"])),
+    *((TypeError, LINES + what, partial(read_lines, it)) for it, what in (
+        (f"{CORNERS}\n", "a text, which parse_lines reads"), (b"", "a text, which parse_lines reads"), (5, "5"),
+        (None, "None"))),
+    (FileNotFoundError, None, lambda: read_lines("/nowhere/none.obf")),
+    *((UnknownScoring, SCORING + repr(it), lambda it=it: Solver(scoring=it)) for it in (3, -1, "loser", None, 0.5)),
+    (TooManyEntries, "more than 4194304 table entries", lambda: Solver(entries=ffosolve.MOST_ENTRIES + 1)),
+    (ValueError, "max_empties is at most 60, not 61", lambda: Solver(max_empties=61)),
+    *((error, f"{name} is {why}", partial(Solver, **{name: it})) for name in ("entries", "max_empties")
+      for it, error, why in ((-1, ValueError, "at least 0, not -1"), ("7", TypeError, "a whole number, not '7'"),
+                             (7.0, TypeError, "a whole number, not 7.0"))),
+    *((TypeError, f"a library is named by its path, not {it}; maybe Solver(max_empties={it})?", partial(Solver, it))
+      for it in (24, 7.5)),
+])
+def test_a_wrong_call_is_refused_with_its_reason(error, why, call):
+    with pytest.raises(error, match=why and f"^{re.escape(why)}$"):
+        call()
 
 
 @pytest.mark.parametrize("refusal", [
@@ -258,12 +339,10 @@ def test_a_refusal_has_the_index_of_its_position_and_is_a_value_error_or_memory_
     (ffosolve.BadSquare, 10, " " + CORNERS[:3] + "\ud800", "bad square at column 5", 5, 5),
     (ffosolve.BadSide, 11, CORNERS[:64] + " -;", "bad side at column 66", 66, 66),
 ])
-def test_a_refused_line_has_the_status_of_the_header_and_the_text_of_a_report(
-        refusal, number, text, reason, at, column):
+def test_a_refused_line_has_its_status_and_the_text_of_a_report(refusal, number, text, reason, at, column):
     assert issubclass(refusal, ffosolve.LineRefused) and issubclass(refusal, ValueError)
     for line in (text, text.encode("utf-8", "surrogatepass"), text + "\n", text + "\r\n"):
-        error = refused(refusal, Position.from_obf, line)
-        for it in (error, pickle.loads(pickle.dumps(error))):
+        for it in refused(refusal, Position.from_obf, line):
             assert (it.status, str(it), it.reason, it.at) == (number, reason, reason, at)
             assert (it.column, it.line) == (column, None)
     for it in (refusal(at, 3), pickle.loads(pickle.dumps(refusal(at, 3)))):
@@ -277,8 +356,7 @@ def test_each_call_raises_out_of_memory_and_unknown_statuses(status, refusal, re
     solver._library = library_that_returns(status)
     monkeypatch.setattr("ffosolve._library._loaded", [solver._library])
     for name in ONE + MANY:
-        error = refused(refusal, find, name, 1, solver, [POSITION])
-        for it in (error, pickle.loads(pickle.dumps(error))):
+        for it in refused(refusal, find, name, 1, solver, [POSITION]):
             assert (type(it), it.status, str(it), it.index) == (refusal, status, reason, None)
 
 
@@ -286,25 +364,7 @@ def test_each_call_raises_out_of_memory_and_unknown_statuses(status, refusal, re
 def test_a_line_whose_moves_do_not_fit_into_memory_raises_no_memory(read):
     with mock.patch("ffosolve._obf.LISTED") as listed:
         listed.findall.side_effect = MemoryError
-        assert refused(ffosolve.NoMemory, read, CORNERS).index is None
-
-
-@pytest.mark.parametrize("name", ONE + MANY)
-def test_an_object_that_is_not_a_position_is_named(name):
-    for it in ("x", "ab", None, 5, ANSWER, (1,), (1, 2, 3), (0.5, 1), ("a", "b"), CORNERS):
-        with pytest.raises(TypeError, match=r"^a position is two masks, as Position\(own, opp\) and .* not "):
-            find(name, 1, Solver(), [POSITION, it])
-    for it in (Position(-1, 0), Position(0, 2**64)):
-        with pytest.raises(ValueError, match=r"^a mask is a whole number from 0 to 2\*\*64 - 1$"):
-            find(name, 1, Solver(), [POSITION, it])
-
-
-@pytest.mark.parametrize("name", MANY)
-def test_a_single_position_is_no_list(name):
-    with pytest.raises(TypeError, match=r"^positions are a list or .*, as \[position\], not a single one$"):
-        find(name, 1, Solver(), POSITION)
-    with pytest.raises(TypeError, match="^a position is two masks, .* not [0-9.]+$"):
-        find(name, 1, Solver(), tuple(POSITION))
+        assert refused(ffosolve.NoMemory, read, CORNERS)[0].index is None
 
 
 @pytest.mark.parametrize("path", [
@@ -320,8 +380,8 @@ def test_places_are_searched_in_the_order_of_the_help(monkeypatch):
     assert libraries_to_try() == ["/of/mine.so"]
     monkeypatch.setenv("FFOSOLVE_LIBRARY", "")
     monkeypatch.setattr("os.path.exists", lambda _: True)
-    monkeypatch.setattr(sys, "prefix", "/of/venv")
-    monkeypatch.setattr(sys, "base_prefix", "/of/python")
+    monkeypatch.setattr("sys.prefix", "/of/venv")
+    monkeypatch.setattr("sys.base_prefix", "/of/python")
     folder, name = os.path.dirname(ffosolve.__file__), "libffosolve.so.1"
     of_package = [f"{folder}/{level}/{name}" for level in ("x86-64-v3", "x86-64-v2")]
     others = [f"{prefix}/lib/{name}" for prefix in ("/of/venv", "/of/python", "/usr/local")]
@@ -353,9 +413,9 @@ def test_lines_are_numbered_skipped_and_refused_and_files_are_closed(end, tmp_pa
 
 
 def test_squares_have_names_and_numbers():
-    names = [ffosolve.square_name(number) for number in range(64)]
-    assert (names[0], names[1], names[7], names[8], names[63]) == ("A1", "B1", "H1", "A2", "H8")
-    assert [ffosolve.square_number(name.lower()) for name in names] == list(range(64))
+    names = [column + row for row in "12345678" for column in "ABCDEFGH"]
+    assert [square_name(number) for number in range(64)] == names
+    assert [square_number(name.lower()) for name in names] == list(range(64))
 
 
 def test_table_entries_are_those_of_the_header():

@@ -13,6 +13,8 @@ import ffosolve
 from ffosolve import START, Position, Solver, Symmetry
 from ffosolve._library import loaded
 
+ATTRIBUTES = ("own", "opp", "side", "last_move", "listed", "number")
+
 
 class Mine(Position):
     """A subclass as a user writes one, with an attribute of its own."""
@@ -27,30 +29,27 @@ class Slotted(Position):
 
 
 def all_of(position):
-    return (type(position), tuple(position), position.side, position.last_move, position.listed, position.number,
-            getattr(position, "note", None))
+    return type(position), *(getattr(position, name, None) for name in (*ATTRIBUTES, "note"))
 
 
-@pytest.mark.parametrize("name, value", [
-    ("own", 1), ("opp", 1), ("side", "O"), ("last_move", "F5"), ("listed", ()), ("number", 3),
-    *((name, 1) for name in Position.__slots__)])
+@pytest.mark.parametrize("name", [*ATTRIBUTES, *Position.__slots__])
 @pytest.mark.parametrize("position", [Position.start(), START, POSITION, Mine(1, 2)])
-def test_no_attribute_can_be_assigned(position, name, value):
+def test_no_attribute_can_be_assigned(position, name):
     before = all_of(position)
     with pytest.raises(AttributeError):
-        setattr(position, name, value)
+        setattr(position, name, getattr(POSITION.play("H1"), name))
     with pytest.raises(AttributeError):
         delattr(position, name)
     assert all_of(position) == before
-    assert all_of(Position.start())[1:3] == ((0x0000000810000000, 0x0000001008000000), "X")
+    assert all_of(Position.start())[1:4] == (0x0000000810000000, 0x0000001008000000, "X")
+    assert "note" not in dir(POSITION) and not hasattr(POSITION, "__dict__")
 
 
 def test_mypy_sees_each_assignment(tmp_path, monkeypatch):
     mypy = pytest.importorskip("mypy.api")
     monkeypatch.setenv("MYPYPATH", os.path.dirname(os.path.dirname(ffosolve.__file__)))
-    names = ("own", "opp", "side", "last_move", "listed", "number")
     text = "from ffosolve import *\nposition = Position.start().play('F5')\ntotal: int = position.discs.black\n"
-    (tmp_path / "it.py").write_text(text + "".join(f"position.{name} = position.{name}\n" for name in names))
+    (tmp_path / "it.py").write_text(text + "".join(f"position.{name} = position.{name}\n" for name in ATTRIBUTES))
     found, _, status = mypy.run(["--strict", f"--cache-dir={tmp_path}", str(tmp_path / "it.py")])
     refused = [line.split(":")[1] for line in found.splitlines() if "is read-only" in line]
     assert (status, refused) == (1, ["4", "5", "6", "7", "8", "9"]), found
@@ -61,10 +60,9 @@ def test_mypy_sees_each_assignment(tmp_path, monkeypatch):
     *(lambda it, protocol=protocol: pickle.loads(pickle.dumps(it, protocol)) for protocol in range(2, 6))])
 @pytest.mark.parametrize("kind", [Position, Mine, Slotted])
 def test_a_copy_has_all_that_the_position_has(kind, copied):
-    played, (read,) = kind.start().play("F5"), ffosolve.read_lines([CORNERS])
-    read = read if kind is Position else kind.from_obf(CORNERS)
-    for position in (played, read, kind(1, 2, "O"), kind(1, 2)):
-        if kind is not Position:
+    for position in (kind.start().play("F5"), kind.from_obf(CORNERS), kind(1, 2, "O"), kind(1, 2),
+                     *ffosolve.read_lines([CORNERS])):
+        if type(position) is not Position:
             position.note = "kept"
         again = copied(position)
         assert all_of(again) == all_of(position)
@@ -78,9 +76,7 @@ def test_replace_and_asdict_have_the_side():
     for changes, wanted in (({"own": 4}, (4, 2, "O")), ({"opp": 4}, (1, 4, "O")), ({"side": "X"}, (1, 2, "X"))):
         changed = white._replace(**changes)
         assert (type(changed), *changed, changed.side) == (Mine, *wanted)
-    with pytest.raises(ValueError, match="^the side to move is 'X' or 'O', not 'x'$"):
-        white._replace(side="x")
-    assert all_of(white) == (Mine, (1, 2), "O", None, (), None, "")
+    assert all_of(white) == (Mine, 1, 2, "O", None, (), None, "")
 
 
 def test_a_position_with_other_masks_has_no_last_move_and_no_line_but_one_with_another_side_has():
@@ -93,26 +89,22 @@ def test_a_position_with_other_masks_has_no_last_move_and_no_line_but_one_with_a
     assert (after._replace(side="X").last_move, after._replace(opp=after.opp).last_move) == ("F5", "F5")
     same = read._replace(own=read.own, side="O")
     assert (same.to_obf(), same.listed, same.number) == (POSITION.to_obf("O"), read.listed, 1)
-    with pytest.raises(TypeError):
-        after._replace(last_move="A1")
 
 
-def test_a_position_is_no_sequence_but_two_masks():
-    for wrong in (lambda: POSITION < START, lambda: POSITION[0], lambda: len(POSITION), lambda: POSITION + POSITION,
-                  lambda: POSITION.count(1), lambda: POSITION.index(1), lambda: setattr(POSITION, "note", "")):
-        with pytest.raises((TypeError, AttributeError)):
-            wrong()
+def test_positions_with_equal_masks_are_equal_and_keep_their_colours():
     own, opp = POSITION
+    assert len({POSITION, Position(own, opp), Position(own, opp, "O")}) == 1
     assert POSITION == (own, opp) and {POSITION: 1}[own, opp] and POSITION != (opp, own)
     assert Slotted(own, opp) == Mine(own, opp) == POSITION != [own, opp]
-    assert "note" not in dir(POSITION) and not hasattr(POSITION, "__dict__")
-
-
-def test_numpy_takes_a_position_for_an_object():
-    numpy = pytest.importorskip("numpy")
-    positions = [START, POSITION]
-    found = numpy.array(positions)
-    assert (found.dtype, found.shape, list(found)) == (object, (2,), positions)
+    assert repr(POSITION) == f"Position(own={own}, opp={opp})"
+    assert repr(Position(1, 2, "O")) == "Position(own=1, opp=2, side='O')"
+    assert repr(POSITION.show()) == str(POSITION)
+    white, squares = Position(1, 2, "O"), "OX" + "-" * 62
+    for text in (white.to_obf(), "oB" + "." * 62 + "w;A1:+2;"):
+        assert Position.from_obf(text).to_obf() == squares + " O;"
+    assert white.to_obf("X") == "XO" + "-" * 62 + " X;"
+    assert white.passed().to_obf() == squares + " X;"
+    assert Solver().play(tuple(START), "f5").side == "O"
 
 
 def test_a_pickle_of_version_1_1_is_read():
@@ -150,13 +142,6 @@ def test_a_pass_is_played_where_it_is_legal():
         assert [position.is_legal(word) for position in (START, AT_PASS, OVER)] == [False, True, False]
         assert AT_PASS.play(word).to_obf() == AT_PASS.passed().to_obf() == Solver().play(AT_PASS, word).to_obf()
         assert AT_PASS.play_all([word, "A1", word]) == AT_PASS.play_all(["A1"]) == AT_PASS.passed().play("A1")
-
-
-def test_moves_of_a_list_are_counted_from_its_own_first_position():
-    middle = START.play_all("f5d6c3")
-    for moves in ("d3d4", ["D3", "D4"], iter([19, 27])):
-        with pytest.raises(ffosolve.NoMove, match="^move 2: D4 is not a legal move for Black in "):
-            middle.play_all(moves)
 
 
 def test_the_score_of_a_finished_game_needs_no_table(monkeypatch):

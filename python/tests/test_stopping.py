@@ -1,5 +1,4 @@
-"""Calls can be interrupted or cancelled. Those that may last are made by programs, which end with this one, even while
-it forks or ends."""
+"""Calls can be interrupted or cancelled. Those that may last are made by programs, which end with this one."""
 import asyncio
 import contextlib
 import contextvars
@@ -20,8 +19,7 @@ from unittest import mock
 import psutil
 import pytest
 
-from calls import ANSWER, MANY, SEARCHES, find
-from calls import POSITION as EASY
+from calls import ANSWER, MANY, POSITION as EASY, SEARCHES, find
 import ffosolve
 from ffosolve import START, Answer, Kind, Position, Solver, _library, _processes, _solvers
 
@@ -29,7 +27,6 @@ HOPELESS = START  # would take years
 HARD = Position.from_obf("XXX--OXOOXOOOOOO-XXXXXOO-XXXXOOO---XOXOO--OOOOOO---OOXOO----OOOO X;")  # 16 empty squares
 QUICK = Position.from_obf("OXXX-XO-XOXXXXXX--OXOXOXOOOOXXOXOOOXXXXXOOOOOOXXXXOOOXXX--OOX-XO O;")  # 7 empty squares
 LATE = 60  # seconds that a busy machine may take for what is done at once
-PACKAGES = os.path.dirname(os.path.dirname(ffosolve.__file__))
 
 CALLS = [(name, threads) for threads in (1, 3) for name in SEARCHES + MANY]
 each_call, on_threads = pytest.mark.parametrize("name, threads", CALLS), pytest.mark.parametrize("threads", [1, 3])
@@ -37,10 +34,14 @@ each_call, on_threads = pytest.mark.parametrize("name, threads", CALLS), pytest.
 
 @pytest.fixture(autouse=True)
 def solver():
-    """A Solver for any position. After the test, waits for the threads of its calls."""
+    """A Solver for any position. After the test, asserts that, once processors have worked for a second at most, none
+    works for this process, and no process is left. Waits for the threads of calls, too."""
     pytest.importorskip("numpy")
     gc.collect()  # of earlier tests' threads: it calls Python code, in which the exception of a handler gets lost
     yield Solver(max_empties=60)
+    # On a busy machine that may come late, since even a killed process ends on a processor.
+    wait_until(lambda: not any(working() or children() or time.sleep(0.01) for _ in range(5)), working, children,
+               most=1)
     for thread in threading.enumerate():
         if thread.name == "ffosolve":
             thread.join(10)
@@ -55,8 +56,7 @@ def state(task):
 
 def children():
     """Returns the process IDs of this process's children that have not ended."""
-    found = (child.pid for child in psutil.Process().children())
-    return sorted(child for child in found if state(child) != psutil.STATUS_ZOMBIE)
+    return [child.pid for child in psutil.Process().children() if state(child.pid) != psutil.STATUS_ZOMBIE]
 
 
 def working():
@@ -69,8 +69,7 @@ def working():
 
 
 def worked():
-    """Returns for how many seconds processors have worked for this process's children, also for those that have ended,
-    and for its threads, but not for the thread that asks."""
+    """Returns the seconds of processors for this process's children, ended or not, and for its other threads."""
     ended, running = None, 0
     while ended != os.times()[2:4]:  # otherwise one that has ended meanwhile might count twice or never
         ended, running = os.times()[2:4], 0
@@ -86,13 +85,6 @@ def wait_until(holds, *why, most=LATE):
     while not holds():
         assert time.monotonic() < end and worked() - begun < most, [it() for it in why]
         time.sleep(0.01)
-
-
-def assert_no_processor_works():
-    """Asserts that, after processors have worked for a second at most, none works for this process, and no process is
-    left. On a busy machine that may come late, since even a killed process ends on a processor."""
-    wait_until(lambda: not any(working() or children() or time.sleep(0.01) for _ in range(5)), working, children,
-               most=1)
 
 
 def by_timeout(call):
@@ -163,8 +155,7 @@ def by_asyncio(call, end=waited_for, to_thread=ffosolve.to_thread):
 
     async def main():
         task = asyncio.create_task(to_thread(begin))
-        while not has_begun.is_set():
-            await asyncio.sleep(0.01)
+        await asyncio.to_thread(has_begun.wait)
         await end(task)
 
     # A call that goes on would keep asyncio from ending.
@@ -180,7 +171,6 @@ def test_a_call_that_is_left_ends_at_once_and_stops(name, threads, leave, solver
     leave(lambda **how: find(name, threads, solver, [EASY, HOPELESS, HOPELESS], **how))
     assert worked() - before < 2.3 * threads  # the clock would also count what other programs do
     assert 0.3 <= time.monotonic() - begun < LATE / 2
-    assert_no_processor_works()
 
 
 @pytest.mark.parametrize("end", [waited_for, cancelled, dropped])
@@ -188,7 +178,6 @@ def test_a_call_ends_with_its_task_even_among_brief_ones_but_in_another_thread_o
     by_asyncio(lambda: solver.solve(HOPELESS), end)
     by_asyncio(lambda: [solver.solve(EASY) for _ in iter(bool, True)], end)
     by_asyncio(lambda: solver.solve(HOPELESS, timeout=1), end, asyncio.to_thread)
-    assert_no_processor_works()
 
 
 def test_to_thread_does_what_that_of_asyncio_does(solver):
@@ -225,7 +214,6 @@ def test_a_failed_task_of_a_group_ends_the_calls_of_the_others(solver):
     with pytest.raises(BaseException) as caught:
         asyncio.run(main())
     assert [type(error) for error in caught.value.exceptions] == [ffosolve.SharedSquare]
-    assert_no_processor_works()
 
 
 @pytest.fixture
@@ -252,8 +240,6 @@ def test_an_iterator_that_is_left_stops(threads, leave, solver):
     answers = solver.solve_iter([EASY, *[HARD] * 20, HOPELESS], threads=threads)
     assert next(answers) == ANSWER
     leave(answers)
-    del answers
-    assert_no_processor_works()
 
 
 @on_threads
@@ -263,26 +249,21 @@ def test_an_iterator_yields_what_is_finished_before_the_timeout(threads, solver)
         for answer in solver.solve_iter(positions, threads=threads, timeout=8):
             found.append(answer)
     assert found == solver.solve_all(positions[:5])
-    assert_no_processor_works()
 
 
 @on_threads
 @pytest.mark.parametrize("position, count", [(HARD, 1000), (QUICK, 500_000)], ids=["hard", "quick"])
 @pytest.mark.parametrize("leave", [by_timeout, by_signal, by_ctrl_c])
 @pytest.mark.parametrize("name", MANY)
-def test_a_call_for_many_positions_stops_between_them_and_a_timeout_is_for_all_together(
-        name, leave, position, count, threads):
-    """Without a table, a hard position takes some hundredths of a second; an iterator solves quick ones in brief calls.
-    """
+def test_a_call_for_many_positions_stops_between_them_and_has_one_timeout(name, leave, position, count, threads):
+    """Without a table, HARD takes some hundredths of a second. An iterator solves QUICK ones in brief calls."""
     leave(lambda **how: find(name, threads, Solver(entries=0), [position] * count, **how))
-    assert_no_processor_works()
 
 
 @pytest.mark.parametrize("leave", [by_signal, by_ctrl_c])
 def test_a_call_for_one_position_without_a_table_stops(leave):
     position = Position.from_obf("--O-X---O-OOX-XX-OOOOXXOXXOXXOOO-OXOXOOO-OOXXOOO--OOXO----O--O-- O;")  # takes seconds
     leave(lambda: Solver(entries=0, max_empties=21).solve(position))
-    assert_no_processor_works()
 
 
 @each_call
@@ -297,8 +278,7 @@ def test_a_wrong_timeout_is_refused(name, threads, solver):
 
 @pytest.mark.parametrize("scoring", ffosolve.Scoring)
 @pytest.mark.parametrize("how", [{}, {"timeout": 100}], ids=["", "timeout"])
-def test_another_process_finds_what_this_one_finds_and_a_timeout_that_is_not_reached_changes_nothing(
-        how, scoring, started, monkeypatch):
+def test_another_process_finds_what_this_one_finds_even_with_a_timeout(how, scoring, started, monkeypatch):
     def found(**how):
         return [str(find(*call, Solver(scoring=scoring), positions, **how))
                 for call in CALLS for positions in ([EASY, HARD, HARD], [HARD, EASY])]
@@ -327,8 +307,7 @@ print(end="solved\\n" * (name == "ffosolve"))
 
 def with_programs(folder, version):
     """Returns the path of a copy of the library, in `lib`, beside which `bin` has stand-ins of a version for both
-    programs. They write what they are asked to the file `log`, find the index of each position, and refuse 77 entries.
-    """
+    programs. They write what they are asked to `log`, find the index of each position, and refuse 77 entries."""
     (folder / "lib").mkdir()
     for name in ("bin/ffosolve", "bin/ffoscores"):
         (folder / name).parent.mkdir(exist_ok=True)
@@ -400,7 +379,6 @@ def test_a_call_stops_if_its_program_does_not_tell_its_version(does, timeout, er
     (tmp_path / "bin/ffosolve").write_text(f"#!/bin/sh\n{does}\n")
     with pytest.raises(error, match=f"^{why}$"):
         Solver(library).solve_all([HARD] * 2, threads=threads, timeout=timeout)
-    wait_until(lambda: not children(), children)
 
 
 def test_a_process_whose_call_is_left_before_it_gets_its_list_ends(solver, monkeypatch):
@@ -408,7 +386,6 @@ def test_a_process_whose_call_is_left_before_it_gets_its_list_ends(solver, monke
     with pytest.raises(Left):
         solver.solve(HARD)
     gc.collect()
-    wait_until(lambda: not children(), children)
 
 
 def test_an_ended_process_is_reported_even_if_its_status_is_lost(solver):
@@ -447,10 +424,10 @@ def test_a_forked_process_has_processes_of_its_own(solver):
         (process,) = children()
         forked = os.fork()
         if not forked:
-            status = 1
             with contextlib.suppress(BaseException):
-                status = 0 if not _processes.PROCESSES and solver.solve(HARD) == wanted else 2
-            os._exit(status)
+                assert not _processes.PROCESSES and solver.solve(HARD) == wanted
+                os._exit(0)
+            os._exit(1)
         assert os.waitpid(forked, 0)[1] == 0
         assert (solver.solve(HARD), children()) == (wanted, [process])
         os.kill(process, signal.SIGKILL)
@@ -512,21 +489,15 @@ PROGRAM = f"""if True:
 """
 
 
-def ran(code, packages=PACKAGES, **how):
-    return subprocess.run([sys.executable, "-c", PROGRAM + code], env={**os.environ, "PYTHONPATH": packages}, cwd="/",
+def ran(code, **how):
+    packages = {"PYTHONPATH": os.path.dirname(os.path.dirname(ffosolve.__file__))}
+    return subprocess.run([sys.executable, "-c", PROGRAM + code], env={**os.environ, **packages}, cwd="/",
                           capture_output=True, text=True, timeout=LATE, **how)
 
 
 @pytest.mark.parametrize("code", [
     "    begin()", "    begin(); os._exit(0)", "    begin(); sys.exit('failed')",
-    "    begin(); os.kill(os.getpid(), signal.SIGKILL)"])
-def test_the_processes_end_with_the_program(code):
-    (process,) = map(int, ran(code).stdout.split())
-    wait_until(lambda: state(process) == psutil.STATUS_ZOMBIE)
-
-
-def test_a_forked_process_does_not_keep_the_calls_of_its_killed_parent():
-    code = """
+    "    begin(); os.kill(os.getpid(), signal.SIGKILL)", """
     begin()
     child = os.fork()
     if not child:
@@ -534,12 +505,12 @@ def test_a_forked_process_does_not_keep_the_calls_of_its_killed_parent():
         time.sleep(600)
     print(child, flush=True)
     os.kill(os.getpid(), signal.SIGKILL)
-"""
-    process, child = map(int, ran(code).stdout.split())
-    try:
-        wait_until(lambda: state(process) == psutil.STATUS_ZOMBIE)
+"""])
+def test_the_processes_end_with_the_program_even_if_one_that_it_has_forked_goes_on(code):
+    process, *forked = map(int, ran(code).stdout.split())
+    wait_until(lambda: state(process) == psutil.STATUS_ZOMBIE)
+    for child in forked:
         assert state(child) != psutil.STATUS_ZOMBIE
-    finally:
         os.kill(child, signal.SIGKILL)
 
 
