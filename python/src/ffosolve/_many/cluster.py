@@ -91,7 +91,7 @@ class Cluster(Engine):
         self.count = self.threads = self.silent = 0
         self.places: Dict[str, Worker] = {}  # which worker has a part, by Dask's keys
         self.tested: Set[Worker] = set()  # which have solved a known line
-        self.left_out: Set[Worker] = set()  # which get no part; of a machine (host, ""), untested ones do not
+        self.left_out: Set[Worker] = set()  # which get no part; (host, "") stands for a machine's untested workers
         self.failed: DefaultDict[Worker, Set[str]] = defaultdict(set)  # the parts that each failed in a row
         self.ends: DefaultDict[str, Dict[str, int]] = defaultdict(dict)  # of workers with a part or at a host, by keys
         self.signs: Dict[Worker, Tuple[object, float]] = {}  # what each worker does, and since when

@@ -87,8 +87,8 @@ class Run:
     """A list that is solved in a folder, in `parts`: see `cut`."""
 
     def __init__(self, folder: Path, task: Task, source: Path, name: str, files: Files, is_remote: bool) -> None:
-        """Begins or continues a run. `files` are the programs and any --book-in. If other machines solve it, it
-        `is_remote`: then these are in memory if no program runs in its folder."""
+        """Begins or continues a run. `files` are the programs and any --book-in. `is_remote`: other machines solve the
+        list; then, if no program works from the folder (such as one mounted noexec), memory holds the files."""
         self.folder, self.task, self.name = folder, task, name
         self.statuses: Dict[str, int] = {}  # the program's, for each solved part's digest
         with refusing("read", name), source.open("rb") as file:

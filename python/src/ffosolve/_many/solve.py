@@ -110,7 +110,8 @@ def place_of(file: int) -> str:
 
 class Pack:
     """A run's programs and --book-in, which solve parts on this machine: files in its folder, `place`, or `contents` in
-    memory. Each worker of a Dask cluster makes one by `source`, this module's text, until the client ends."""
+    memory. Each worker of a Dask cluster has one, and drops it when the client ends. They pass it on as built-in types,
+    so they need no package of ours, and no certain Python: `source` is the text of this module."""
 
     def __init__(self, source: str, task: Task, contents: Dict[str, bytes], place: Path = Path()) -> None:
         self.source, self.task, self.contents = source, task, contents
@@ -119,7 +120,7 @@ class Pack:
         self.program, self.fault, self.lock = "", "", threading.Lock()
 
     def __reduce__(self) -> Tuple[Any, ...]:
-        """Returns a function and its arguments that make a copy, of built-in types: for any Python, without ours."""
+        """Returns a function and its arguments that make a copy on a machine without this module."""
         contents = self.contents or {name: Path(path).read_bytes() for name, path in self.files.items()}
         names = {"source": self.source, "names": {"__name__": "ffosolve"}, "task": self.task, "contents": contents}
         return eval, ("exec(source, names) or names['Pack'](source, task, contents)", {}, names)
@@ -162,7 +163,8 @@ class Pack:
             return self.fault
 
     def fault_of(self, program: str) -> str:
-        """Returns "" if a program is the task's and solves KNOWN in time and, if known, as before; or why not."""
+        """Returns why a program is not fit, or "" if it has a SHA-256 of the task and solves KNOWN in KNOWN_SECONDS, as
+        the task knows or will know."""
         if sha256(Path(program).read_bytes()) not in self.task["files"].values():
             return "is damaged"
         end = time.monotonic() + KNOWN_SECONDS
@@ -177,7 +179,8 @@ class Pack:
     def solve(self, program: str, text: bytes, most: Optional[int] = None,
               is_wanted: Callable[[], bool] = lambda: True) -> Tuple[bytes, str]:
         """Solves the lines `text` of a part with the program of that path, and kills it once `is_wanted` returns false.
-        Returns (record, "") or, if it fails, (b"", the reason). The record is sealed with `digest_of`, for `most`."""
+        Returns (record, "") or, if the program fails, (b"", the reason). A record has the results under their digest.
+        For `most`, see `digest_of`."""
         task, start = self.task, time.monotonic()
         given = {**task["options"], **task["speed"], "--book-in": self.files.get("book-in")}
         words = [name if value == "" else f"{name}={value}" for name, value in given.items() if value is not None]
@@ -219,7 +222,8 @@ def read_task(folder: Path) -> Task:
 
 @functools.lru_cache(maxsize=None)
 def opened(folder: Path) -> Path:
-    """Returns a path to a folder that is UTF-8, as programs want, and leads nowhere once this process has ended."""
+    """Returns a path to a folder that leads through this process: it is UTF-8, as the program wants, and once this
+    process has ended, no program starts there."""
     return Path(place_of(os.open(folder, os.O_RDONLY)))
 
 
