@@ -1,4 +1,5 @@
 """The folder of a run: its list, what solves that, and the results of parts, those of other lists and options, too."""
+import collections
 import contextlib
 import filecmp
 import json
@@ -22,7 +23,8 @@ Files = Dict[str, Tuple[bytes, int]]  # {name: (content, mode)}
 
 def weight_of(empties: List[int], most: int) -> float:
     """Returns the expected work for a part with these `empties_of`: GROWTH ** n more for a line with n <= `most`."""
-    return PART + sum(LINE + (GROWTH ** count if count <= most else 0) for count in empties)
+    lines = collections.Counter(empties)
+    return PART + sum(times * (LINE + (GROWTH ** count if count <= most else 0)) for count, times in lines.items())
 
 
 class Part(NamedTuple):
