@@ -112,7 +112,7 @@ def answers_of(*command, count=LARGE):
         ran = PREFIX.run(*command, text=f"{masks[0]}{wrong}\n")
         is_refused = "position 2: the masks share a square" in ran.stderr
         assert (ran.returncode, ran.stdout, is_refused) == (1, "", wrong == "3 2"), ran
-        assert "empty squares" not in ran.stderr, wrong  # as if it was read as other masks
+        assert "empty squares" not in ran.stderr, wrong  # it would name them if it read this as other masks
 
 
 def test_examples_in_c_and_cxx_are_built_by_pkg_config():

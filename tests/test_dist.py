@@ -66,8 +66,8 @@ def dist(shared_folder):
 
 def shows(readme, at, start):
     """Asserts that the README of packages has at most 400 words, and that its commands succeed (ffoscores: status 1)
-    and print the known results for first.obf and masks.txt. Its first two blocks are what has to be run before, of the
-    package for Debian and of the archive; `at` is the number of one. `start` runs a command."""
+    and print the known results for first.obf and masks.txt. Its first block prepares for them with the package for
+    Debian (`at` 0), its second with the archive (`at` 1). `start` runs a command."""
     need("cc", "pkg-config", "man")
     text = readme.read_text()
     assert len(text.split()) <= 400
