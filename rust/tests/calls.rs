@@ -127,9 +127,18 @@ fn transcripts_are_played() {
 
 #[test]
 fn the_first_word_of_a_transcript_that_is_no_legal_move_is_refused() {
-    for (text, number, word) in
-        [("f5d6d6", 3, "d6"), ("f5 pass", 2, "pass"), ("e3", 1, "e3"), ("f5\u{e4}\u{f6}", 2, "\u{e4}\u{f6}")]
-    {
+    for (text, number, word) in [
+        ("f5d6d6", 3, "d6"),
+        ("f5 pass", 2, "pass"),
+        ("e3", 1, "e3"),
+        ("F5z9d6", 2, "z9"),
+        ("f5 d", 2, "d"),
+        ("f5 12 +2 d6", 2, "+2"),
+        ("f5 ++", 2, "++"),
+        ("f5d6c33d3", 4, "3d"),
+        ("f5 [d6] c3", 2, "[d"),
+        ("f5\u{e4}\u{f6}", 2, "\u{e4}\u{f6}"),
+    ] {
         let error = Position::start().play_all(text).expect_err(text);
         assert_eq!(error, TranscriptError { number, word: word.to_owned() });
         assert_eq!(error.to_string(), format!("move {number}: {word} is not a legal move"));
