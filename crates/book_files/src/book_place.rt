@@ -5,7 +5,7 @@ ghost use Rattle.std.specs.IoError.{error_kind};
 ghost use Rattle.book_files.specs.BookPlace.{IsFree, IsRefusalOf};
 ghost use Rattle.book_files.specs.SolveError.{IsPlaceErrorOf, IsSilent, solve_status_of};
 ghost use Rattle.book_files.specs.declared.solve_error.SolveError.TheVariants.{Program};
-ghost use Rattle.program_parts.specs.declared.program_error.ProgramError.TheVariants.{CannotRead};
+ghost use Rattle.program_parts.specs.declared.program_error.ProgramError.TheVariants.{CannotRead, Memory};
 
 use crate::found::Found;
 use crate::solve_error::{SolveError, place_error};
@@ -117,6 +117,8 @@ pub fn find_place<'a, T: Files>(
     ensures found { IfOk result (λ place. found ≡ Ok place.found) }
     ensures free { IfOk result (λ place. IsFree place.found) }
     ensures refused { IfOk found (λ f. (IsFree f → ⊥) → IfErr result (IsRefusalOf f name.entry)) }
+    ensures memory { IfErr found (λ fault. error_kind fault ≡ ErrorKind.OutOfMemory
+        → IsErrOf result (Program Memory)) }
     ensures unread { IfErr found (λ fault. (error_kind fault ≡ ErrorKind.OutOfMemory → ⊥)
         → IsErrOf result (Program (CannotRead name.entry (error_kind fault)))) }
     ensures named { IfErr result (IsPlaceErrorOf name.entry.now) }

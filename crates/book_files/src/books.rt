@@ -174,6 +174,7 @@ pub fn read_claims<'a, T: Files>(
 ) -> Result<Option<Claims>, SolveError<'a>>
     ensures named { IfErr result (IsBookErrorOf (option_map string_bytes name.now)) }
     ensures none { name.now ≡ None → result ≡ Ok None }
+    ensures some { IfOk result (λ claims. claims ≡ None → name.now ≡ None) }
     ensures silent { IfErr result IsSilent }
     ensures status { IfErr result
         (λ error. (solve_status_of error ≡ 1) ⊎ (solve_status_of error ≡ 3)) }

@@ -1,8 +1,8 @@
 //! Positions to be solved.
 
-ghost use Rattle.std.specs.Prelude.{◌≡◌, ◌≤◌, ◌↔◌, min, IsOk, IfOk, IfErr};
+ghost use Rattle.std.specs.Prelude.{◌≡◌, ◌≤◌, ◌↔◌, min, IsTrue, IsOk, IfOk, IfErr};
 ghost use Rattle.othello_bits.specs.Pos.{empties_of};
-ghost use Rattle.endgame_search.specs.Limits.{most_empties};
+ghost use Rattle.endgame_search.specs.Limits.{fewest_shared_empties, most_empties};
 ghost use Rattle.endgame_search.specs.Task.{TaskView};
 
 use othello_bits::Pos;
@@ -76,7 +76,9 @@ impl Task {
 
     /// Whether threads that solve the task at once over one table are faster together than one of
     /// them alone: whether its position has at least `FEWEST_SHARED_EMPTIES` empty squares.
-    pub fn is_worth_sharing(self) -> bool {
+    pub fn is_worth_sharing(self) -> bool
+        ensures { IsTrue result ↔ (fewest_shared_empties ≤ empties_of self.position) }
+    {
         self.pos().empties() >= Self::FEWEST_SHARED_EMPTIES
     }
 }

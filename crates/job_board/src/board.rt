@@ -132,8 +132,9 @@ impl Board {
     }
 
     /// The first taken job that threads can share, of those after that of place `helped`: 0 for any.
-    /// None if there is none. A thread that always gives the place of the job that it helped with
-    /// last helps with no job twice, unless the job is given back and taken again.
+    /// None if there is none. A job that was taken beside 128 others is not found. A thread that
+    /// always gives the place of the job that it helped with last helps with no job twice, unless the
+    /// job is given back and taken again.
     pub fn find_taken(&self, helped: u64) -> Option<SharedJob>
         ensures stage { IfSome result
             (λ s. stage_at self.now s.job.id.sender s.job.id.number ≡ Some Taken) }

@@ -1,7 +1,7 @@
 //! Solves the jobs of a desk.
 
-ghost use Rattle.std.specs.Prelude.{◌≡◌, IfOk, IfErr, OnErr};
-ghost use Rattle.job_board.specs.Turns.{ErrandGives};
+ghost use Rattle.std.specs.Prelude.{◌≡◌, IfOk, IfErr, IfSome, OnErr};
+ghost use Rattle.job_board.specs.Turns.{ErrandGives, IsLater};
 ghost use Rattle.suite_runs.specs.declared.run_fault.RunFault.TheVariants as fault;
 
 use crate::gate::Gate;
@@ -58,7 +58,9 @@ impl<'a, T: Bounds, G: Gate> Worker<'a, T, G> {
 
     // Takes a job at the desk. Where the thread would wait, it gets a job to help with, after that of
     // place `helped`, if help is of use over the table.
-    fn take<R: Wait>(&self, rt: &R, helped: u64) -> Option<Errand<Job>> {
+    fn take<R: Wait>(&self, rt: &R, helped: u64) -> Option<Errand<Job>>
+        ensures { IfSome result (IsLater helped) }
+    {
         if self.solver.is_worth_sharing() {
             return self.desk.take_or_help(rt, helped);
         }
@@ -76,6 +78,7 @@ impl<'a, T: Bounds, G: Gate> Worker<'a, T, G> {
     ) -> Result<Errand<Turn>, Mixed>
         ensures ok { IfOk result (ErrandGives client.old client.new) }
         ensures err { OnErr result (client.new ≡ client.old) }
+        ensures later { IfOk result (IsLater helped) }
     {
         if self.solver.is_worth_sharing() {
             return self.desk.turn_or_help(rt, client, helped);

@@ -11,7 +11,7 @@ use Rattle.program_settings.specs.InputFault.{first_large}
 use Rattle.program_settings.specs.Limits.{most_files}
 use Rattle.book_files.specs.SolveError.{IsSilent, solve_error_text, solve_status_of}
 use Rattle.book_files.specs.declared.solve_error.SolveError.{SolveError}
-use Rattle.book_files.specs.declared.solve_error.SolveError.TheVariants.{Program, BookOnDevice, BadPlace, OverwritesFile, OverwritesBookIn}
+use Rattle.book_files.specs.declared.solve_error.SolveError.TheVariants.{Program, BadBook, BookOnDevice, BadPlace, OverwritesFile, OverwritesBookIn}
 use Rattle.program_parts.specs.ProgramError.{IsInputError}
 use Rattle.program_parts.specs.declared.program_error.ProgramError.TheVariants.{Memory, CannotReadInput, CannotWriteOutput, CannotRead, CannotWrite}
 
@@ -56,13 +56,14 @@ pub record ShowsError (old new : Option (List ℕ)) (status : ℕ) : Type 0 wher
   pub shown : Appends old new (solve_error_text error)
 
 -- a file that the error names is one of the request: the book that is read or written, or a list;
--- and standard input is read only without lists
+-- a bad book comes only where one is read, and standard input is read only without lists
 abbrev pub NamesFileOf : Request → SolveError → Type 0
 NamesFileOf r (Program (CannotRead name kind)) =
     (r.book_in ≡ Some name.now)
     ⊎ ((r.book_out ≡ Some name.now) ⊎ (IsInputError r.files (CannotRead name kind)))
 NamesFileOf r (Program CannotReadInput) = IsInputError r.files CannotReadInput
 NamesFileOf r (Program (CannotWrite name kind)) = r.book_out ≡ Some name.now
+NamesFileOf r (BadBook fault) = IsSome r.book_in
 NamesFileOf r (BookOnDevice name) = r.book_in ≡ Some name.now
 NamesFileOf r (BadPlace name kind) = r.book_out ≡ Some name.now
 NamesFileOf r (OverwritesFile name) = r.book_out ≡ Some name.now
