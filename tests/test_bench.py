@@ -1,5 +1,4 @@
 """The programs in bench/: their usage, and weights of the search; results of the FFO endgame test in docs/ffo.md."""
-import collections
 import itertools
 import os
 import re
@@ -10,7 +9,7 @@ from types import SimpleNamespace
 
 import pytest
 
-from tests.support import ROOT, need, run, stored
+from tests.support import ROOT, run, stored
 
 
 def test_the_document_has_every_published_score_and_move():
@@ -34,21 +33,19 @@ def test_the_benchmark_prints_its_usage():
     ("tables 18 18", (0.6, 0.9, 0.5, 0.7, 0.4), "18" + r" \| 0.2 s" * 6),
 ))
 def test_the_least_times_count_and_a_ratio_is_proved_by_plain(monkeypatch, capsys, words, of_ffosolve, row):
-    """Nothing is run: the processor seconds are made up. Each list takes ffosolve those of `of_ffosolve` in turn, the
-    empty list 0.2, and the same search in plain Rust takes 9, 11 and 8."""
-    started, taken = [], collections.defaultdict(lambda: itertools.cycle(of_ffosolve))
+    """Nothing is run: the processor seconds are made up, and a process has them as its ID. Each list takes ffosolve
+    those of `of_ffosolve` in turn, the empty list 0.2, and the same search in plain Rust takes 9, 11 and 8."""
+    taken = {}
 
     def begin(words, **how):
-        started.append(words)
         if "peer" in words[0]:
-            taken.setdefault(tuple(words), itertools.cycle((9, 11, 8)))
-        elif not os.path.getsize(words[-1]):
-            taken.setdefault(tuple(words), itertools.repeat(0.2))
-        return SimpleNamespace(pid=len(started) - 1, args=words)
+            seconds = (9, 11, 8)
+        else:
+            seconds = of_ffosolve if os.path.getsize(words[-1]) else (0.2,)
+        return SimpleNamespace(pid=next(taken.setdefault(tuple(words), itertools.cycle(seconds))), args=words)
 
     def wait(pid, options):
-        seconds = next(taken[tuple(started[pid])])
-        return pid, 0, SimpleNamespace(ru_utime=seconds / 4, ru_stime=seconds * 3 / 4)
+        return pid, 0, SimpleNamespace(ru_utime=pid / 4, ru_stime=pid * 3 / 4)
 
     for place, name, act in ((subprocess, "Popen", begin), (subprocess, "run", lambda *words, **how: None),
                              (os, "wait4", wait), (sys, "argv", ["bench/run", *words.split()]),
@@ -60,7 +57,6 @@ def test_the_least_times_count_and_a_ratio_is_proved_by_plain(monkeypatch, capsy
 
 
 def test_bench_weights_fits_planted_weights_and_prints_the_same_again_in_the_form_of_weights_rt(folder):
-    need("rustc")
     for words in (["-o", "weights"], ["--test", "-o", "planted"]):
         run("rustc", "-Copt-level=3", *words, ROOT / "bench/weights.rs", check=True)
     run("./planted", check=True)

@@ -100,9 +100,8 @@ def test_a_game_that_is_over_before_its_position_has_the_score_of_its_end(alone)
     assert alone("check", "new.wtb").stdout == counts(4, 0)
     write("it.wtb", wthor(right + EXACT_RECORDS, empties=EMPTIES))
     games(*COMPARE, out=counts(4 + COUNT, 0))
-    where = zip((51, 50, 40, 34), (9, 10, 20, 26), range(1, 5))
-    games("new.wtb", err="".join(f"new.wtb, game {number}, move {moves}: it ends here, with {left} empty squares; "
-                                 "30 are asked for\n" for left, moves, number in where))
+    games("new.wtb", err="".join(f"new.wtb, game {at}, move {moves}: it ends here, with {60 - moves} empty squares; "
+                                 "30 are asked for\n" for at, moves in enumerate((9, 10, 20, 26), 1)))
 
 
 @pytest.mark.parametrize("content, book, out", (
@@ -124,18 +123,14 @@ def test_wrong_scores_are_reported_and_all_are_counted(content, book, out):
         fix(3, "no theoretical score is compared, so --fix has none to write")
 
 
-WRONG_SCORES = [(f"--:{score};", f"its line 2 has the score {score}, with which no game ends")
-                for score in ("+99", "-99", "+66", "-66", "+01", "-63")]
-NO_ENTRY = [(entry, "its line 2 is not an entry of a book")
-            for entry in ("A1:+02; B1:+04;", "A1:+2;", "A1:+100;", "A9:+02;", "PS:+02; A1:+02;", "")]
-NO_HEADER = [(book, "it does not begin with `% ffobook 2 winner`, as what ffosolve-many --book-out writes")
-             for book in ("", "".join(LINES), "\n" + BOOK, "[1]\n1 +02 A1 unlisted\nsolved 1 refused 0\n",
-                          *(BOOK.replace("winner", other) for other in ("discs", "sign", "winner ")))]
-
-
 @pytest.mark.parametrize("book, why", (
-    *((f"{HEADER}{LINES[0][:67]} {entry}\n{''.join(LINES[1:])}", why) for entry, why in WRONG_SCORES + NO_ENTRY),
-    *NO_HEADER,
+    *((BOOK.replace(LINES[0][67:], f" --:{score};\n", 1), f"its line 2 has the score {score}, with which no game ends")
+      for score in ("+99", "-99", "+66", "-66", "+01", "-63")),
+    *((BOOK.replace(LINES[0][67:], f" {entry}\n", 1), "its line 2 is not an entry of a book")
+      for entry in ("A1:+02; B1:+04;", "A1:+2;", "A1:+100;", "A9:+02;", "PS:+02; A1:+02;", "")),
+    *((book, "it does not begin with `% ffobook 2 winner`, as what ffosolve-many --book-out writes")
+      for book in ("", "".join(LINES), "\n" + BOOK, "[1]\n1 +02 A1 unlisted\nsolved 1 refused 0\n",
+                   *(BOOK.replace("winner", other) for other in ("discs", "sign", "winner ")))),
     (BOOK + "% more\n", f"its line {COUNT + 2} is not an entry of a book"),
     (BOOK.replace("X;", "O;"), "its line 2 is not an entry of a book"),
     (BOOK[:-3], f"its line {COUNT + 1} is not an entry of a book"),
@@ -418,36 +413,24 @@ def test_another_number_of_empty_squares_goes_on_in_the_same_folder():
         assert (len(results()) > before) == added
 
 
-@pytest.fixture
-def slow_check():
-    """The words of a command that checks 90 games, one after the other, and what it prints."""
+@pytest.mark.parametrize("number, of_all", ((signal.SIGINT, True), (signal.SIGTERM, False), (signal.SIGKILL, False)))
+def test_an_interrupted_check_goes_on_and_a_second_one_in_its_folder_was_refused(start, number, of_all):
+    """It checks 90 games, one after the other. While the second one tries, the first is stopped."""
     played = [game for game in random_games(110, seed=8) if EMPTIES in positions_of(game)][:90]
     exact = [discs_of_black(positions_of(game)[EMPTIES]) for game in played]
     write("it.wtb", wthor(list(map(record, played, exact)), empties=EMPTIES))
-    return (sys.executable, PROGRAM, *CHECK, "--lines=1", "--jobs=1"), counts(90, 0)
-
-
-@pytest.mark.parametrize("number, of_all", ((signal.SIGINT, True), (signal.SIGTERM, False), (signal.SIGKILL, False)))
-def test_an_interrupted_check_goes_on(start, slow_check, number, of_all):
-    words, printed = slow_check
+    words = (sys.executable, PROGRAM, *CHECK, "--lines=1", "--jobs=1")
     child = start(*words, start_new_session=True)
     wait_until(results)
+    os.killpg(child.pid, signal.SIGSTOP)
+    ends((3, "", f"ffosolve-many: another run works in it.wtb.check\n{FAILED}\n"), *words)
+    os.killpg(child.pid, signal.SIGCONT)
     (os.killpg if of_all else os.kill)(child.pid, number)
     child.communicate(timeout=SECONDS)
     assert child.returncode == -number
     assert 0 < len(results()) < 90
-    games(*words[2:], out=printed)
+    games(*words[2:], out=counts(90, 0))
     assert len(results()) == 90
-
-
-def test_a_second_check_in_one_folder_is_refused(start, slow_check):
-    words, printed = slow_check
-    first = start(*words, start_new_session=True)
-    wait_until(results)
-    os.killpg(first.pid, signal.SIGSTOP)
-    ends((3, "", f"ffosolve-many: another run works in it.wtb.check\n{FAILED}\n"), *words)
-    os.killpg(first.pid, signal.SIGCONT)
-    assert first.communicate(timeout=SECONDS)[0].decode() == printed
 
 
 def test_check_can_be_cut_for_another_scheduler():

@@ -10,7 +10,7 @@ import shutil
 
 import pytest
 
-from tests.prefix import blocks_of, print_what_is_shown
+from tests.prefix import blocks_of, names_of_files, print_what_is_shown
 from tests.support import MOST_BYTES, ROOT, built, copy_many, ends, need, run, stored, write
 
 DOCUMENTS = ["README.md", "CONTRIBUTING.md", *sorted(f"docs/{path.name}" for path in ROOT.glob("docs/*.md"))]
@@ -21,21 +21,16 @@ DECLARES = (r"(?m)^ *(?:(?:[\w()\"]+ )*(?:NAME *:|(?:record|data|fn|const|struct
             r"pub use [^;]*\bNAME\b)")
 
 
-def ignored(names):
-    """Returns the paths among `names` that git ignores in the checkout."""
-    return run("git", "-C", ROOT, "check-ignore", "--no-index", *names, text=True).stdout.splitlines()
-
-
 @pytest.mark.parametrize("name", TEXTS)
 def test_commands_print_what_is_shown_and_leave_only_ignored_files(folder, name):
     built()
-    for linked in set(os.listdir(ROOT)).difference(ignored(os.listdir(ROOT))):
-        if not linked.startswith("."):
-            os.symlink(ROOT / linked, linked)
+    for linked in {path.partition("/")[0] for path in names_of_files() if not path.startswith(".")}:
+        os.symlink(ROOT / linked, linked)
     print_what_is_shown(TEXTS[name])
     left = [made for made in os.listdir() if not os.path.islink(made)]
     left += [made for made in MADE.findall(blocks_of(TEXTS[name], "sh")) if not made.startswith("/")]
-    assert set(left) == set(ignored(left))
+    ignored = run("git", "-C", ROOT, "check-ignore", "--no-index", *left, text=True).stdout.splitlines()
+    assert set(left) == set(ignored)
 
 
 def test_make_takes_each_command_line_of_the_documents():

@@ -10,7 +10,7 @@ import pytest
 
 from bench import player
 
-from .support import ROOT, need, run
+from .support import ROOT, run
 from .games import NAMES, positions_of, random_games, squares_of, transcript
 import ffosolve
 from ffosolve import Position, Scoring, Solver
@@ -111,7 +111,6 @@ def test_a_board_as_text_has_letters_scores_and_the_side_to_move():
 
 def picture(svg):
     """Returns a function from x and y, in pixels from the left and the top, to the picture's colour there (hex)."""
-    need("rsvg-convert")
     png = run("rsvg-convert", input=svg.encode(), check=True).stdout
     picture = pytest.importorskip("PIL.Image").open(io.BytesIO(png)).convert("RGB")
     return lambda x, y: "".join(f"{part:02x}" for part in picture.getpixel((x, y)))

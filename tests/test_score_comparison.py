@@ -183,16 +183,13 @@ def test_output_for_another_list_is_refused(scored):
     refuses(3, KINDS, KINDS)  # the list again
 
 
-@pytest.mark.parametrize("answer", (
-    "", "H1:+62;", "A1:+52;", "H1:+62; A1:+52; D4:+2;", "H1:+62; A1:+52; PS:+2;", "H1:+62; A1:+52; H1:+62;", "PS:+62;",
-    "--:+62;", "H1:+62; A1:+52.0;", "% H1:+62; A1:+52;",
+@pytest.mark.parametrize("line, moves, others", (
+    (SCORES[1], 2, (b"", b"H1:+62;", b"A1:+52;", b"H1:+62; A1:+52; D4:+2;", b"H1:+62; A1:+52; PS:+2;",
+                    b"H1:+62; A1:+52; H1:+62;", b"PS:+62;", b"--:+62;", b"H1:+62; A1:+52.0;", b"% H1:+62; A1:+52;")),
+    (SCORES[5], 1, (b"--:-64;", b"A1:-64;", b"B1:-64;")),
+    (SCORES[6], 1, (b"PS:+32;", b"A1:+32;", b"B1:+32;")),
 ))
-def test_scores_of_some_moves_or_of_other_moves_are_refused(answer):
-    refuses(1, [f"{BOARD} H1:+62; A1:+52;"], [f"{BOARD} {answer}"])
-
-
-@pytest.mark.parametrize("position, move", ((SCORES[5], b"PS"), (SCORES[6], b"--")))
-def test_a_pass_and_the_end_of_a_game_are_scored_as_such(position, move):
-    assert compare_scores([position], [position]).moves == 1
-    for other in {b"PS", b"--", b"A1", b"B1"} - {move}:
-        refuses(1, [position], [position.replace(move, other)])
+def test_scores_of_some_moves_or_of_others_are_refused_and_a_pass_and_the_end_of_a_game_are_moves(line, moves, others):
+    assert compare_scores([line], [line]).moves == moves
+    for other in others:
+        refuses(1, [line], [line[:67] + b" " + other])
