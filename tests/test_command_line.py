@@ -7,7 +7,6 @@ import pytest
 from tests.support import MOST_BYTES, ROOT, SECONDS, built, ends, positions, run, stored, write
 from ffosolve import MOST_ENTRIES
 
-LARGE = MOST_ENTRIES + 1
 PROGRAMS = ("ffosolve", "ffoscores")
 PROGRESS = re.compile(rb"ffosolve: solved (\d+) of (\d+) in (\d+) s\r?\n")
 
@@ -18,9 +17,9 @@ REFUSED = [
     ("--help=3", "3"), ("--version=1", "1"), ("--complete=1", "1"), ("--table", "--table"), ("--table -- 5", "--table"),
     ("--max-empties", "--max-empties"), ("--scoring", "--scoring"), ("--scoring=", "--scoring"),
     ("--scoring best", "best"), ("--scoring=sig", "sig"), ("--table=", ""), ("--table x", "x"),
-    ("--table x --help", "x"), ("--table=-3", "-3"), (f"--table {LARGE}", f"{LARGE}"), ("--max-empties=61", "61"),
-    ("--workers 65", "65"), ("--table 5 --table 6", "--table"), ("--complete --complete", "--complete"),
-    ("--scoring discs --scoring best", "--scoring"),
+    ("--table x --help", "x"), ("--table=-3", "-3"), (f"--table {MOST_ENTRIES + 1}", f"{MOST_ENTRIES + 1}"),
+    ("--max-empties=61", "61"), ("--workers 65", "65"), ("--table 5 --table 6", "--table"),
+    ("--complete --complete", "--complete"), ("--scoring discs --scoring best", "--scoring"),
 ]
 REFUSED_BY_ONE = {
     "ffosolve": [("--book-in", "--book-in"), ("--book-out --help", "--book-out"), ("--progress=1", "1")],
@@ -55,40 +54,36 @@ def test_help_is_printed_whatever_follows_and_names_the_limits(pipe, name):
     assert set(re.findall(r"(\d+) MiB", text)) == {"1"}
 
 
-@pytest.mark.parametrize("name, what, words", (
+@pytest.mark.parametrize("names, what, words", (
     ("ffosolve", "all reports were printed", "right"),
     ("ffosolve", "--help", "--help"),
-    ("ffosolve", "more than 64 files", "right " * 65),
     ("ffosolve", "a file larger than 1 MiB", "large"),
-    ("ffosolve", "the command line is refused", "--helpp"),
     ("ffosolve", "a file or a stream can't be read", "none.obf"),
     ("ffosolve", "the book of --book-in is refused", "--book-in wrong right"),
     ("ffosolve", "--book-out would overwrite another file", "--book-out wrong right"),
+    ("ffosolve ffoscores", "more than 64 files", "right " * 65),
+    ("ffosolve ffoscores ffosolve-many ffosolve-games", "the command line is refused", "--best"),
     ("ffoscores", "no line is refused and there is no remark", "right"),
     ("ffoscores", "--version", "--version"),
     ("ffoscores", "a line is refused", "wrong"),
-    ("ffoscores", "the command line is refused", "--helpp"),
-    ("ffoscores", "more than 64 files", "right " * 65),
     ("ffoscores", "a file that can't be read", "none.obf"),
     ("ffoscores", "is larger than 1 MiB", "large"),
     ("ffosolve-many", "done", "--quiet right"),
     ("ffosolve-many", "there is a remark or a refused line", "--quiet --scores wrong"),
-    ("ffosolve-many", "the command line is refused", "--best"),
-    ("ffosolve-many", "a file can't be read", "none.obf"),
+    ("ffosolve-many ffosolve-games", "a file can't be read", "none.obf"),
     ("ffosolve-games", "done", "--empties=9 right"),
     ("ffosolve-games", "a game is refused", "--empties=9 wrong"),
-    ("ffosolve-games", "the command line is refused", "--best"),
     ("ffosolve-games", "--empties is missing", "wrong"),
-    ("ffosolve-games", "a file can't be read", "none.obf"),
 ))
-def test_help_has_the_status_of_each_end(folder, name, what, words):
+def test_help_has_the_status_of_each_end(folder, names, what, words):
     write("right", b"")
     write("wrong", b"?\n")
     write("large", b" " * (MOST_BYTES + 1))
-    program = built(name) if name in PROGRAMS else ROOT / "bin" / name
-    listed = re.split(r"\n(?:Exit )?status:\n", run(program, "--help", text=True).stdout)[1].partition("\n\n")[0]
-    rows = [" ".join(row.split()) for row in re.split(r"\n(?=  \d)", listed)]
-    assert [int(row[0]) for row in rows if what in row] == [run(program, *words.split()).returncode]
+    for name in names.split():
+        program = built(name) if name in PROGRAMS else ROOT / "bin" / name
+        listed = re.split(r"\n(?:Exit )?status:\n", run(program, "--help", text=True).stdout)[1].partition("\n\n")[0]
+        rows = [" ".join(row.split()) for row in re.split(r"\n(?=  \d)", listed)]
+        assert [int(row[0]) for row in rows if what in row] == [run(program, *words.split()).returncode], name
 
 
 @pytest.mark.parametrize("name", PROGRAMS)

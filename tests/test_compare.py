@@ -90,9 +90,8 @@ def test_a_game_that_is_over_before_its_position_has_the_score_of_its_end(alone)
         "e6f4e3f6g5d6e7f5c5": 64, "d3c5d6e3f5g5c4c3e6e7": 0, "f5d6c5f6d3g5h5h4g7e7f8b5a5c3b2h6d8f7b4a3": 59,
         "d3c5c6e3f5g5f3c2c4g3e2c3e6b5b4e1g2d7d6h1f6a4c7e7e8b7": 1}
     played = [[NAMES.index(move.upper()) for move in re.findall("..", text)] for text in real_scores]
-    wrong = [record(game, 30) for game in played]
     right = list(map(record, played, real_scores.values()))
-    write("it.wtb", wthor(wrong, empties=30))
+    write("it.wtb", wthor([record(game, 30) for game in played], empties=30))
     out = "".join(difference(number, real, 30 - real) for number, real in enumerate(real_scores.values(), 1))
     ran = alone("check", "it.wtb", "--fix=new.wtb")
     assert (ran.returncode, ran.stdout) == (1, out + counts(4, 4)), ran.stderr
@@ -356,8 +355,7 @@ def results():
 
 def test_check_solves_compares_and_fixes():
     """The theoretical scores of two files are for 5 and 6 empty squares; two games of the first are one."""
-    at = positions_of(PLAYED[1])[6]
-    exact = discs_of_black(at)
+    exact = discs_of_black(positions_of(PLAYED[1])[6])
     write("it.wtb", wthor(RECORDS + RECORDS[2:3], empties=EMPTIES))
     write("other.wtb", wthor([record(PLAYED[1], exact + 1)], empties=6))
     os.mkdir("new")
@@ -417,8 +415,7 @@ def test_another_number_of_empty_squares_goes_on_in_the_same_folder():
 def test_an_interrupted_check_goes_on_and_a_second_one_in_its_folder_was_refused(start, number, of_all):
     """It checks 90 games, one after the other. While the second one tries, the first is stopped."""
     played = [game for game in random_games(110, seed=8) if EMPTIES in positions_of(game)][:90]
-    exact = [discs_of_black(positions_of(game)[EMPTIES]) for game in played]
-    write("it.wtb", wthor(list(map(record, played, exact)), empties=EMPTIES))
+    write("it.wtb", wthor([record(it, discs_of_black(positions_of(it)[EMPTIES])) for it in played], empties=EMPTIES))
     words = (sys.executable, PROGRAM, *CHECK, "--lines=1", "--jobs=1")
     child = start(*words, start_new_session=True)
     wait_until(results)
@@ -482,8 +479,10 @@ def test_scores_are_not_taken_from_a_folder_that_others_own_or_may_write():
 
 @pytest.fixture
 def alone(folder):
-    """A function that runs a copy of ffosolve-games. Its path has only setpriv and the other files in `tools`."""
+    """A function that runs a copy of ffosolve-games. Its path has only setpriv and the other files in `tools`. The file
+    22.wtb has a game with a theoretical score for 22 empty squares."""
     run("cp", "-r", "--parents", "bin/ffosolve-games", "python/src", "VERSION", folder, cwd=ROOT, check=True)
+    write("22.wtb", wthor([record(PLAYED[0])], empties=22))
     os.mkdir("tools")
     os.symlink(shutil.which("setpriv"), "tools/setpriv")
     environment = {**os.environ, "PATH": f"{folder}/tools"}
@@ -502,7 +501,6 @@ OPTIONS = ("--jobs=x", "--scheduler=h1:8786", "--cut", "--quiet", "--workers=2",
     (("--max-empties=22", "22.wtb"), "--max-empties=60 --lines=10 --cut", "22.wtb.check"),  # the first of two
 ))
 def test_ffosolve_many_gets_the_options(alone, words, given, folder_named):
-    write("22.wtb", wthor([record(PLAYED[0])], empties=22))
     write("bin/ffosolve-many", '#!/bin/sh\necho "$*" >>words\necho output\nexit 3\n')
     write("tools/ffosolve-many", "#!/bin/sh\n")  # is not run, since one is next to ffosolve-games
     ran = alone("check", "it.wtb", *words)
@@ -512,7 +510,6 @@ def test_ffosolve_many_gets_the_options(alone, words, given, folder_named):
 
 
 def test_the_list_is_the_same_in_any_order_of_the_files(alone):
-    write("22.wtb", wthor([record(PLAYED[0])], empties=22))
     write("bin/ffosolve-many", "#!/bin/sh\nwhile read line; do echo $line; done >list\nexit 3\n")
     lists = {(alone("check", "--folder=a", *names), Path("list").read_bytes())[1]
              for names in (("22.wtb", "it.wtb"), ("it.wtb", "22.wtb", "22.wtb"))}
@@ -535,13 +532,11 @@ def test_the_commands_of_guide_and_help_check_and_fix_a_file():
     guide = blocks_of(stored("docs", "check-wthor.md").decode(), "sh")
     of_help = re.search(r"^examples:\n.*?\n\n(.*?)\n\nstatus:", run(PROGRAM, "--help").stdout.decode(), re.M | re.S)[1]
     for place, commands, count in (("guide", guide, 2), ("help", of_help, 4)):
-        commands = [line for line in commands.splitlines() if line]
-        assert len(commands) == count
-        name, (new,) = re.search(r"\S+\.wtb", commands[0])[0], re.findall(r"--fix (\S+)", "\n".join(commands))
-        write(f"{place}/{name}", wthor(RECORDS, empties=EMPTIES))
+        assert commands.count("ffosolve-") == count
+        write(f"{place}/WTH_2001.wtb", WHOLE)
         os.symlink(ROOT / "bin", f"{place}/bin")
         path = {"PATH": f"{ROOT}/bin:{os.environ['PATH']}"}
-        ran = run("sh", "-c", "\n".join(commands), timeout=300, cwd=place, env={**os.environ, **path}, text=True)
-        out = both(name=name) + counts()
+        ran = run("sh", "-c", commands, timeout=300, cwd=place, env={**os.environ, **path}, text=True)
+        out = both(name="WTH_2001.wtb") + counts()
         assert (ran.returncode, ran.stdout) == (1, 2 * out), ran.stderr
-        assert Path(place, new).read_bytes() == RIGHT
+        assert Path(place, "WTH_2001.new.wtb").read_bytes() == RIGHT

@@ -33,7 +33,7 @@ def files(folder):
 
 
 @pytest.mark.parametrize("name, count, numbers", (
-    ("games.txt", 1000, (22, 9)), ("games.wtb", 1000, (22, 9)), ("games.wtb", 5, range(61)),
+    ("games.txt", 1000, (22, 9, 0)), ("games.wtb", 1000, (22, 9)), ("games.wtb", 5, range(61)),
 ))
 def test_positions_are_those_of_the_plain_player(name, count, numbers):
     """A game that ends before the position gets a message instead of a line."""
@@ -94,15 +94,12 @@ def test_a_wrong_transcript_is_reported_and_the_others_are_printed():
     right = (("f5d6c3", F5D6), ("% a comment", None), ("", None), ("\r", None), ('[Event "f5d6"]', None),
              ('[White "B, c3"] [Result "33-31"]', None), (f"[Round 1] {transcript(GAME)} 33-31", AT),
              (transcript(GAME) + "--pass", AT))
+    wrong = (*REFUSED, ("f5", 1, "it ends here, with 59 empty squares; 58 are asked for"))
     out = "".join(line_of(found[58], f"games, game {number}") for number, (_, found) in enumerate(right, 1) if found)
     err = "".join(f"games, game {number}{', move ' * bool(move)}{move or ''}: {why}\n"
-                  for number, (_, move, why) in enumerate(REFUSED, 1 + len(right)))
-    text = "\n".join(text for text, *_ in right + REFUSED).encode()
+                  for number, (_, move, why) in enumerate(wrong, 1 + len(right)))
+    text = "\n".join(text for text, *_ in right + wrong).encode()
     reads("games", text.replace("\ufffd".encode(), b"\xff"), "--empties=58", out=out, err=err)
-    game = next(game for game in random_games(200, seed=1) if len(squares_of(game)) == 59)
-    for text, empties, where in (("f5", 58, "move 1: it ends here, with 59 empty squares"),
-                                 (transcript(game), 0, "move 59: it ends here, with 1 empty square")):
-        reads("games", text, f"--empties={empties}", err=f"games, game 1, {where}; {empties} are asked for")
 
 
 @pytest.mark.parametrize("text, move, why", REFUSED)
