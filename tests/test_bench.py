@@ -3,8 +3,6 @@ import itertools
 import os
 import re
 import runpy
-import subprocess
-import sys
 from types import SimpleNamespace
 
 import pytest
@@ -47,10 +45,11 @@ def test_the_least_times_count_and_a_ratio_is_proved_by_plain(monkeypatch, capsy
     def wait(pid, options):
         return pid, 0, SimpleNamespace(ru_utime=pid / 4, ru_stime=pid * 3 / 4)
 
-    for place, name, act in ((subprocess, "Popen", begin), (subprocess, "run", lambda *words, **how: None),
-                             (os, "wait4", wait), (sys, "argv", ["bench/run", *words.split()]),
-                             (sys, "dont_write_bytecode", True)):
-        monkeypatch.setattr(place, name, act)
+    monkeypatch.setattr("subprocess.Popen", begin)
+    monkeypatch.setattr("subprocess.run", lambda *words, **how: None)
+    monkeypatch.setattr("os.wait4", wait)
+    monkeypatch.setattr("sys.argv", ["bench/run", *words.split()])
+    monkeypatch.setattr("sys.dont_write_bytecode", True)
     monkeypatch.syspath_prepend(ROOT / "bench")
     runpy.run_path(str(ROOT / "bench/run"))
     assert re.search(rf"(?m)^\| {row} \|$", capsys.readouterr().out)

@@ -112,21 +112,16 @@ def test_a_wrong_transcript_is_refused_with_the_move_and_the_reason(text, move, 
             assert (it.game, it.move, it.reason, isinstance(it, ValueError)) == (number, move, why, True)
 
 
-def changed(byte):
-    """Returns GAME_RECORD with another byte as its 11th move."""
-    return GAME_RECORD[:18] + bytes([byte]) + GAME_RECORD[19:]
-
-
 @pytest.mark.parametrize("more, count, why", (
     ([GAME_RECORD[:67]], 2, ": the file ends after 67 of the 68 bytes of this game, but its header counts 2 games"),
     ([GAME_RECORD[:1]], 7, ": the file ends after 1 of the 68 bytes of this game, but its header counts 7 games"),
     ([], 301, ": the file ends before this game, but its header counts 301 games"),
     ([GAME_RECORD], 1, ": the file goes on, but its header counts 1 game"),
     ([b"\n"], 1, ": the file goes on, but its header counts 1 game"),
-    ([changed(0)], 2, ", move 11: 0 is not a square"),
-    ([changed(99)], 2, ", move 11: 99 is not a square"),
-    ([changed(GAME_RECORD[17])], 2,
-     f", move 11: {NAMES[GAME[9]]} is not a legal move for Black in {player.line(*AT[50])}"),
+    # Another byte is the 11th move.
+    *(([GAME_RECORD[:18] + bytes([byte]) + GAME_RECORD[19:]], 2, f", move 11: {why}") for byte, why in (
+        (0, "0 is not a square"), (99, "99 is not a square"),
+        (GAME_RECORD[17], f"{NAMES[GAME[9]]} is not a legal move for Black in {player.line(*AT[50])}"))),
     ([record([])], 2, ": it has no moves"),
     ([record(GAME[:37])], 2, ", move 37: it ends here, with 23 empty squares; 22 are asked for"),
 ))

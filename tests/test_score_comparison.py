@@ -106,8 +106,7 @@ def test_arrays_of_answers_are_known():
 
 
 def test_a_timeout_is_for_both_calls():
-    positions = [Position.start(), BOTH[0]]
-    for listed in ({positions[0]: 2}, {positions[0]: {"F5": 2}}):
+    for listed in ({Position.start(): 2}, {Position.start(): {"F5": 2}}):
         with pytest.raises(TimeoutError, match="^not finished within 0.1 seconds$"):
             compare_scores(listed, Solver(max_empties=60), timeout=0.1)
     with pytest.raises(ValueError, match="^timeout is at least 0, not -1$"):
