@@ -5,7 +5,6 @@ A position is (own, opp, is_black): the masks of the mover's and the other side'
 WTHOR file, a game has two scores, in Black's discs: theoretical, after perfect play from a position, and real."""
 import random
 import struct
-import sys
 
 from bench import player
 from tests.support import ROOT, run, stored, write
@@ -109,7 +108,7 @@ def book_of(positions):
 def games(*words, status=None, out="", err="", **how):
     """Runs `ffosolve-games WORDS`. Asserts its output, unless `out` is None; its errors, the lines of `err`, each after
     the program's name; and its status, by default 1 if `err` has a line, else 0."""
-    ran = run(sys.executable, PROGRAM, *words, **how)
+    ran = run(PROGRAM, *words, **how)
     assert ran.stderr.decode() == "".join(f"ffosolve-games: {line}\n" for line in err.splitlines()), words
     assert out is None or ran.stdout.decode() == out, words
     assert ran.returncode == (bool(err) if status is None else status), words
@@ -119,8 +118,3 @@ def reads(name, content, *words, **expected):
     """Writes `content` to the file `name`, and calls `games` with that name as the last word."""
     write(name, content)
     games(*words, name, **expected)
-
-
-GAME = squares_of(*random_games(1, seed=3))  # a whole game: its squares, without passes
-AT = positions_of(GAME)
-GAME_RECORD = record(GAME)

@@ -489,14 +489,11 @@ def alone(folder):
     return lambda *words: run(sys.executable, "bin/ffosolve-games", *words, text=True, env=environment)
 
 
-OPTIONS = ("--jobs=x", "--scheduler=h1:8786", "--cut", "--quiet", "--workers=2", "--table=0", "--book-in=a b")
-
-
 @pytest.mark.parametrize("words, given, folder_named", (
-    ((), "--max-empties=60 --lines=10", "it.wtb.check"),
+    *((options, " ".join(("--max-empties=60 --lines=10", *options)), "it.wtb.check") for options in (
+        (), ("--jobs=x", "--scheduler=h1:8786", "--cut", "--quiet", "--workers=2", "--table=0", "--book-in=a b"))),
     (("--folder", "a", "22.wtb"), "--max-empties=60 --lines=10", "a"),
     (("--max-empties=21", "22.wtb", "--lines=20", "--quiet"), "--max-empties=60 --lines=20 --quiet", "it.wtb.check"),
-    (OPTIONS, " ".join(("--max-empties=60 --lines=10", *OPTIONS)), "it.wtb.check"),
     (("./it.wtb",), "--max-empties=60 --lines=10", "./it.wtb.check"),  # two names of one folder
     (("--max-empties=22", "22.wtb"), "--max-empties=60 --lines=10 --cut", "22.wtb.check"),  # the first of two
 ))

@@ -7,14 +7,12 @@ import os
 import pickle
 import random
 import re
-import sys
 
 import pytest
 
 from bench import player
-from tests.games import (AT, GAME, GAME_RECORD, NAMES, PROGRAM, SQUARE_BYTES, discs_of_black, games, line_of,
-                         masks_after, positions_of, random_games, reads, real_score, record, squares_of, transcript,
-                         transcript_rows, wthor)
+from tests.games import (NAMES, PROGRAM, SQUARE_BYTES, discs_of_black, games, line_of, masks_after, positions_of,
+                         random_games, reads, real_score, record, squares_of, transcript, transcript_rows, wthor)
 from tests.support import MOST_BYTES, cannot_write, ends, limited, run, write
 import ffosolve
 from ffosolve import Solver
@@ -22,6 +20,8 @@ from ffosolve import Solver
 RANDOM = random_games(1000, seed=53)
 KNOWN = list(map(positions_of, RANDOM))
 PLAYED = random_games(60, seed=66)
+GAME = squares_of(*random_games(1, seed=3))  # a whole game: its squares, without passes
+AT, GAME_RECORD = positions_of(GAME), record(GAME)
 LINE = line_of(AT[22], "it.wtb, game 1, theoretical score 33")
 TEXT, WTHOR, LISTED = transcript(GAME), wthor([GAME_RECORD], empties=20), line_of(AT[20], "{}, game 1")
 
@@ -205,7 +205,7 @@ def test_each_changed_byte_leads_to_a_position_of_the_changed_game():
             files[f"{place}-{byte}.wtb"] = whole[:place] + bytes([byte]) + whole[place + 1:]
     for name, content in files.items():
         write(name, content)
-    ran = run(sys.executable, PROGRAM, *files)
+    ran = run(PROGRAM, *files)
     assert ran.returncode == 3
     for message in ran.stderr.decode().splitlines():
         why = r"(, game \d+( \([^)]*\))?(, move \d+)?: | is not a WTHOR file| does not say )"
@@ -330,12 +330,12 @@ def test_the_list_has_names_of_files_as_they_are_and_a_hyphen_or_no_file_means_s
         reads(name, TEXT, "--empties=20", "--", out=LISTED.format(shown))
     name = b"\xff.WTB"
     write(os.fsdecode(name), WTHOR)
-    assert b"% \xff.WTB, game 1, theoretical score 33\n" in run(sys.executable, PROGRAM, name).stdout
+    assert b"% \xff.WTB, game 1, theoretical score 33\n" in run(PROGRAM, name).stdout
 
 
 @pytest.mark.parametrize("name", (b"\xff", b"new\nline", b"it's \x01 \\ \xc3\xa9", b"\xc2\xa0"))
 def test_names_in_messages_can_be_typed(name):
-    err = run(sys.executable, PROGRAM, "--empties=20", name).stderr.decode()
+    err = run(PROGRAM, "--empties=20", name).stderr.decode()
     shown = err.removeprefix("ffosolve-games: cannot read ").removesuffix(": No such file or directory\n")
     assert shown.isprintable() and shown.startswith("$'"), err
     assert run("bash", "-c", f"printf %s {shown}").stdout == name
@@ -397,22 +397,19 @@ def test_a_long_line_is_refused_without_reading_it_all(words, before, out):
     reads("longest", longest, "--empties=20", out=LISTED.format("longest"))
 
 
-FIRST = "which has to be the first word"
-BY_NAME = "takes WTHOR files by their names, not standard input"
-
-
 @pytest.mark.parametrize("words, why", (
     *((f"--empties {it}", f"--empties: takes a number from 0 to 60, not '{it}'") for it in ("61", "-1", "x")),
     *((it, f"{it.split()[-1]}: expected one argument") for it in ("--empties", "compare text it.wtb --fix")),
     *((it, f"unrecognized arguments: {it.split()[-1]}") for it in ("--no", "check it.wtb --scores", "3 --emp")),
     *((it, "compare takes a BOOK and WTHOR files") for it in ("compare", "compare text")),
-    *((it, f"--fix and --real go with check or compare, {FIRST}") for it in ("--fix a compare b it.wtb", "--real a")),
-    ("compare text it.wtb -", f"compare {BY_NAME}"), ("check it.wtb -", f"check {BY_NAME}"),
+    *((it, "--fix and --real go with check or compare, which has to be the first word")
+      for it in ("--fix a compare b it.wtb", "--real a")),
+    *((f"{it} -", f"{it.split()[0]} takes WTHOR files by their names, not standard input")
+      for it in ("compare text it.wtb", "check it.wtb")),
     ("compare text it.wtb --fix=-", "--fix takes a file or a folder, not standard output"),
     ("compare text it.wtb --real", "--real goes with --fix"),
-    ("compare text it.wtb --jobs=2", f"--jobs goes with check, {FIRST}"),
-    ("it.wtb --folder=new", f"--folder goes with check, {FIRST}"),
-    *((f"it.wtb {it}=1", f"{it} goes with check, {FIRST}") for it in ("--max-empties", "--lines")),
+    *((f"{it}=2", f"{it.split()[-1]} goes with check, which has to be the first word")
+      for it in ("compare text it.wtb --jobs", "it.wtb --folder", "it.wtb --max-empties", "it.wtb --lines")),
     ("check it.wtb --max-empties=61", "--max-empties: takes a number from 0 to 60, not '61'"),
     *((f"check it.wtb --lines={it}", f"--lines: takes a number from 1 to 10000, not '{it}'") for it in ("0", "10001")),
     ("check", "check takes WTHOR files"),

@@ -150,11 +150,6 @@ def test_an_error_in_any_file_is_reported_before_anything_is_printed(names, word
     os.close(folder)
 
 
-def test_more_empty_squares_than_the_limit_are_refused():
-    report = b"[1]\n1 refused: 2 empties, limit 1\nsolved 0 refused 1\n"
-    ends((0, report, b""), built(), "--max-empties", "1", input=TWO)
-
-
 def test_a_too_large_file_is_read_only_to_one_byte_past_the_limit_and_refused_even_if_nothing_can_be_reported():
     with open("large.obf", "wb") as large:
         large.truncate(256 << 20)
@@ -234,6 +229,7 @@ def test_odd_texts_are_printed_again_and_options_set_the_limit_the_table_and_the
         ("--scoring sign", 1, BOARD + b"; A1:+01; H1:+01; % H1:+62 is +01, A1:+52 is +01 % listed right\n", TWO),
     ):
         ends((status, printed, b""), built("ffoscores"), *words.split(), input=text)
+    ends((0, report([b"refused: 2 empties, limit 1"]), b""), built(), "--max-empties", "1", input=TWO)
 
 
 def test_position_40_of_the_ffo_test_has_the_published_best_move_alone():
