@@ -78,11 +78,6 @@ def blocks_of(text, language):
     return "".join(re.findall(rf"^```{language}\n(.*?)^```$", text, re.M | re.S))
 
 
-def stripped(text):
-    """Returns a list of a text's lines without blanks and CR at their ends, since documents don't show these."""
-    return [line.rstrip() for line in text.splitlines()]
-
-
 def print_what_is_shown(text, **how):
     """Asserts that the commands in blocks `console` of a document print what it shows. A command begins with `$ `, and
     its continuation lines with `> `. Below, the block shows what it prints on standard output and standard error. One
@@ -95,7 +90,8 @@ def print_what_is_shown(text, **how):
     printed = ran.stdout.split("\0")  # the last one comes after the last NUL
     assert len(printed) == len(commands) + 1, f"the shell hung at: {commands[len(printed) - 1:][:1]}"
     for command, (_, shown), output in zip(commands, found, printed):
-        assert stripped(output) == stripped(shown), command
+        # Documents don't show blanks and CR at the ends of lines.
+        assert [*map(str.rstrip, output.splitlines())] == [*map(str.rstrip, shown.splitlines())], command
 
 
 def completed_by_zsh(lines, before="", start=run):
@@ -135,10 +131,7 @@ class Prefix:
             "PYTHONDONTWRITEBYTECODE": "1",
             "PYTHONPATH": str(work / "site"),
         }
-
-    def run(self, *words, text="", **how):
-        how = {"timeout": LONGEST, "cwd": self.work, "env": self.environment, **how}
-        return run(*words, input=text, text=True, **how)
+        self.run = functools.partial(run, text=True, timeout=LONGEST, cwd=work, env=self.environment)
 
     def make(self, *words, **how):
         """Runs a command, by default in `work`, and returns its CompletedProcess; raises AssertionError if it fails."""
@@ -149,7 +142,6 @@ class Prefix:
     def compile(self, compiler, name, sources, *words):
         """Compiles a program `name` in C or C++ and returns its path. `words` are the options that find the header and
         link the library, by default the installed libffosolve.a."""
-        need(compiler[0])
         libraries = words or ("-I", self.header.parent, "-x", "none", self.archive)
         self.make(*compiler, "-o", self.work / name, *sources, *libraries)
         return self.work / name

@@ -101,15 +101,15 @@ def answers_of(*command, count=LARGE):
     """Asserts what an example program prints: for the first `count` lines of examples/masks.txt; for two positions of
     which the first has two best moves; for none; and for a position that is refused or not written as two masks."""
     masks, answers = (stored("examples", f"{name}.txt").decode().splitlines(True) for name in ("masks", "answers"))
-    ran = PREFIX.run(*command, text="".join(masks[:count]))
+    ran = PREFIX.run(*command, input="".join(masks[:count]))
     assert (ran.returncode, ran.stdout) == (0, "".join(answers[:count] + answers[LARGE:])), ran.stderr
-    ran = PREFIX.run(*command, text=masks[2] + "fffffff8 7fffffff00000007\n")
+    ran = PREFIX.run(*command, input=masks[2] + "fffffff8 7fffffff00000007\n")
     assert ran.stdout == answers[2] + "+08 H8\nA1 of A1,H1\nPS\nH1 of H1\n", ran.stderr
     ran = PREFIX.run(*command)
     assert (ran.returncode, ran.stdout, ran.stderr) == (0, "", "")
     longer = f"1{0:016}"  # than a mask
     for wrong in ("3 2", "1 x", "3", "1 2 4 8", longer, f"{longer} {longer}"):
-        ran = PREFIX.run(*command, text=f"{masks[0]}{wrong}\n")
+        ran = PREFIX.run(*command, input=f"{masks[0]}{wrong}\n")
         is_refused = "position 2: the masks share a square" in ran.stderr
         assert (ran.returncode, ran.stdout, is_refused) == (1, "", wrong == "3 2"), ran
         assert "empty squares" not in ran.stderr, wrong  # it would name them if it read this as other masks
@@ -198,12 +198,6 @@ def test_the_packages_own_tests_pass_where_it_is_installed():
     some = "examples_of_the_help or mypy_sees or calls_of_several_threads or limits_and_versions"
     words = (sys.executable, "-m", "pytest", "-q", "-p", "no:cacheprovider", PREFIX.work / "python/tests", "-k", some)
     assert re.search(r"(?m)^4 passed", PREFIX.make(*words).stdout)
-
-
-def test_pip_installs_the_packages_program():
-    program = PREFIX.site / "bin/ffosolve-games"
-    assert PREFIX.make(program, "--version").stdout == f"ffosolve-games {ffosolve.__version__}\n"
-    assert re.search(r"\A\S{64} O; % -, game 1\n\Z", PREFIX.make(program, "--empties=59", text="f5").stdout)
 
 
 def test_a_library_of_another_version_or_without_a_call_is_refused():
@@ -316,7 +310,7 @@ def test_rust_reads_transcripts_as_the_table_says_and_others_as_python():
             wanted.append((text, str(why.move)))
     assert 100 < sum(" " in line for _, line in wanted[count:]) < 400
     program = PREFIX.rust_client("played", PLAYED_IN_RUST)
-    printed = PREFIX.make(program, text="".join(f"{text}\0" for text, _ in wanted)).stdout.splitlines()
+    printed = PREFIX.make(program, input="".join(f"{text}\0" for text, _ in wanted)).stdout.splitlines()
     for (text, line), found in zip(wanted, printed, strict=True):
         assert f"{found} ".startswith(f"{line} "), text
 

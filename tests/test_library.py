@@ -281,8 +281,8 @@ def test_the_stack_that_the_header_names_is_enough():
     assert "32 KiB are enough for 14 empty squares and 128 KiB for 60" in re.sub(r"\s+", " ", PREFIX.text)
     program = PREFIX.compile(C, "searches", [PREFIX.write("searches.c", SEARCHES)])
     text = "".join(f"{own} {opp}\n" for own, opp in random_positions(20, [14]))
-    PREFIX.make(program, text=text, env={}, preexec_fn=limited(RLIMIT_STACK=32 << 10))
-    how = {"text": "{own} {opp}\n".format(**START), "preexec_fn": limited(RLIMIT_STACK=128 << 10)}
+    PREFIX.make(program, input=text, env={}, preexec_fn=limited(RLIMIT_STACK=32 << 10))
+    how = {"input": "{own} {opp}\n".format(**START), "preexec_fn": limited(RLIMIT_STACK=128 << 10)}
     assert PREFIX.run("timeout", "2", program, env={}, **how).returncode == 124
 
 
