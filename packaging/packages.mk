@@ -7,7 +7,8 @@ archive = ffosolve-$(package)-linux-x86-64
 git = git --git-dir='$(CURDIR)/.git'# not the repository of a folder above
 clean = $(git) rev-parse -q --verify HEAD >/dev/null || { echo 'a package needs a git commit, which it names' >&2; exit 1; }; \
     change=$$($(git) status --porcelain | head -n 1); [ -z "$$change" ] || { echo "not committed:$$change" >&2; exit 1; }
-room = room=$$(mktemp -d); trap 'rm -rf "$$room"' EXIT; umask 022
+# The first line of a recipe for packages: refuses once more, now that all is built, and makes the temporary folder.
+begin = $(clean); room=$$(mktemp -d); trap 'rm -rf "$$room"' EXIT; umask 022
 # Moves packages from the temporary folder to out/, each first under another name, since a disk may be full.
 finish = for file in "$$room"/$1; do \
     made="out/$${file\#\#*/}"; install -m 644 "$$file" "$$made.new"; mv -f "$$made.new" "$$made"; echo "made: $$PWD/$$made"; done
@@ -35,8 +36,7 @@ texts = install -m 644 packaging/README.md "$1"; \
     } | install -m 644 /dev/stdin "$1/PROVED"
 
 dist: commit levels ## makes out/ffosolve-VERSION-linux-x86-64.tar.gz, which runs wherever it is unpacked
-	$(clean)
-	$(room)
+	$(begin)
 	top="$$room/$(archive)"
 	make -s stage CPU=x86-64-v2 DESTDIR="$$room" PREFIX=/$(archive) >/dev/null
 	# shellcheck disable=SC2016 # pkg-config replaces the variable
@@ -52,8 +52,7 @@ dist: commit levels ## makes out/ffosolve-VERSION-linux-x86-64.tar.gz, which run
 
 # dpkg-buildpackage runs debian/rules in a copy of the checkout, whose first lines are those that only make knows.
 deb: commit levels ## makes packages for Debian: out/ffosolve_VERSION_amd64.deb, out/libffosolve1_VERSION_amd64.deb, ..
-	$(clean)
-	$(room)
+	$(begin)
 	copy="$$room/ffosolve"
 	mkdir "$$copy"
 	$(git) ls-files -z | xargs -0 cp -p --parents -t "$$copy"
@@ -68,8 +67,7 @@ deb: commit levels ## makes packages for Debian: out/ffosolve_VERSION_amd64.deb,
 
 wheel: modules = hatchling
 wheel: commit tools levels ## makes out/ffosolve-VERSION-py3-none-manylinux_2_34_x86_64.whl, the package for Python with programs and library
-	$(clean)
-	$(room)
+	$(begin)
 	$(call starters,$$room)
 	for level in $(levels); do
 	    install -D -m 644 out/$$level/libffosolve.so "$$room/package/$$level/libffosolve.so.$(major)"

@@ -235,7 +235,7 @@ def is_used(start, version, place):
     for name, of, words, text, wanted in (
         ("ffosolve", VERSION, [], lines, FIRST), ("ffoscores", VERSION, [], lines, lines),
         ("ffosolve-many", version, ["--quiet", "work", "-"], lines, FIRST),
-        ("ffosolve-games", version, ["--empties=60"], "f5", f"{'-' * 27}OX------XO{'-' * 27} X; % -, game 1\n"),
+        ("ffosolve-games", version, ["--empties=59"], "f5", f"{'-' * 27}OX------XXX{'-' * 26} O; % -, game 1\n"),
     ):
         assert start(name, "--version").stdout == f"{name} {of}\n"
         ran = start(name, *words, input=text)

@@ -131,21 +131,16 @@ def test_the_default_is_usr_local_whose_folders_stay(place):
     assert files_below(place.stage) == set()
 
 
-def test_nothing_is_written_elsewhere(place, folder):
+def test_nothing_is_written_elsewhere_and_the_library_is_replaced_only_by_another(place, folder):
+    assert place.make("library").stderr == ""
     before = times(place.source.rglob("*"))
     assert len(before) > 500
+    assert len([path for path in before if path.match("out/library/libffosolve.*")]) == 3
+    assert place.make("library").stderr == ""
     place.install()
     place.make("uninstall")
     assert os.listdir(folder) == ["stage"]
     assert times(place.source.rglob("*")) == before
-
-
-def test_make_library_replaces_no_file_that_is_the_same(place):
-    found = []
-    for _ in range(2):
-        assert place.make("library").stderr == ""
-        found.append(times((place.source / "out/library").glob("libffosolve.*")))
-    assert (len(found[0]), found[0]) == (3, found[1])
 
 
 def test_a_missing_library_of_either_level_is_linked_again(place):
@@ -189,8 +184,7 @@ def test_a_relative_prefix_and_a_file_for_a_folder_are_refused(place):
 def test_without_programs_and_rt_nothing_is_installed(place, folder):
     checkout = shutil.copytree(place.source, folder / "checkout", ignore=shutil.ignore_patterns("out"))
     os.environ["PATH"] = path_without("rt", folder)
-    error = "ffosolve: not built: rt (rattle-kit-13b or rattle-kit-13f) is not on the path"
-    refused(place.make("install", "-C", checkout), error)
+    refused(place.make("install", "-C", checkout), "ffosolve: not built: rt (")
     refused(place.make("install", "-C", checkout, "PREFIX=relative"), "PREFIX is relative")
     assert not place.stage.exists()
 
@@ -295,9 +289,8 @@ def texts(installed, folder, monkeypatch):
     after bin/ffosolve in a checkout could start a build."""
     monkeypatch.setenv("MANWIDTH", "2000")
     monkeypatch.setenv("SHARE", f"{PREFIX.folder}/share")
-    shutil.copytree(ROOT / "examples", "examples")
-    write("examples/bin/ffosolve", "#!/bin/sh\n: >begun\n")
-    os.chdir("examples")
+    shutil.copytree(ROOT / "examples", folder, dirs_exist_ok=True)
+    write("bin/ffosolve", "#!/bin/sh\n: >begun\n")
     yield PREFIX.folder
     assert not Path("begun").exists()
 
