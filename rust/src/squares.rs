@@ -102,33 +102,13 @@ impl Squares {
 
 impl IntoIterator for Squares {
     type Item = Square;
-    type IntoIter = IntoIter;
+    type IntoIter = std::vec::IntoIter<Square>;
 
-    fn into_iter(self) -> IntoIter {
-        IntoIter(self)
+    fn into_iter(self) -> Self::IntoIter {
+        let squares: Vec<_> = (0..64).map(Square).filter(|square| self.contains(*square)).collect();
+        squares.into_iter()
     }
 }
-
-/// An iterator over the squares of a set.
-#[derive(Clone, Debug)]
-pub struct IntoIter(Squares);
-
-impl Iterator for IntoIter {
-    type Item = Square;
-
-    fn next(&mut self) -> Option<Square> {
-        let mask = &mut self.0 .0;
-        let square = Square::new(mask.trailing_zeros() as u8)?;
-        *mask &= *mask - 1;
-        Some(square)
-    }
-
-    fn size_hint(&self) -> (usize, Option<usize>) {
-        (self.0.len(), Some(self.0.len()))
-    }
-}
-
-impl ExactSizeIterator for IntoIter {}
 
 impl fmt::Display for Squares {
     fn fmt(&self, f: &mut fmt::Formatter<'_>) -> fmt::Result {
