@@ -60,7 +60,7 @@ def dist(shared_folder):
     run("tar", "-xzf", archives[0], "-C", unpacked.parent, check=True)
     places = {"PATH": path_without("rt", shared_folder), "TMPDIR": str(shared_folder)}
     return SimpleNamespace(
-        first=first, second=second, archives=archives, head=head, version=version, name=name, unpacked=unpacked,
+        first=first, archives=archives, head=head, version=version, name=name, unpacked=unpacked,
         without_rt={**places, "PYTHONDONTWRITEBYTECODE": "1"})
 
 
@@ -379,11 +379,9 @@ class System:
         if os.getuid() != 0:
             pytest.skip("layers over the system's folders are for root")
         layers = Path("layers").absolute()
-        self.words = (*unshared(), "sh", "-euc", APART, "sh", top, layers, layers.parents[1])
-        self.env = {"PATH": "/usr/sbin:/usr/bin:/sbin:/bin", "DEBIAN_FRONTEND": "noninteractive", "HOME": os.getcwd()}
-
-    def run(self, *words, **how):
-        return run(*self.words, *words, **{"env": self.env, "timeout": 600, "text": True, **how})
+        words = (*unshared(), "sh", "-euc", APART, "sh", top, layers, layers.parents[1])
+        env = {"PATH": "/usr/sbin:/usr/bin:/sbin:/bin", "DEBIAN_FRONTEND": "noninteractive", "HOME": os.getcwd()}
+        self.run = partial(run, *words, env=env, timeout=600, text=True)
 
     def make(self, *words):
         """Runs a command, which has to succeed, and returns what it prints."""
