@@ -149,8 +149,7 @@ def wait_until(holds, seconds=SECONDS):
     """Calls `holds` again and again until it returns a true value; fails if this takes longer than `seconds`."""
     end = time.monotonic() + seconds
     while not holds():
-        if time.monotonic() > end:
-            raise AssertionError(f"this did not happen within {seconds} seconds: {holds}")
+        assert time.monotonic() <= end, f"this did not happen within {seconds} seconds: {holds}"
         time.sleep(0.01)
 
 

@@ -3,7 +3,6 @@ import asyncio
 import os
 import pickle
 import pickletools
-import random
 import re
 import shutil
 import signal
@@ -20,19 +19,9 @@ import pytest
 from ffosolve._command_line import Refusal
 from ffosolve._many import solve
 from tests import many
-from tests.support import SECONDS, limited, need, processes_in, run, stored, unshared, wait_until, write
+from tests.support import SECONDS, limited, processes_in, run, stored, unshared, wait_until, write
 
 WORDS = ("--lines=4", "--book-in=one.book", *many.WORDS[1:])  # 15 parts
-# A server of Dask's that prints its address, and never answers what it is.
-SILENT = """if True:
-    import asyncio, distributed.core
-    async def main():
-        server = distributed.core.Server({"identity": lambda: asyncio.sleep(1000)})
-        await server.listen("tcp://127.0.0.1:0")
-        print(server.address, flush=True)
-        await asyncio.sleep(1000)
-    asyncio.run(main())
-"""
 
 
 @pytest.fixture(scope="module")
@@ -54,7 +43,9 @@ class Cluster:
                                   ("engine", "(1 if is_terminal else 60)", "1"), script=many.ACTING)
 
     def daemon(self, name, *command, **places):
-        """Starts Dask's scheduler or a worker, with `places` added to the environment; it logs to NAME.log."""
+        """Starts Dask's scheduler or a worker, after it has killed any of that name, with `places` added to the
+        environment; it logs to NAME.log."""
+        self.signal(signal.SIGKILL, *self.daemons.keys() & {name})
         settings = {"DASK_DISTRIBUTED__SCHEDULER__WORKER_TTL": "5s", "DASK_DISTRIBUTED__COMM__TIMEOUTS__CONNECT": "3s"}
         with open(f"{name}.log", "wb") as log:
             self.daemons[name] = self.case.start(*command, "--no-dashboard", stdout=log, stderr=log,
@@ -155,12 +146,16 @@ def test_workers_are_waited_for_and_may_be_killed_or_fall_silent_or_join_late(cl
     assert "failed" not in cluster.ended(ran)
 
 
-def test_all_workers_may_be_silent_for_longer_than_the_scheduler_waits(cluster):
+@pytest.mark.parametrize("names, told", [
+    (["worker1", "worker2"], "%, no machine at work, parts "),
+    (["scheduler"], r"%, the scheduler has been silent for \d+ s, parts \d+ of 15\n")])
+def test_all_workers_may_be_silent_for_longer_than_the_scheduler_waits_and_a_silent_scheduler_is_said_to_be(
+        cluster, names, told):
     cluster.start_workers("worker1", "worker2", PAUSE="1")
     ran = cluster.begin(solved=2)
-    cluster.signal(signal.SIGSTOP, "worker1", "worker2")
-    wait_until(lambda: "%, no machine at work, parts " in messages())
-    cluster.signal(signal.SIGCONT, "worker1", "worker2")
+    cluster.signal(signal.SIGSTOP, *names)
+    wait_until(lambda: re.search(told, messages()))
+    cluster.signal(signal.SIGCONT, *names)
     cluster.ended(ran)
 
 
@@ -173,7 +168,6 @@ def test_a_worker_that_is_not_fit_gets_no_part_until_it_is_started_again(cluster
     for why in ("the program solves a known line wrong", "the program needs more than 5 seconds for a known line"):
         assert re.search(rf"\n.*: (tcp://127\.0\.0\.1:\d+) is left out: {why}\n", messages())
     port = re.search(r":(\d+) is left out: the program solves", messages())[1]
-    cluster.signal(signal.SIGKILL, "worker1")
     cluster.start_workers("worker1", options=[f"--worker-port={port}"], PAUSE="0.5")
     wait_until(lambda: case.parts_solved() >= 2)
     cluster.signal(signal.SIGKILL, "worker1")
@@ -183,7 +177,6 @@ def test_a_worker_that_is_not_fit_gets_no_part_until_it_is_started_again(cluster
 
 @pytest.mark.parametrize("others", [(), ("worker1",)])
 def test_a_silent_worker_keeps_none_that_joins_from_work(cluster, case, others):
-    cluster.signal(signal.SIGKILL, "scheduler")
     cluster.start_scheduler(DASK_DISTRIBUTED__SCHEDULER__WORKER_TTL="300s")
     cluster.start_workers("worker2", PAUSE="0.5")
     cluster.start_workers(*others, SPOIL_KNOWN="lambda text: b''")
@@ -234,7 +227,6 @@ def test_a_worker_on_which_this_code_raises_an_error_is_left_out_and_one_without
 @pytest.mark.parametrize("allowed", ["0", "3"])
 def test_a_machine_whose_workers_end_before_they_solve_a_known_line_is_named_and_no_part_fails(cluster, allowed):
     """All are on one machine, but the other worker has solved one."""
-    cluster.signal(signal.SIGKILL, "scheduler")
     cluster.start_scheduler(DASK_DISTRIBUTED__SCHEDULER__ALLOWED_FAILURES=allowed)
     cluster.start_workers("worker1", PAUSE="2")
     ran = cluster.begin(solved=1)
@@ -251,7 +243,7 @@ def test_another_version_of_dask_is_refused_at_the_start_by_both_versions(cluste
     words = ("--scheduler=scheduler.json", "work", "list.obf")
     told = case.many(*words, status=3, message=": they have to be the same\n")
     assert re.search(r" has distributed (\d\S+), its workers 1\.2\.3, \S+ \1: they", told)
-    cluster.signal(signal.SIGKILL, "scheduler", "worker1")
+    cluster.signal(signal.SIGKILL, "worker1")
     cluster.start_scheduler(PYTHONPATH=f"{case.folder}/lib")
     case.many(*words, status=3, message=" has distributed 1.2.3, its workers none, ")
 
@@ -264,14 +256,6 @@ def test_a_folder_where_no_program_may_run_is_fine_and_a_finished_one_needs_no_s
     unshare, *words = unshared()
     case.many(*words, "sh", "-c", mount, "sh", case.MANY, *WORDS, by=unshare, message=", 15 of them solved before")
     cluster.leaves_nothing()
-
-
-def test_a_worker_that_fails_now_and_then_is_not_left_out(cluster, case):
-    count = f"open('{case.folder}/count', 'a').write('.'), os.path.getsize('{case.folder}/count')"
-    cluster.start_workers("worker1", SPOIL=f"lambda text: text[:-5] if ({count})[1] % 2 else text")
-    cluster.start_workers("worker2", PAUSE="4")
-    told = cluster.ended(cluster.begin())
-    assert told.count(" failed ") >= 3 and "left out" not in told
 
 
 def test_parts_that_fail_everywhere_take_no_worker_out(cluster, case):
@@ -294,29 +278,15 @@ def test_a_part_that_kills_its_worker_is_not_solved_and_the_others_are(cluster, 
 
 def test_a_scheduler_that_is_back_at_once_goes_on_and_one_that_is_lost_ends_the_run(cluster):
     cluster.start_workers("worker1", PAUSE="0.5")
-    for count, is_lost in ((2, True), (5, False)):
+    for count, number, is_lost in ((2, signal.SIGKILL, True), (4, signal.SIGSTOP, True), (6, signal.SIGKILL, False)):
         ran = cluster.begin(count)
-        cluster.signal(signal.SIGKILL, "worker1", "scheduler")
+        cluster.signal(number, "worker1", "scheduler")
         if is_lost:
             lost = " scheduler .* is lost; the same command goes on with what is solved\n$"
             assert re.search(lost, cluster.ended(ran, 3))
         cluster.start_scheduler()
         cluster.start_workers("worker1", PAUSE="0.5")
     cluster.ended(ran)
-
-
-def test_a_scheduler_that_is_silent_is_said_to_be_and_at_last_lost(cluster):
-    cluster.start_workers("worker1", PAUSE="0.5")
-    for count, is_lost in ((2, False), (5, True)):
-        ran = cluster.begin(count)
-        cluster.signal(signal.SIGSTOP, "scheduler")
-        wait_until(lambda: re.search(r"%, the scheduler has been silent for \d+ s, parts \d+ of 15\n", messages()))
-        if is_lost:
-            assert " is lost; the same command goes on with what is solved\n" in cluster.ended(ran, 3)
-        cluster.signal(signal.SIGCONT, "scheduler")
-        if not is_lost:
-            cluster.ended(ran)
-            shutil.rmtree("work")
 
 
 def test_a_caller_that_a_signal_ends_leaves_nothing_on_the_workers(cluster):
@@ -327,10 +297,9 @@ def test_a_caller_that_a_signal_ends_leaves_nothing_on_the_workers(cluster):
         wait_until(lambda: cluster.programs("worker1") and cluster.programs("worker2"))
         ran.send_signal(number)
         assert cluster.ended(ran, -number).endswith(many.INTERRUPTED) == (number != signal.SIGKILL)
-    rng = random.Random(1)
-    for _ in range(3):
+    for seconds in (1, 3.2, 3.5):
         ran = cluster.begin()
-        time.sleep(rng.uniform(0.5, 4))
+        time.sleep(seconds)
         ran.kill()
         cluster.ended(ran, -signal.SIGKILL)
     cluster.signal(signal.SIGKILL, "worker2")
@@ -344,8 +313,7 @@ def test_a_full_disk_ends_the_run_and_it_goes_on_when_there_is_room(cluster, cas
     full = limited(RLIMIT_FSIZE=len(case.one) // 15 + 400)  # some records are longer
     case.many(*words, preexec_fn=full, status=3, message="ffosolve-many: cannot write work/results/")
     cluster.leaves_nothing()
-    solved = run(case.MANY, "--cut", *WORDS, text=True).stdout.split()[2]
-    case.many(*words, message=f"in 15 parts, {solved} of them solved before")
+    case.many(*words, message=f"in 15 parts, {case.parts_solved()} of them solved before")
 
 
 def test_what_is_sent_needs_no_certain_python_and_no_package_but_dask():
@@ -512,10 +480,6 @@ def test_workers_that_end_with_the_program_and_a_book_alone_end_the_run(one):
     one.answer = mock.AsyncMock(side_effect=distributed.KilledWorker("pack", worker, 3))
     with pytest.raises(Refusal, match="^h1: 4 workers ended before .* memory too small"):
         asyncio.run(one.solve(part, []))
-    one.tested = {("tcp://h1:1", "a")}
-    one.answer.side_effect = distributed.KilledWorker("ffosolve-key-7-x", worker, 3)
-    ended = asyncio.run(one.solve(part, []))
-    assert ended == (part, None, "4 workers ended that had it", 2 * ["tcp://h1:1"])
     one.answer.side_effect = ValueError("Dask can't run it\nat all")
     assert asyncio.run(one.solve(part, [])) == (part, None, "Dask can't run it", ["a worker"])
 
@@ -577,22 +541,24 @@ def test_what_is_no_scheduler_is_named(case, address, why):
 
 
 def test_a_server_that_is_no_scheduler_is_named(cluster, case):
+    """The worker worker2 never answers what it is."""
+    write("lib/sitecustomize.py",
+          "import asyncio, distributed\ndistributed.Worker.identity = lambda *_: asyncio.sleep(1000)\n")
     cluster.start_workers("worker1")
-    cluster.daemon("silent", cluster.python, "-c", SILENT)
-    wait_until(lambda: "\n" in Path("silent.log").read_text())
-    log, silent = Path("worker1.log").read_text(), Path("silent.log").read_text().strip()
+    cluster.start_workers("worker2", PYTHONPATH=f"{case.folder}/lib")
+    logs = [Path(f"{name}.log").read_text() for name in ("worker1", "worker2")]
+    worker, silent = (re.search(r"Start worker at: +(\S+)", log)[1] for log in logs)
+    nanny = re.search(r"Start Nanny at: +'(\S+)'", logs[0])[1]
     with socket.create_server(("127.0.0.1", 0)) as held:
-        for address, why in ((re.search(r"Start worker at: +(\S+)", log)[1], " is not a scheduler, but a worker\n"),
-                             (re.search(r"Start Nanny at: +'(\S+)'", log)[1], " is not a scheduler, but a nanny\n"),
+        for address, why in ((worker, " is not a scheduler, but a worker\n"),
+                             (nanny, " is not a scheduler, but a nanny\n"),
                              (f"tcp://127.0.0.1:{held.getsockname()[1]}", NO_ANSWER), (silent, NO_ANSWER)):
             no_scheduler(case, address, why)
 
 
 def test_a_scheduler_with_tls_is_named(cluster, case):
-    need("openssl")
     run("openssl", "req", "-x509", "-newkey", "rsa:2048", "-nodes", "-keyout", "key", "-out", "cert", "-subj", "/CN=x",
         check=True)
-    cluster.signal(signal.SIGKILL, "scheduler")
     cluster.start_scheduler("--protocol=tls", "--tls-ca-file=cert", "--tls-cert=cert", "--tls-key=key")
     no_scheduler(case, f"tcp://127.0.0.1:{cluster.port}", NO_ANSWER)
     assert cluster.daemons["scheduler"].poll() is None

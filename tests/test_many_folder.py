@@ -94,10 +94,9 @@ def test_a_folder_of_another_user_or_that_others_may_write_is_refused_and_not_us
         case.refused(2, message, *words, by=case.ACTS, places={"WORDS": f"{case.folder}/words"})  # runs no program
         run("sh", "-c", command, check=True)
         case.many(*words, message=", 3 of them solved before")
-    os.rename("-my work", "work")
     if NOBODY:
-        os.chown("work/solve.py", NOBODY["user"], 0)
-        case.refused(2, "work/solve.py belongs to another user: name another folder\n", *WORDS)
+        os.chown("-my work/solve.py", NOBODY["user"], 0)
+        case.refused(2, "-my work/solve.py belongs to another user: name another folder\n", *words)
 
 
 def test_a_group_that_may_write_the_results_solves_parts_of_a_folder(case):
@@ -199,9 +198,8 @@ def test_a_changed_line_costs_one_part():
 
 def test_a_list_may_change_and_only_the_parts_that_hold_the_change_are_solved(case):
     """The other results stay until they are pruned. Files that are not results stay always."""
-    lines = case.SMALL.splitlines(keepends=True)
     case.many(*WORDS, message=": 60 lines in 3 parts, 0 of them solved before")
-    changed = case.SMALL.replace(lines[29], lines[29][:-1] + b" A1:+02;\n")
+    changed = case.SMALL.replace(case.lines[29], case.lines[29][:-1] + b" A1:+02;\n")
     for text, parts, solved in ((changed, 3, 2), (case.SMALL, 3, 3), (case.SMALL[68:], 3, 2),
                                 (case.SMALL + case.SMALL, 6, 4), (case.SMALL[68 * 20:], 2, 2),
                                 (case.SMALL[68 * 20:] + case.SMALL[:68 * 20], 3, 3), (b"% X\n", 1, 0), (b"", 0, 0)):
@@ -451,11 +449,9 @@ def test_a_list_is_read_from_standard_input_from_where_it_stands_and_from_a_pipe
                  preexec_fn=limited(RLIMIT_FSIZE=1000))
     ends((3, "", "ffosolve-many: cannot read -: standard input is closed\n"), "sh", "-c", '"$0" work - <&-', case.MANY)
     write("whole.obf", b"%\n\n" + case.SMALL)
-    for command in ('{ read a; read b; "$0" in - --book-out joined.book; } <whole.obf',
-                    '"$0" pipe <(cat list.obf) --book-in <(cat one.book) --book-out joined.book'):
-        case.many("-c", command, case.MANY, by="bash", message=": 60 lines in 1 part")
-        case.same_book()
-        os.remove("joined.book")
+    for command in ('{ read a; read b; "$0" in - --book-out "$1"; } <whole.obf',
+                    '"$0" pipe <(cat list.obf) --book-in <(cat one.book) --book-out "$1"'):
+        case.many("-c", command, case.MANY, "joined.book", by="bash", message=": 60 lines in 1 part")
     assert Path("pipe", "book-in").read_bytes() == Path("one.book").read_bytes()
     assert os.listdir(os.environ["TMPDIR"]) == []
 
@@ -515,8 +511,7 @@ def begin(case, *program, last=99):
 def at_work(case, done):
     """Starts a run of 12 parts; returns its process once `done` parts are solved and two are being solved."""
     ran = begin(case, case.ACTS, last=done)
-    wait_until(lambda: case.parts_solved() >= done)
-    wait_until(lambda: len(case.programs()) == 2)
+    wait_until(lambda: case.parts_solved() >= done and len(case.programs()) == 2)
     return ran
 
 
@@ -530,12 +525,15 @@ def end(case, ran, *signals):
     return output, errors.decode()
 
 
-def test_a_signal_ends_all_processes_within_a_second_and_the_command_goes_on(case):
-    for at, number in enumerate((signal.SIGTERM, signal.SIGINT, signal.SIGHUP, signal.SIGKILL), 1):
-        ran = at_work(case, 2 * at)
-        output, errors = end(case, ran, number)
-        assert (ran.returncode, output) == (-number, b"")
-        assert (INTERRUPTED in errors, "Traceback" in errors) == (number != signal.SIGKILL, False)
+def test_a_signal_or_two_together_end_all_processes_within_a_second_and_the_command_goes_on(case):
+    pairs = [(signal.SIGINT, signal.SIGTERM), (signal.SIGTERM, signal.SIGINT), (signal.SIGHUP, signal.SIGINT)]
+    together = [(signal.SIGSTOP, *pair, signal.SIGCONT) for pair in pairs]  # so that both come at once
+    alone = [(number,) for number in (signal.SIGTERM, signal.SIGINT, signal.SIGHUP, signal.SIGKILL)]
+    for at, numbers in enumerate(alone + 2 * together):
+        ran = at_work(case, min(8, 2 + 2 * at))
+        output, errors = end(case, ran, *numbers)
+        assert (-ran.returncode in numbers, output) == (True, b"")
+        assert re.search(f"^.*\n{'' if signal.SIGKILL in numbers else INTERRUPTED}$", errors)  # no traceback
     case.many(*SIGNALLED, by=case.ACTS, message=f"lines in 12 parts, {case.parts_solved()} of them solved before")
 
 
@@ -565,15 +563,6 @@ def test_a_program_does_not_start_once_its_caller_has_ended(case):
     words = run(sys.executable, "-c", code, cwd="work", text=True).stdout.splitlines()
     ran = run(*words, text=True)
     assert ran.stdout == "" and "/ffosolve-0: No such file or directory" in ran.stderr
-
-
-def test_two_signals_together_end_the_run_without_a_traceback(case):
-    pairs = [(signal.SIGINT, signal.SIGTERM), (signal.SIGTERM, signal.SIGINT), (signal.SIGHUP, signal.SIGINT)]
-    for pair in pairs * 2:
-        ran = at_work(case, 0)
-        _, errors = end(case, ran, signal.SIGSTOP, *pair, signal.SIGCONT)  # so that both come at once
-        assert -ran.returncode in pair
-        assert re.search(f"^.*\n{INTERRUPTED}$", errors)
 
 
 MAY_USE = sorted(os.sched_getaffinity(0))

@@ -1,4 +1,5 @@
 """The memory and the time that programs and the library's calls take, with tables of several sizes and with a book."""
+import functools
 import resource
 import timeit
 
@@ -15,7 +16,6 @@ ADVISED = b"-XOOOO-X-XOOOOX--OOXOOXX-OOXXOXO-OXOXXO-OOOXOOX-OOXOOO--OX--O--- X\n
 MOVES = b"-------X--XX-XX-X-XXXX---XOOXOOX-OOXOOOOOOOOOXXXXOOOXOO--OOOOOOO X\n"  # 18 empty squares
 AGAIN = 8  # how often a position is repeated
 LIMIT = 64 << 20  # bytes of memory: enough for the default table, not for the greatest
-OUT_OF_MEMORY = {"ffosolve": (1, "", "ffosolve: out of memory\n"), "ffoscores": (3, "", "ffoscores: out of memory\n")}
 
 
 def spent():
@@ -26,19 +26,17 @@ def spent():
 def is_shorter(quick, slow, times, repeat=3):
     """Returns whether `quick` takes less than 1/`times` of the processor time of `slow`: the least of `repeat` calls of
     each, made in turn, or one of ten more calls of `quick`, since other work on the machine slows a call at times."""
-    def seconds(call):
-        return timeit.timeit(call, timer=spent, number=1)
-
+    seconds = functools.partial(timeit.timeit, timer=spent, number=1)
     without, usual = map(min, zip(*((seconds(slow), seconds(quick)) for _ in range(repeat))))
     return usual < without / times or any(seconds(quick) < without / times for _ in range(10))
 
 
-@pytest.mark.parametrize("name", OUT_OF_MEMORY)
-def test_the_greatest_table_takes_more_memory(folder, name):
+@pytest.mark.parametrize(("name", "status"), [("ffosolve", 1), ("ffoscores", 3)])
+def test_the_greatest_table_takes_more_memory(folder, name, status):
     words, little = (built(name), "--workers", "0"), limited(RLIMIT_AS=LIMIT)
     usual = run(*words, input=KINDS, text=True)
     ends((usual.returncode, usual.stdout, ""), *words, input=KINDS, preexec_fn=little)
-    ends(OUT_OF_MEMORY[name], *words, "--table", MOST_ENTRIES, input=KINDS, preexec_fn=little)
+    ends((status, "", f"{name}: out of memory\n"), *words, "--table", MOST_ENTRIES, input=KINDS, preexec_fn=little)
 
 
 @pytest.mark.parametrize(("options", "lines"), [("--workers 0", 1), ("--workers 0 --progress", 1), ("--workers 8", 8),
