@@ -43,8 +43,8 @@ class Cluster:
                                   ("engine", "(1 if is_terminal else 60)", "1"), script=many.ACTING)
 
     def daemon(self, name, *command, **places):
-        """Starts Dask's scheduler or a worker, after it has killed any of that name, with `places` added to the
-        environment; it logs to NAME.log."""
+        """Starts Dask's scheduler or a worker, with `places` added to the environment; it logs to NAME.log. Kills one
+        of the same name before."""
         self.signal(signal.SIGKILL, *self.daemons.keys() & {name})
         settings = {"DASK_DISTRIBUTED__SCHEDULER__WORKER_TTL": "5s", "DASK_DISTRIBUTED__COMM__TIMEOUTS__CONNECT": "3s"}
         with open(f"{name}.log", "wb") as log:
@@ -110,7 +110,6 @@ def messages():
 
 @pytest.fixture
 def cluster(case, dask_python):
-    """A `Cluster` with a scheduler."""
     it = Cluster(case, dask_python)
     it.start_scheduler()
     yield it

@@ -176,8 +176,7 @@ def test_parts_end_by_what_the_lines_are_and_have_as_many_as_asked_on_average(us
     lines = [b"%x\n" % rng.getrandbits(99) for _ in range(60 * usual)]
     parts = [*solve.parts_of(iter(lines), usual)]
     assert parts == least_last(lines, usual)
-    sizes = [len(part) for part in parts]
-    assert max(sizes) <= 2 * usual and 0.8 < sum(sizes) / len(sizes) / usual < 1.2
+    assert max(map(len, parts)) <= 2 * usual and 0.8 < 60 / len(parts) < 1.2
     assert [*solve.parts_of(iter([b"% X\n"] * 70), 20)] == [[b"% X\n"] * 35] * 2
     assert [*solve.parts_of(iter([]), usual)] == []
 
@@ -231,8 +230,7 @@ def test_a_list_may_change_and_only_the_parts_that_hold_the_change_are_solved(ca
 
 def test_equal_parts_are_solved_once(case):
     case.write_list(case.SMALL[:68] * 100 + case.SMALL[68:136] * 10)
-    places = {"WORDS": "words"}
-    case.many(*WORDS, by=case.ACTS, places=places, message=" in 4 parts, 0 of them solved before")
+    case.many(*WORDS, by=case.ACTS, places={"WORDS": "words"}, message=" in 4 parts, 0 of them solved before")
     assert Path("words").read_text().count("--book-out=") == 1 + 3  # the first one is for the known line
     assert case.parts_solved() == 3
     case.many(*WORDS, message=" in 4 parts, 4 of them solved before")
