@@ -384,7 +384,7 @@ def test_books_that_cannot_be_merged_are_named(case):
     case.refused(3, "bad.book: book line 1: unknown header", "--merge-books", "one.book", "bad.book")
 
 
-def test_an_entry_of_a_book_has_the_greatest_score_of_its_line_and_the_moves_with_that_score(case):
+def test_an_entry_of_a_book_has_the_greatest_score_of_its_line_and_the_moves_with_that_score():
     head = BOARD + b" X;"
     for fields, claim in ((b" A1:+02;", b" A1:+02;"), (b"b2:2 ; A1:+02;C1:-64;", b" A1:+02; B2:+02;"),
                           (b"H1:1;A2:1", b" H1:+01; A2:+01;"), (b" A1:-0; junk; A9:+3; A1:+65", b" A1:+00;"),
