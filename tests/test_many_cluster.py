@@ -202,7 +202,7 @@ def test_a_worker_that_fails_three_parts_in_a_row_is_left_out_but_not_the_last_o
     assert told.count("failed part 0000000 ") == 3
 
 
-def test_a_worker_whose_program_breaks_is_left_out_and_fails_no_part(cluster, case):
+def test_a_worker_whose_program_breaks_is_left_out_and_fails_no_part(cluster):
     broken = "lambda text: sys.exit('broken') if os.path.exists('broken') else text"
     cluster.start_workers("worker1", PAUSE="0.5", SPOIL=broken, SPOIL_KNOWN=broken)
     cluster.start_workers("worker2", PAUSE="1")
