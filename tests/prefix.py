@@ -10,7 +10,7 @@ from pathlib import Path
 
 import pytest
 
-from .support import ROOT, build, need, run, stored, write
+from .support import ROOT, need, run, stored, write
 
 VERSION = stored("VERSION").decode().strip()
 NUMBER = sum(int(part) * 100 ** place for place, part in enumerate(VERSION.split(".")[::-1]))
@@ -49,7 +49,7 @@ def names_of_files():
 def copied_checkout(folder):
     """Builds everything, and copies the checkout's files and out/, but not out/tests, logs, packages and unfinished
     files, to `folder`; returns `folder`. The copies keep their modification times, and everybody may read them."""
-    build("make", "-s", "-C", ROOT, "levels")
+    run("make", "-s", "-C", ROOT, "levels", check=True, text=True, timeout=None)
     others = shutil.ignore_patterns("tests", "*.log", "*.tar.gz*", "*.deb", "*.whl", "*.new", "*.[0-9][0-9]*")
     shutil.copytree(ROOT / "out", folder / "out", ignore=others)
     run("cp", "--parents", "--preserve=mode,timestamps", *names_of_files(), folder, cwd=ROOT, check=True)
@@ -101,21 +101,21 @@ def completed_by_zsh(lines, before="", start=run):
     shutil.rmtree(own, ignore_errors=True)
     write(own / "asked", "\n".join(lines))
     write(own / ".zshrc", before + ZSHRC)
-    variables = ("PATH=/usr/bin:/bin", f"ZDOTDIR={own}", "TERM=dumb")
-    ran = start("env", "-i", *variables, "script", "-qec", "zsh -i", "/dev/null", text=True, timeout=LONGEST)
-    assert ran.returncode == 0
-    return [line.strip() for line in (own / "completed").read_text().splitlines()], ran.stdout
+    words = ("env", "-i", "PATH=/usr/bin:/bin", f"ZDOTDIR={own}", "TERM=dumb", "script", "-qec", "zsh -i", "/dev/null")
+    shown = start(*words, check=True, text=True, timeout=LONGEST).stdout
+    return [line.strip() for line in (own / "completed").read_text().splitlines()], shown
 
 
 class Prefix:
-    """The installed files, and the folder `work`, in which tests build programs that use them."""
+    """The installed files, and the folder `work`, in which tests build programs that use them. There `run` runs a
+    command, and `make` one that has to succeed, with its output as str."""
 
     def install(self, work):
         """Installs under a prefix in `work`. Copies the installed documents, which include the packages for Python and
         Rust, into `work`."""
         vars(self).clear()
         self.work, self.folder = work, (folder := work / "a prefix")
-        build("make", "--silent", "-C", ROOT, "install", f"PREFIX={folder}", "DESTDIR=")
+        run("make", "-s", "-C", ROOT, "install", f"PREFIX={folder}", "DESTDIR=", check=True, text=True, timeout=None)
         self.libraries, self.header = folder / "lib", folder / "include/ffosolve.h"
         self.archive, self.shared = self.libraries / "libffosolve.a", self.libraries / "libffosolve.so"
         self.shipped = folder / "share/doc/ffosolve"
@@ -132,12 +132,7 @@ class Prefix:
             "PYTHONPATH": str(work / "site"),
         }
         self.run = functools.partial(run, text=True, timeout=LONGEST, cwd=work, env=self.environment)
-
-    def make(self, *words, **how):
-        """Runs a command, by default in `work`, and returns its CompletedProcess; raises AssertionError if it fails."""
-        ran = self.run(*words, **how)
-        assert ran.returncode == 0, f"{' '.join(map(str, words))}\n{ran.stdout}{ran.stderr}"
-        return ran
+        self.make = functools.partial(self.run, check=True)
 
     def compile(self, compiler, name, sources, *words):
         """Compiles a program `name` in C or C++ and returns its path. `words` are the options that find the header and

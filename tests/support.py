@@ -44,14 +44,16 @@ def worked_rows(name):
 
 def run(*words, **how):
     """Runs a command and returns its CompletedProcess. By default, its input is empty, its output is captured as bytes,
-    and it is killed after SECONDS. `how` are keyword arguments of subprocess.run, which change this or add to it. Skips
-    the test if the command is a name, not a path, and not installed."""
+    and it is killed after SECONDS. `how` are keyword arguments of subprocess.run, which change this or add to it; with
+    `check`, a failure shows the output. Skips the test if the command is a name, not a path, and not installed."""
     if how.get("input") is None:
         how.setdefault("stdin", subprocess.DEVNULL)
     how = {"stdout": subprocess.PIPE, "stderr": subprocess.PIPE, "timeout": SECONDS, **how}
     words = [word if isinstance(word, bytes) else str(word) for word in words]
     try:
         return subprocess.run(words, **how)
+    except subprocess.CalledProcessError as why:
+        raise AssertionError(f"{why.stderr}{why.stdout}{why}") from None
     except FileNotFoundError:
         if "/" not in words[0]:
             need(words[0])
@@ -103,26 +105,21 @@ def limited(**limits):
 refuse_threads = limited(RLIMIT_STACK=1_000_000_000 << 10, RLIMIT_AS=500_000_000 << 10)
 
 
-def build(*words):
-    """Runs a command that builds from what is proved. The test fails if something would have to be proved."""
-    ran = run(*words, text=True, timeout=None)
-    if ran.returncode:
-        pytest.fail(ran.stderr, pytrace=False)
-
-
 @functools.cache
 def built(name="ffosolve"):
-    """Returns a program's path, in the folder that TEST_PROGRAMS in the environment names, or by default in out/."""
+    """Returns a program's path, in the folder that TEST_PROGRAMS in the environment names, or by default in out/, where
+    it is linked from what is proved. The test fails if something would have to be proved."""
     if "TEST_PROGRAMS" in os.environ:
         return Path(os.environ["TEST_PROGRAMS"], name)
-    build(ROOT / "bin" / name, "/dev/null")
+    run(ROOT / "bin" / name, "/dev/null", check=True, text=True, timeout=None)
     return ROOT / "out" / name
 
 
 def copy_many(root):
-    """Copies ffosolve-many, its package and VERSION to the same paths in a folder; returns the program's path there."""
+    """Copies the package for Python, its scripts and VERSION to the same paths in a folder; returns ffosolve-many's."""
     shutil.copytree(ROOT / "python/src", Path(root, "python/src"), ignore=shutil.ignore_patterns("__pycache__"))
-    run("cp", "--parents", "VERSION", "bin/ffosolve-many", Path(root).absolute(), cwd=ROOT, check=True)
+    files = ("VERSION", "bin/ffosolve-many", "bin/ffosolve-games")  # which ffosolve-many runs
+    run("cp", "--parents", *files, Path(root).absolute(), cwd=ROOT, check=True)
     return Path(root, "bin/ffosolve-many")
 
 

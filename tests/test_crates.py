@@ -4,7 +4,7 @@ import re
 import pytest
 
 from tests.prefix import LEVELS
-from tests.support import ROOT, build, is_v3, need, outcomes, run
+from tests.support import ROOT, is_v3, need, outcomes, run
 
 # Parts of the names of the tests that are run here. Others go on after a refused request, or need two threads.
 TESTS = (
@@ -24,7 +24,7 @@ REPORTS = ("AllocError", "AllocFailed { .. }", "Kind(OutOfMemory)", "Memory")  #
 
 def test_a_crates_test_passes_or_reports_only_out_of_memory_at_each_refused_request(folder):
     program = ROOT / "out" / LEVELS[is_v3()] / "crate_tests_tests"
-    build("make", "-s", "-C", ROOT, program.relative_to(ROOT))
+    run("make", "-s", "-C", ROOT, program.relative_to(ROOT), check=True, text=True, timeout=None)
     listed = run(program, "--list", check=True, text=True).stdout
     assert [part for part in TESTS if part not in listed] == []
     tests = re.findall(rf"^(tests::\S*(?:{'|'.join(TESTS)})\S*): test$", listed, re.M)

@@ -35,16 +35,16 @@ print(os.path.dirname(ffosolve._processes.program("ffosolve", solver._call(None)
 
 def made(target, folder, *names, **how):
     """Runs make for a target in the checkout `folder`. Asserts that make prints only that it made the files `names` in
-    out; returns the first one's path."""
+    out; returns their paths."""
     paths = [folder / "out" / name for name in names]
     ends((0, "".join(f"made: {path}\n" for path in paths), ""), *MAKE, "-C", folder, target, timeout=300, **how)
-    return paths[0]
+    return paths
 
 
 @pytest.fixture(scope="module")
 def dist(shared_folder):
     """Archives of two checkouts that differ in path, times, umask, locale and time zone; the first archive, unpacked;
-    their versions and names; and an environment without rt."""
+    their version and commit; and an environment without rt."""
     need("rt")
     first = copied_checkout(shared_folder / "a")
     run("sh", "-euc", f"git init -q; git add VERSION; {COMMIT}; {COMMIT_ALL}", cwd=first, check=True)
@@ -54,14 +54,12 @@ def dist(shared_folder):
     name = f"ffosolve-{version}-linux-x86-64"
     os.utime(second / "README.md", (0, 0))
     other = {"umask": 0o077, "env": {**os.environ, "LC_ALL": "C", "TZ": "UTC+9"}}
-    archives = [made("dist", place, f"{name}.tar.gz", **how) for place, how in ((first, {}), (second, other))]
+    archives = [made("dist", place, f"{name}.tar.gz", **how)[0] for place, how in ((first, {}), (second, other))]
     unpacked = shared_folder / "a folder with blanks" / name
-    unpacked.parent.mkdir()
-    run("tar", "-xzf", archives[0], "-C", unpacked.parent, check=True)
-    places = {"PATH": path_without("rt", shared_folder), "TMPDIR": str(shared_folder)}
+    run("tar", "-xzf", archives[0], f"--one-top-level={unpacked.parent}", check=True)
+    places = {"PATH": path_without("rt", shared_folder), "TMPDIR": str(shared_folder), "PYTHONDONTWRITEBYTECODE": "1"}
     return SimpleNamespace(
-        first=first, archives=archives, head=head, version=version, name=name, unpacked=unpacked,
-        without_rt={**places, "PYTHONDONTWRITEBYTECODE": "1"})
+        first=first, archives=archives, head=head, version=version, unpacked=unpacked, without_rt=places)
 
 
 def shows(readme, at, start):
@@ -86,14 +84,14 @@ def shows(readme, at, start):
 def test_two_checkouts_make_the_same_bytes(dist):
     first, second = (hashlib.sha256(path.read_bytes()).hexdigest() for path in dist.archives)
     assert first == second
-    assert Path(f"{dist.archives[0]}.sha256").read_text() == f"{first}  {dist.name}.tar.gz\n"
+    assert Path(f"{dist.archives[0]}.sha256").read_text() == f"{first}  {dist.archives[0].name}\n"
 
 
 def test_entries_are_sorted_in_one_folder_with_the_time_of_the_commit_and_owner_0(dist):
     with tarfile.open(dist.archives[0]) as archive:
         entries = archive.getmembers()
     names = [entry.name.split("/") for entry in entries]
-    assert (names, {top for top, *_ in names}) == (sorted(names), {dist.name})
+    assert (names, {top for top, *_ in names}) == (sorted(names), {dist.unpacked.name})
     owners = {(entry.uid, entry.gid, entry.uname, entry.gname, entry.mtime) for entry in entries}
     assert owners == {(0, 0, "", "", 1700000000)}
     assert {oct(entry.mode) for entry in entries} <= {"0o644", "0o755", "0o777"}
@@ -172,8 +170,7 @@ def test_files_that_texts_name_are_there(dist):
 
 
 def test_the_commands_of_readme_print_what_it_shows(dist):
-    how = {"cwd": dist.unpacked, "env": dist.without_rt, "text": True, "timeout": 300}
-    shows(dist.unpacked / "README.md", 1, lambda *words: run(*words, **how))
+    shows(dist.unpacked / "README.md", 1, partial(run, cwd=dist.unpacked, env=dist.without_rt, text=True, timeout=300))
 
 
 def test_the_commands_of_the_documents_run_on_the_path(dist, folder):
@@ -251,12 +248,12 @@ def is_used(start, version, place):
 @pytest.fixture(scope="module")
 def wheel(dist):
     pytest.importorskip("hatchling")
-    return made("wheel", dist.first, f"ffosolve-{dist.version}-py3-none-manylinux_2_34_x86_64.whl")
+    return made("wheel", dist.first, f"ffosolve-{dist.version}-py3-none-manylinux_2_34_x86_64.whl")[0]
 
 
 def test_the_wheel_has_the_same_bytes_again(dist, wheel):
     first = wheel.read_bytes()
-    again = made("wheel", dist.first, wheel.name, umask=0o077, env={**os.environ, "TZ": "UTC+9"})
+    again, = made("wheel", dist.first, wheel.name, umask=0o077, env={**os.environ, "TZ": "UTC+9"})
     assert (again.read_bytes(), again.stat().st_mode & 0o777) == (first, 0o644)
 
 
@@ -315,9 +312,8 @@ def packages(dist):
     missing = run("dpkg-checkbuilddeps", ROOT / "debian/control", text=True)
     if missing.returncode:
         pytest.skip(missing.stderr)
-    names = {name: f"{name}_{dist.version}_{'all' if name.startswith('python3') else 'amd64'}.deb" for name in PACKAGES}
-    made("deb", dist.first, *names.values())
-    return {name: dist.first / "out" / names[name] for name in PACKAGES}
+    files = [f"{name}_{dist.version}_{'all' if name.startswith('python3') else 'amd64'}.deb" for name in PACKAGES]
+    return dict(zip(PACKAGES, made("deb", dist.first, *files)))
 
 
 def test_lintian_finds_nothing_but_functions_that_gcc_would_guard(packages):
@@ -373,7 +369,8 @@ PYTHON = "/usr/lib/python3/dist-packages"
 
 
 class System:
-    """A Debian below the folder `top`; "" is this machine's. Commands of one object alone see what it writes."""
+    """A Debian below the folder `top`; "" is this machine's. `run` runs a command there, and `make` one that has to
+    succeed. Commands of one object alone see what it writes."""
 
     def __init__(self, top):
         if os.getuid() != 0:
@@ -382,17 +379,12 @@ class System:
         words = (*unshared(), "sh", "-euc", APART, "sh", top, layers, layers.parents[1])
         env = {"PATH": "/usr/sbin:/usr/bin:/sbin:/bin", "DEBIAN_FRONTEND": "noninteractive", "HOME": os.getcwd()}
         self.run = partial(run, *words, env=env, timeout=600, text=True)
-
-    def make(self, *words):
-        """Runs a command, which has to succeed, and returns what it prints."""
-        ran = self.run(*words)
-        assert ran.returncode == 0, ran
-        return ran.stdout
+        self.make = partial(self.run, check=True)
 
     def has_nothing_left(self):
         """Asserts that of removed packages nothing is left. Some systems keep an empty folder of documents."""
         assert self.run("dpkg-query", "-W", "*ffosolve*").stdout == ""
-        found = self.make("find", "/usr", "/etc", "/var/lib/dpkg/info", "-iname", "*ffosolve*")
+        found = self.make("find", "/usr", "/etc", "/var/lib/dpkg/info", "-iname", "*ffosolve*").stdout
         assert found in ("", "/usr/share/doc/ffosolve\n")
 
 
@@ -405,19 +397,19 @@ def test_apt_installs_them_and_removes_all_of_them(dist, packages, folder):
     assert (library.startswith("/usr/lib/x86_64-linux-gnu/"), os.path.realpath(programs)) == (True, "/usr/bin")
     run("dpkg-deb", "-x", packages["ffosolve"], "root", check=True)
     shows(folder / "root/usr/share/doc/ffosolve/README.md", 0, system.run)
-    assert system.make("pkg-config", "--cflags", "--libs", "ffosolve").split() == ["-lffosolve"]
+    assert system.make("pkg-config", "--cflags", "--libs", "ffosolve").stdout.split() == ["-lffosolve"]
     # Shells find the completions by themselves.
     assert completed_by_zsh(["ffosolve --sco", "ffosolve-games che"], start=system.run)[0] == [
         "ffosolve --scoring=", "ffosolve-games check"]
     loads = ". /usr/share/bash-completion/bash_completion; _completion_loader ffosolve-many; complete -p ffosolve-many"
     assert system.run("bash", "-c", loads).stdout == "complete -F _ffosolve ffosolve-many\n"
-    assert system.make("fish", "-c", "complete -C 'ffoscores --sco'").startswith("--scoring\t")
+    assert system.make("fish", "-c", "complete -C 'ffoscores --sco'").stdout.startswith("--scoring\t")
     # Debian's tools find the version that a program needs, and a package that depends on the library is installed.
     needs = "libffosolve1 (>= 1.0.0)"
     write("debian/control", "Source: one\n\nPackage: one\nArchitecture: any\n")
     fields = "Package: one\nVersion: 1\nArchitecture: all\nMaintainer: A <a@b>\nDescription: a\n"
     write("one/DEBIAN/control", f"{fields}Depends: {needs}, libffosolve-dev, python3-ffosolve\n")
-    assert needs in system.make("dpkg-shlibdeps", "-O", "-eanswers")
+    assert needs in system.make("dpkg-shlibdeps", "-O", "-eanswers").stdout
     run("dpkg-deb", "--build", "one", check=True)
     system.make("dpkg", "-i", folder / "one.deb")
     system.make("dpkg", "-P", "one")
@@ -439,12 +431,12 @@ def test_an_empty_debian_upgrades_the_single_package_of_before_and_goes_back(dis
     run("dpkg-deb", "--root-owner-group", "--build", "one", check=True)
     single = {"ffosolve": folder / "one.deb"}
     system.make("apt-get", "-q", "update")
-    assert system.make("apt-get", "-s", "install", *packages.values()).count("Inst ") < 60  # with Dask it is 366
+    assert system.make("apt-get", "-s", "install", *packages.values()).stdout.count("Inst ") < 60  # with Dask it is 366
     for installed in (single, packages, single, {name: packages[name] for name in PACKAGES if "dev" not in name}):
         system.make(*APT, "install", *installed.values())
-        listed = system.make("dpkg-query", "-W", "-f", "${Package} ${Status}\n", "*ffosolve*")
+        listed = system.make("dpkg-query", "-W", "-f", "${Package} ${Status}\n", "*ffosolve*").stdout
         assert re.findall("(.*) install ok installed", listed) == [*installed]
-        assert system.make("dpkg", "-V", *installed) == ""
+        assert system.make("dpkg", "-V", *installed).stdout == ""
         is_used(system.run, dist.version, PYTHON)
     system.make(*APT, "remove", "libffosolve1")
     system.has_nothing_left()
