@@ -19,7 +19,6 @@ from tests.support import ROOT, built, ends, need, preload, run, stored
 
 pytestmark = pytest.mark.usefixtures("installed")
 PAGE = "docs/check-evaluation.md"  # its program reads a list of positions, and their scores
-SMALL, LARGE = 9, 10  # how many positions of examples/masks.txt an example solves; only the last has 20 empty squares
 CMAKE = f"""cmake_minimum_required(VERSION 3.16)
 project(clients C CXX)
 add_executable(program answers.c)
@@ -97,12 +96,12 @@ def shown(language, *names):
     return block, "".join(f"{line}\n" for line in re.findall(r"(?:  # |// )(.*)$", block, re.MULTILINE))
 
 
-def answers_of(*command, count=LARGE):
-    """Asserts what an example program prints: for the first `count` lines of examples/masks.txt; for two positions of
-    which the first has two best moves; for none; and for a position that is refused or not written as two masks."""
+def answers_of(*command):
+    """Asserts what an example program prints: for examples/masks.txt; for two positions of which the first has two best
+    moves; for none; and for a position that is refused or not written as two masks."""
     masks, answers = (stored("examples", f"{name}.txt").decode().splitlines(True) for name in ("masks", "answers"))
-    ran = PREFIX.run(*command, input="".join(masks[:count]))
-    assert (ran.returncode, ran.stdout) == (0, "".join(answers[:count] + answers[LARGE:])), ran.stderr
+    ran = PREFIX.run(*command, input="".join(masks))
+    assert (ran.returncode, ran.stdout) == (0, "".join(answers)), ran.stderr
     ran = PREFIX.run(*command, input=masks[2] + "fffffff8 7fffffff00000007\n")
     assert ran.stdout == answers[2] + "+08 H8\nA1 of A1,H1\nPS\nH1 of H1\n", ran.stderr
     ran = PREFIX.run(*command)
@@ -119,9 +118,8 @@ def test_examples_in_c_and_cxx_are_built_by_pkg_config():
     assert PREFIX.make("pkg-config", "--modversion", "ffosolve").stdout.strip() == VERSION
     flags = shlex.split(PREFIX.make("pkg-config", "--cflags", "--libs", "ffosolve").stdout)
     source = PREFIX.shipped / "examples/c/answers.c"
-    for compiler, count, words in ((C, LARGE, ()), (C, SMALL, ("-static",)), (CXX, SMALL, ())):
-        program = PREFIX.compile(compiler, "by-pkg-config", [*words, source], "-x", "none", *flags)
-        answers_of(program, count=count)
+    for compiler, *words in ((C,), (C, "-static"), (CXX,)):
+        answers_of(PREFIX.compile(compiler, "by-pkg-config", [*words, source], "-x", "none", *flags))
 
 
 def test_examples_in_c_and_cxx_are_built_by_cmake():
@@ -136,7 +134,7 @@ def test_examples_in_c_and_cxx_are_built_by_cmake():
     PREFIX.make(*configure)
     PREFIX.make("cmake", "--build", "cmake-built")
     for name in ("program", "shared", "in_cxx"):
-        answers_of(PREFIX.work / "cmake-built" / name, count=SMALL)
+        answers_of(PREFIX.work / "cmake-built" / name)
     PREFIX.archive.rename(PREFIX.work / "archive")
     ran = PREFIX.run(*configure)
     (PREFIX.work / "archive").rename(PREFIX.archive)
@@ -163,7 +161,7 @@ def test_the_example_with_a_limit_of_time_stops_a_call(compiler):
 def test_the_example_in_python_runs():
     script = [PREFIX.site and sys.executable, PREFIX.shipped / "examples/python/answers.py"]
     answers_of(*script)
-    answers_of(*script, PREFIX.shared, count=SMALL)
+    answers_of(*script, PREFIX.shared)
 
 
 def test_the_example_in_rust_runs():

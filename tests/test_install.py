@@ -1,4 +1,5 @@
 """make install, uninstall and library in a built copy of the checkout; make constants; manual pages, completions."""
+import functools
 import os
 import re
 import shlex
@@ -35,10 +36,8 @@ class Place:
 
     def __init__(self, source, stage):
         self.source, self.stage, self.root = source, stage, Path(f"{stage}{STAGED}")
-
-    def make(self, *words, **how):
-        words = ["make", "-s", "-C", self.source, f"PREFIX={STAGED}", f"DESTDIR={self.stage}", *words]
-        return run(*words, text=True, timeout=LONGEST, **how)
+        words = ("make", "-s", "-C", source, f"PREFIX={STAGED}", f"DESTDIR={stage}")
+        self.make = functools.partial(run, *words, text=True, timeout=LONGEST)
 
     def install(self, *words, **how):
         ran = self.make("install", *words, **how)
@@ -307,23 +306,20 @@ def options_of(texts, name):
     return dict(sorted(listed))
 
 
-def test_manual_pages_show_each_option_without_a_warning(texts):
+def test_manual_pages_show_each_use_option_and_status_without_a_warning(texts):
     for name in COMMANDS:
         page = texts / f"share/man/man1/{name}.1"
         shown = run("man", "--warnings", "-E", "ascii", "-l", page, text=True)
         assert (shown.returncode, shown.stderr) == (0, "")
-        text = " ".join(shown.stdout.split())
-        entries = re.findall(r"^ {2,6}(-\S.*?|\d|PS)(?: {2,}(\S.*))?$", help_of(texts, name), re.M)
+        text, printed = " ".join(shown.stdout.split()), help_of(texts, name)
+        _, *uses = re.findall(rf"^ +({name} .*)", shown.stdout.split("DESCRIPTION")[0], re.M)  # after its description
+        usage = re.search("(?im)^usage: (.*)", printed)[1]
+        assert (len(uses), " ".join(uses)) == (usage.count(name), usage)
+        entries = re.findall(r"^ {2,6}(-\S.*?|\d|PS)(?: {2,}(\S.*))?$", printed, re.M)
         assert len(entries) > 5
         assert [part for entry in entries for part in entry if part not in text] == []
+        assert f" STATUS {' '.join(' '.join(entry) for entry in entries if entry[0].isdigit())}" in text
         assert re.findall(r"([a-z-]+)\(1\)", text.split("SEE ALSO")[1]) == sorted({*COMMANDS} - {name})
-
-
-def test_the_manual_page_of_ffosolve_games_has_its_commands_and_their_statuses(texts):
-    page = (texts / "share/man/man1/ffosolve-games.1").read_text()
-    assert re.search(r"(?m)^ffosolve\\-games check .*FILE .*$", page.split(".SH DESCRIPTION")[0])
-    assert re.search(r"(?m)^ffosolve\\-games compare .*BOOK FILE .*$", page.split(".SH DESCRIPTION")[0])
-    assert re.search(r"with check or compare: all(.|\n)*BOOK is not a", page.split('.SH "STATUS"')[1])
 
 
 def offered(*words):

@@ -261,17 +261,15 @@ def test_the_header_passes_on_no_null_pointer_of_an_empty_list_or_text(language)
 def test_a_call_without_memory_returns_its_status():
     """Each call is made five times: the first request for memory is refused, the second one, and so on."""
     call = Calls("memory", declarations() + "extern int granted;", REFUSING, "-Wl,--wrap=malloc")
-
-    def made(granted, words):
-        call.lib.granted = granted
-        return call(*words)
-
     for requests, *words in (
         (2, "solve", CORNERS, 0, 64), (2, "confirm", CORNERS, 0, 64, CLAIM), (2, "move_scores", CORNERS, 0, 64),
         (2, "solve_all", (CORNERS,), 0, 64, 1), (2, "move_scores_all", (CORNERS,), 0, 64, 1),
         (1, "read_line", BOARD + b" X;A1:0", 0), (0, "solve", CORNERS, 0, 0),
     ):
-        found = [made(granted, words) for granted in range(5)]
+        found = []
+        for granted in range(5):
+            call.lib.granted = granted
+            found.append(call(*words))
         assert found == [[7]] * requests + [[0, *found[-1][1:]]] * (5 - requests)
 
 
