@@ -141,10 +141,6 @@ class Prefix:
         self.make(*compiler, "-o", self.work / name, *sources, *libraries)
         return self.work / name
 
-    def write(self, name, text):
-        """Writes a file into the folder `work`, and returns its path."""
-        return write(self.work / name, text)
-
     @functools.cached_property
     def site(self):
         """The folder into which pip has installed the package for Python, without a network."""
@@ -160,15 +156,16 @@ class Prefix:
 
     def rust_client(self, name, source, **places):
         """Builds a Rust program that uses the crate, and returns its path. `places` are variables for the build."""
-        self.write(f"{name}/src/main.rs", source)
+        write(self.work / name / "src/main.rs", source)
+        package = f'[package]\nname = "{name}"\nversion = "1.0.0"\nedition = "2021"\n'
         needs = '[dependencies]\nffosolve = { path = "../rust" }\n[workspace]\n'
-        self.write(f"{name}/Cargo.toml", f'[package]\nname = "{name}"\nversion = "1.0.0"\nedition = "2021"\n{needs}')
+        write(self.work / name / "Cargo.toml", package + needs)
         self.cargo("build", "--quiet", place=name, env={**self.environment, **places})
         return self.work / "target/debug" / name
 
     def rust_client_of(self, name, source, calls):
         """Builds a Rust program that uses the crate with a made-up library; `calls` is the library's source in C."""
-        folder = self.write(f"{name}-library/calls.c", calls).parent
+        folder = write(self.work / f"{name}-library/calls.c", calls).parent
         self.make("cc", "-c", "calls.c", cwd=folder)
         self.make("ar", "rcs", "libffosolve.a", "calls.o", cwd=folder)
         return self.rust_client(name, source, FFOSOLVE_LIB_DIR=str(folder))

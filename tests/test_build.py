@@ -1,4 +1,5 @@
 """`bin/ffosolve` and make in a small checkout with a fake rt: what they build and when, and what they report."""
+import functools
 import os
 import re
 import signal
@@ -66,6 +67,7 @@ class Checkout:
         write(self.kit / "toolchain/bin/clang", COPY)
         self.starts = write(folder / "starts", "")
         self.script, self.log = self.root / "bin/ffosolve", self.root / "out" / LEVEL / "ffosolve.o.log"
+        self.make = functools.partial(run, "make", "-s", "-C", self.root, **HOW)
 
     def use(self, *words, **environment):
         """Runs `script`, by default bin/ffosolve, with the arguments `words`, by default `w`, the line `read` as input,
@@ -75,9 +77,6 @@ class Checkout:
     def begin(self, **environment):
         """Starts `script` with the argument `w` and added variables `environment`, and returns its Popen."""
         return self.start(self.script, "w", env={**os.environ, **environment}, **HOW)
-
-    def make(self, *words):
-        return run("make", "-s", "-C", self.root, *words, **HOW)
 
     def builds(self):
         return self.starts.read_text().count("start")
@@ -148,7 +147,7 @@ def test_rt_gets_no_input_and_no_lock_and_the_program_replaces_the_caller(checko
     assert re.findall(r" (\d) -> ", to_program) == ["0", "1", "2"]
     assert f"/proc/{ran.pid}/fd:\n" in to_program
     write(checkout.source, "2\n")
-    run("make", "-C", checkout.root, f"out/{LEVEL}/ffosolve.o", input="read\n", **HOW)
+    checkout.make(f"out/{LEVEL}/ffosolve.o", input="read\n")
     assert (checkout.builds(), Path("starts.read").read_text()) == (2, "")
 
 
@@ -243,7 +242,7 @@ def test_a_missing_tool_is_reported_and_so_is_another_kit_which_is_tried(folder,
 def test_the_python_of_tests_is_the_first_that_has_their_modules(checkout, status, given, wanted):
     """Asked whether it has the modules, the python3 that is first on the path ends with `status`."""
     write(checkout.tools / "python3", f"#!/bin/sh\nexit {status}\n")
-    ran = run("make", "-C", checkout.root, "-n", "check", env={**os.environ, **given}, **HOW)
+    ran = checkout.make("-n", "check", env={**os.environ, **given})
     assert re.findall(r"^exec env .* (\S+) -m pytest ", ran.stdout, re.M) == [wanted], ran
 
 
@@ -354,8 +353,8 @@ def test_each_level_is_proved_once_and_a_new_version_only_links_the_library_agai
         run("cc", "-fPIC", "-c", "-o", "one.o", "-x", "c", "-", input=text.encode(), check=True)
         run("ar", "rcs", checkout.kit / name, "one.o", check=True)
     for level in LEVELS:
-        ran = checkout.make(f"CPU={level}")
-        assert (ran.returncode, ran.stderr.count(": 0 min, 0 of 2 crates proved, now othello_rules\n")) == (0, 3), ran
+        told = checkout.make(f"CPU={level}", check=True).stderr
+        assert told.count(": 0 min, 0 of 2 crates proved, now othello_rules\n") == 3, told
         assert f"start run --cpu={level}\nstart lib --cpu={level}\n" in checkout.starts.read_text()
     python = write(checkout.tools / "python", '#!/bin/sh\n[ "$1" = -c ] || echo "$2" "<$MAKEFLAGS$MFLAGS$MAKELEVEL>"\n')
     assert checkout.make("-j9", "check", f"PYTHON={python}").stdout == "pytest <>\n"

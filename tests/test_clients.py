@@ -15,7 +15,7 @@ import pytest
 import ffosolve
 from tests.games import NAMES, masks_after, random_games, squares_of, transcript_rows
 from tests.prefix import CXX, PIP, PREFIX, VERSION, C
-from tests.support import ROOT, built, ends, need, preload, run, stored
+from tests.support import ROOT, built, ends, need, preload, run, stored, write
 
 pytestmark = pytest.mark.usefixtures("installed")
 PAGE = "docs/check-evaluation.md"  # its program reads a list of positions, and their scores
@@ -100,10 +100,9 @@ def answers_of(*command):
     """Asserts what an example program prints: for examples/masks.txt; for two positions of which the first has two best
     moves; for none; and for a position that is refused or not written as two masks."""
     masks, answers = (stored("examples", f"{name}.txt").decode().splitlines(True) for name in ("masks", "answers"))
-    ran = PREFIX.run(*command, input="".join(masks))
-    assert (ran.returncode, ran.stdout) == (0, "".join(answers)), ran.stderr
-    ran = PREFIX.run(*command, input=masks[2] + "fffffff8 7fffffff00000007\n")
-    assert ran.stdout == answers[2] + "+08 H8\nA1 of A1,H1\nPS\nH1 of H1\n", ran.stderr
+    assert PREFIX.make(*command, input="".join(masks)).stdout == "".join(answers)
+    played = PREFIX.make(*command, input=masks[2] + "fffffff8 7fffffff00000007\n").stdout
+    assert played == answers[2] + "+08 H8\nA1 of A1,H1\nPS\nH1 of H1\n"
     ran = PREFIX.run(*command)
     assert (ran.returncode, ran.stdout, ran.stderr) == (0, "", "")
     longer = f"1{0:016}"  # than a mask
@@ -128,9 +127,9 @@ def test_examples_in_c_and_cxx_are_built_by_cmake():
     exactly another version than is installed, and without the static library."""
     (first, second, _), (block, _) = VERSION.split("."), shown("cmake")
     for name in ("answers.c", "answers.cpp"):
-        PREFIX.write(f"cmake/{name}", (PREFIX.shipped / "examples/c/answers.c").read_text())
+        write(PREFIX.work / "cmake" / name, (PREFIX.shipped / "examples/c/answers.c").read_text())
     configure = ("cmake", "-S", "cmake", "-B", "cmake-built", f"-DCMAKE_PREFIX_PATH={PREFIX.folder}")
-    PREFIX.write("cmake/CMakeLists.txt", CMAKE.format(block))
+    write(PREFIX.work / "cmake/CMakeLists.txt", CMAKE.format(block))
     PREFIX.make(*configure)
     PREFIX.make("cmake", "--build", "cmake-built")
     for name in ("program", "shared", "in_cxx"):
@@ -140,7 +139,7 @@ def test_examples_in_c_and_cxx_are_built_by_cmake():
     (PREFIX.work / "archive").rename(PREFIX.archive)
     assert (ran.returncode != 0, f"{PREFIX.archive} is missing" in ran.stderr) == (True, True)
     for other in (f"{first}.{int(second) + 1}", "1.0 EXACT"):
-        PREFIX.write("cmake/CMakeLists.txt", CMAKE.format(block.replace(" 1.0 ", f" {other} ")))
+        write(PREFIX.work / "cmake/CMakeLists.txt", CMAKE.format(block.replace(" 1.0 ", f" {other} ")))
         ran = PREFIX.run(*configure)
         assert (ran.returncode != 0, VERSION in ran.stderr) == (True, True), other
 
@@ -174,8 +173,8 @@ def test_the_example_in_rust_runs():
 ])
 def test_each_program_of_the_documents_prints_what_is_shown(language, names):
     listed = re.search(r"^> (\S{64} X; .*\n)", (ROOT / PAGE).read_text(), re.MULTILINE)[1]
-    PREFIX.write("list.obf", listed)
-    PREFIX.write("list.scores", run(built("ffoscores"), input=listed.encode()).stdout)
+    write(PREFIX.work / "list.obf", listed)
+    write(PREFIX.work / "list.scores", run(built("ffoscores"), input=listed.encode()).stdout)
     block, wanted = shown(language, *names)
     assert wanted != ""
     if language == "python":
@@ -184,7 +183,8 @@ def test_each_program_of_the_documents_prints_what_is_shown(language, names):
         program = f"fn main() -> Result<(), Box<dyn std::error::Error>> {{\n{block}Ok(())\n}}\n"
         command = [PREFIX.rust_client("readme", program)]
     else:
-        command = [PREFIX.compile(C if language == "c" else CXX, "shown", [PREFIX.write(f"shown.{language}", block)])]
+        source = write(PREFIX.work / f"shown.{language}", block)
+        command = [PREFIX.compile(C if language == "c" else CXX, "shown", [source])]
     assert PREFIX.make(*command).stdout == wanted
 
 
@@ -202,7 +202,7 @@ def test_a_library_of_another_version_or_without_a_call_is_refused():
     older, lacking = "has version 20000, not 1.x.y", "is not this package's library"
     for missing, number, why in (("", 10203, ""), ("", 20000, older), ("ffosolve_play", 10203, lacking)):
         calls = PREFIX.calls - {missing}
-        source = PREFIX.write("other.c", "".join(f"int {name}(void) {{ return {number}; }}\n" for name in calls))
+        source = write(PREFIX.work / "other.c", "".join(f"int {name}(void) {{ return {number}; }}\n" for name in calls))
         other = PREFIX.work / f"other-{len(calls)}-{number}.so"
         PREFIX.make("cc", "-shared", "-fPIC", "-o", other, source)
         env = {**PREFIX.environment, "FFOSOLVE_LIBRARY": str(other)}
@@ -242,8 +242,7 @@ def test_the_wheel_and_the_source_archive_are_fit_to_be_published():
     assert fields["Version"] == ffosolve.__version__
     assert fields["Description-Content-Type"] == "text/markdown"
     assert fields.get_payload() == inspect.getdoc(ffosolve) + "\n"
-    ran = run("twine", "check", "--strict", *paths)
-    assert (ran.returncode, ran.stdout.count(b"PASSED")) == (0, 2), ran
+    assert run("twine", "check", "--strict", *paths, check=True).stdout.count(b"PASSED") == 2
 
 
 @pytest.mark.parametrize("features", [(), ("--features", "shared")])

@@ -94,8 +94,7 @@ def test_in_other_folders_everything_is_found(place, bins, libs, include):
         assert name.is_file()
     shutil.rmtree(place.root / "share/doc")
     ends((0, FIRST, ""), bins / "ffosolve-many", "--quiet", "work", FIRST_OBF)
-    ran = run(bins / "ffosolve-games", "--empties=59", input=b"f5")
-    assert (ran.returncode, ran.stdout[64:]) == (0, b" O; % -, game 1\n"), ran
+    assert run(bins / "ffosolve-games", "--empties=59", input=b"f5", check=True).stdout[64:] == b" O; % -, game 1\n"
     os.environ["PKG_CONFIG_PATH"] = f"{libs}/pkgconfig"
     ran = run("pkg-config", "--cflags", "--libs", "ffosolve", text=True)
     assert shlex.split(ran.stdout) == [*flags, "-lffosolve"], ran

@@ -13,7 +13,7 @@ from ffosolve._refusals import REFUSALS, OtherRefusal
 from tests.games import random_positions
 from tests.library import LANGUAGES, Calls, declarations
 from tests.prefix import LONGEST, NUMBER, PREFIX, STRICT, VERSION, C
-from tests.support import built, limited, run, stored, worked_rows
+from tests.support import built, limited, run, stored, worked_rows, write
 
 pytestmark = [pytest.mark.usefixtures("installed"), pytest.mark.filterwarnings("ignore::ffosolve.ReadingWarning")]
 COMPILERS = [*itertools.product(("cc", "clang"), ("c90", "c99", "c11", "c17", "c2x"), ("c",)),
@@ -100,7 +100,7 @@ def test_the_shared_object_has_its_names_and_needs_only_the_c_library():
 
 def test_swig_wraps_the_header():
     include = '%include "stdint.i"\n%include "ffosolve.h"\n'
-    PREFIX.write("wrap.i", '%module wrap\n%{\n#include "ffosolve.h"\n%}\n' + include)
+    write(PREFIX.work / "wrap.i", '%module wrap\n%{\n#include "ffosolve.h"\n%}\n' + include)
     PREFIX.make("swig", "-Wall", "-Werror", "-python", f"-I{PREFIX.header.parent}", "wrap.i")
     made = (PREFIX.work / "wrap.py").read_text()
     for name in [f"def {name}(" for name in PREFIX.calls] + ["class ffosolve_position(", "class ffosolve_answer("]:
@@ -118,7 +118,7 @@ def test_each_compiler_takes_the_header_in_each_standard_and_warns_if_a_status_i
     for name, parameters in declared:
         arguments = re.findall(r"(\w+)(?:\[\d+\])?(?:,|$)", parameters)
         source += f"void {name}_unused({parameters}) {{ {name}({', '.join(arguments)}); }}\n"
-    file, words = PREFIX.write(f"unused.{language}", source), [compiler, f"-std={standard}"]
+    file, words = write(PREFIX.work / f"unused.{language}", source), [compiler, f"-std={standard}"]
     PREFIX.make(PREFIX.compile([*words, *STRICT, "-Wno-unused-result"], "unused", [file]))
     errors = PREFIX.run(*words, "-Werror=unused-result", "-c", "-I", PREFIX.header.parent, file).stderr
     assert len(re.findall(r"\[-Werror[=,](?:-W)?unused-result\]", errors)) == len(names)
@@ -277,7 +277,7 @@ def test_the_stack_that_the_header_names_is_enough():
     """Calls for 14 empty squares return on a stack of 32 KiB. On one of 128 KiB, a call for the first position of a
     game does not crash within two seconds."""
     assert "32 KiB are enough for 14 empty squares and 128 KiB for 60" in re.sub(r"\s+", " ", PREFIX.text)
-    program = PREFIX.compile(C, "searches", [PREFIX.write("searches.c", SEARCHES)])
+    program = PREFIX.compile(C, "searches", [write(PREFIX.work / "searches.c", SEARCHES)])
     text = "".join(f"{own} {opp}\n" for own, opp in random_positions(20, [14]))
     PREFIX.make(program, input=text, env={}, preexec_fn=limited(RLIMIT_STACK=32 << 10))
     how = {"input": "{own} {opp}\n".format(**START), "preexec_fn": limited(RLIMIT_STACK=128 << 10)}
