@@ -44,9 +44,6 @@ fn position(numbers: &mut Numbers) -> Option<Pos> {
     while p.empties() > empties || p.moves() == 0 {
         if p.moves() == 0 {
             p = p.pass();
-            if p.moves() == 0 {
-                return None;
-            }
         }
         let is_random = p.empties() > first || p.empties() <= last;
         let key = |&(child, square): &(Pos, u32)| match is_random {
