@@ -30,6 +30,9 @@ LATE = 60  # seconds that a busy machine may take for what is done at once
 
 CALLS = [(name, threads) for threads in (1, 3) for name in SEARCHES + MANY]
 each_call, on_threads = pytest.mark.parametrize("name, threads", CALLS), pytest.mark.parametrize("threads", [1, 3])
+# Its mock, the test's first argument, counts how often a program is started for positions.
+START_ONE = _processes.SolverCall.started
+counts_starts = mock.patch.object(_processes.SolverCall, "started", autospec=True, side_effect=START_ONE)
 
 
 @pytest.fixture(autouse=True)
@@ -216,16 +219,10 @@ def test_a_failed_task_of_a_group_ends_the_calls_of_the_others(solver):
     assert [type(error) for error in caught.value.exceptions] == [ffosolve.SharedSquare]
 
 
-@pytest.fixture
-def started(monkeypatch):
-    """A stand-in for SearchProcess that counts its calls."""
-    monkeypatch.setattr(_processes, "SearchProcess", mock.Mock(wraps=_processes.SearchProcess))
-    return _processes.SearchProcess
-
-
+@counts_starts
 @pytest.mark.parametrize("count, empties, calls", [
     (1, 14, 1), (1, 15, 0), (2, 14, 2), (16, 12, 1), (17, 12, 2), (4096, 8, 16), (4097, 2, 17)])
-def test_only_brief_calls_are_made_without_another_process(count, empties, calls, solver, started, monkeypatch):
+def test_only_brief_calls_are_made_without_another_process(started, count, empties, calls, solver, monkeypatch):
     """Each call is for as many positions as can be: so many `calls`, or otherwise a process."""
     made, discs = mock.Mock(wraps=_processes.search), 2**(64 - empties) - 1
     monkeypatch.setattr(_processes, "search", made)
@@ -276,9 +273,10 @@ def test_a_wrong_timeout_is_refused(name, threads, solver):
             find(name, threads, solver, [EASY], timeout=timeout)
 
 
+@counts_starts
 @pytest.mark.parametrize("scoring", ffosolve.Scoring)
 @pytest.mark.parametrize("how", [{}, {"timeout": 100}], ids=["", "timeout"])
-def test_another_process_finds_what_this_one_finds_even_with_a_timeout(how, scoring, started, monkeypatch):
+def test_another_process_finds_what_this_one_finds_even_with_a_timeout(started, how, scoring, monkeypatch):
     def found(**how):
         return [str(find(*call, Solver(scoring=scoring), positions, **how))
                 for call in CALLS for positions in ([EASY, HARD, HARD], [HARD, EASY])]
@@ -382,7 +380,7 @@ def test_a_call_stops_if_its_program_does_not_tell_its_version(does, timeout, er
 
 
 def test_a_process_whose_call_is_left_before_it_gets_its_list_ends(solver, monkeypatch):
-    monkeypatch.setattr(_processes.SearchProcess, "find", mock.Mock(side_effect=Left))
+    monkeypatch.setattr(_processes.Process, "find", mock.Mock(side_effect=Left))
     with pytest.raises(Left):
         solver.solve(HARD)
     gc.collect()

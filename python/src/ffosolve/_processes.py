@@ -108,10 +108,6 @@ class Process:
             with contextlib.suppress(BrokenPipeError), self.errors, self.process:
                 pass
 
-
-class SearchProcess(Process):
-    """A running program that solves a list."""
-
     def find(self, lines: str, call: "SolverCall") -> List[str]:
         """Returns the rows for a list. Raises what `output` raises, NoMemory, or ChildProcessError if it was ended."""
         status, printed, errors = self.output(lines, call)
@@ -179,7 +175,7 @@ class SolverCall:
 
     def search(self, empties: int, name: str, scoring: Scoring, entries: int, positions: Any, found: Any) -> int:
         """Makes the call that `_library.search` describes, for positions with at most `empties` empty squares; unless
-        it is brief, by a program. Raises TimeoutError, CancelledError, and what `SearchProcess.find` raises."""
+        it is brief, by a program. Raises TimeoutError, CancelledError, and what `Process.find` raises."""
         self.check()
         if not is_brief(len(positions), empties):
             asked = [Position(it.own, it.opp) for it in positions]
@@ -196,12 +192,12 @@ class SolverCall:
                     return Status.DONE
         return search(self.library, name, scoring, entries, positions, found)
 
-    def started(self, name: str, scoring: Scoring, entries: int, position: Position, claim: Any) -> SearchProcess:
+    def started(self, name: str, scoring: Scoring, entries: int, position: Position, claim: Any) -> Process:
         path, book = program("ffoscores" if "move_scores" in name else "ffosolve", self), ""
         if name == "ffosolve_confirm" and abs(claim.score) <= 64:
             book = f"{BOOK_HEADER}{scoring}\n{position.canonical().to_obf(moves={'PS': claim.score})}\n"
-        return SearchProcess([path, f"--workers={self.workers}", f"--table={entries}", f"--scoring={scoring}",
-                              f"--max-empties={MOST_EMPTIES}"], book)
+        return Process([path, f"--workers={self.workers}", f"--table={entries}", f"--scoring={scoring}",
+                        f"--max-empties={MOST_EMPTIES}"], book)
 
 
 async def to_thread(func: Callable[..., T], /, *args: Any, **kwargs: Any) -> T:
