@@ -12,8 +12,7 @@ class Named(enum.IntEnum):
     def __str__(self) -> str:
         return self.name.lower()
 
-    def __format__(self, form: str) -> str:
-        return format(str(self), form)
+    __format__ = enum.Enum.__format__
 
 
 class Scoring(Named):

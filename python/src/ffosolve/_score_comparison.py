@@ -117,20 +117,15 @@ def list_entries(listed: Evaluated) -> Iterator[ListEntry]:
     pairs: Any = listed.items() if isinstance(listed, Mapping) else lines_of(listed)  # type: ignore[arg-type]
     for number, it in enumerate(pairs, 1):
         if isinstance(it, (str, bytes, bytearray)):
-            yield ListEntry(number, position_in(it, number), *listed_scores(it))
+            found: Any = OBF_LINE.match(without_end(it))
+            pieces = [piece for piece in (part.strip(b" \t") for part in found[5].split(b";")) if piece]
+            matches = [match for match in map(LISTED_SCORE.fullmatch, pieces) if match]
+            scores: Scores = [(MOVES[of[1].upper()], float(of[2]) if b"." in of[2] else int(of[2])) for of in matches]
+            yield ListEntry(number, position_in(it, number), scores, len(pieces) - len(matches))
         elif isinstance(it, tuple) and len(it) == 2:
             yield ListEntry(number, as_position(it[0]), as_scores(it[1]))
         else:
             raise TypeError(f"a list has lines of OBF, or pairs of a position and its scores, not {it!r}")
-
-
-def listed_scores(text: Union[str, bytes]) -> Tuple[Scores, int]:
-    """The scores that a line of OBF lists, and the number of its other pieces."""
-    found: Any = OBF_LINE.match(without_end(text))
-    pieces = [piece for piece in (it.strip(b" \t") for it in found[5].split(b";")) if piece]
-    matches = [match for match in map(LISTED_SCORE.fullmatch, pieces) if match]
-    scores: Scores = [(MOVES[it[1].upper()], float(it[2]) if b"." in it[2] else int(it[2])) for it in matches]
-    return scores, len(pieces) - len(matches)
 
 
 def as_scores(values: Values) -> Scores:
