@@ -2,14 +2,16 @@
 import argparse
 import contextlib
 import os
+import re
+import shutil
+import subprocess
 import sys
 import warnings
 from typing import Any, Callable, Dict, Iterator, List, NamedTuple, NoReturn, Optional
 
 from ._books import scores_in
-from ._check_folders import exact_scores
 from ._command_line import DONE, MISSING, MISUSED, MOST_LINES, REMARKED, UNREADABLE
-from ._command_line import Parser, Refusal, file_of, number, print_all, run, say, write_whole
+from ._command_line import Parser, Refusal, file_of, number, print_all, refusing, run, say, write_whole
 from ._games import (MOST_DISCS, REAL, SCORE, Game, GameRefused, corrected, discs_of_black, games_in, position_with,
                      positions_of)
 from ._library import MOST_EMPTIES, LibraryNotFound, load
@@ -17,6 +19,7 @@ from ._positions import Position
 from ._text import NotText, ReadingWarning, shown, text_lines
 
 NAME = "ffosolve-games"
+SOLVER = "ffosolve-many"
 USAGE = f"""{NAME} [--empties N] [FILE ...]
        {NAME} check [--fix PLACE [--real]] [OPTION ...] FILE ...
        {NAME} compare [--fix PLACE [--real]] BOOK FILE ..."""
@@ -290,6 +293,31 @@ def folders_of(found: List[Found], options: argparse.Namespace) -> Dict[str, Lis
         if wanted := [it.position for it in found if it.file == file and it.position and it.position.empties <= most]:
             folders.setdefault(paths.setdefault(os.path.realpath(folder), folder), {}).update(dict.fromkeys(wanted))
     return {folder: [*positions] for folder, positions in folders.items()}
+
+
+def exact_scores(folders: Dict[str, List[Position]], lines: int, words: List[str]) -> Dict[Position, int]:
+    """Lets ffosolve-many solve the positions that belong to each folder, with parts of `lines` lines and the options
+    `words`. Returns {canonical position: score for its mover}, {} with --cut. Refuses a folder before any is solved."""
+    here = os.path.dirname(os.path.realpath(sys.argv[0]))
+    program = shutil.which(os.path.join(here, SOLVER)) or shutil.which(SOLVER)
+    if program is None:
+        raise Refusal(f"{SOLVER} is missing: it has to be next to ffosolve-games, in {here}, or on the path", MISSING)
+    command = ["setpriv", "--pdeathsig", "TERM", program, f"--max-empties={MOST_EMPTIES}", f"--lines={lines}"]
+    scores: Dict[Position, int] = {}
+    for options in [["--cut"]] * (len(folders) > 1) + [words]:
+        is_shown = options is words and "--cut" in words
+        for folder, positions in folders.items():
+            text = "".join(f"{position.to_obf('X')}\n" for position in positions)
+            with refusing("run", SOLVER):
+                ran = subprocess.run([*command, *options, "--", folder, "-"], input=text, encoding="utf-8",
+                                     errors="surrogateescape", stdout=None if is_shown else subprocess.PIPE)
+            if status := ran.returncode:
+                other = "; --folder names another folder" if status == MISUSED else ""
+                raise Refusal(f"{SOLVER} has not solved all, so no score is compared{other}",
+                              status if status > 1 else UNREADABLE)
+            for at, score in re.findall("(?m)^([0-9]+) ([+-][0-9]{2}) ", ran.stdout or ""):
+                scores[positions[int(at) - 1].canonical()] = int(score)
+    return scores
 
 
 def scored_games(options: argparse.Namespace, messages: Messages) -> List[Found]:
