@@ -7,19 +7,19 @@ import shutil
 import subprocess
 import sys
 import warnings
-from typing import Any, Callable, Dict, Iterator, List, NamedTuple, NoReturn, Optional
+from typing import Any, Callable, Dict, Iterable, Iterator, List, NamedTuple, NoReturn, Optional
 
-from ._books import scores_in
 from ._command_line import DONE, MISSING, MISUSED, MOST_LINES, REMARKED, UNREADABLE
 from ._command_line import Parser, Refusal, file_of, number, print_all, refusing, run, say, write_whole
 from ._games import (MOST_DISCS, REAL, SCORE, Game, GameRefused, corrected, discs_of_black, games_in, position_with,
                      positions_of)
 from ._library import MOST_EMPTIES, LibraryNotFound, load
 from ._positions import Position
-from ._text import NotText, ReadingWarning, shown, text_lines
+from ._text import BOOK_HEADER, ENTRY, NotText, ReadingWarning, shown, text_lines
 
 NAME = "ffosolve-games"
 SOLVER = "ffosolve-many"
+FIRST_LINE = f"{BOOK_HEADER}winner"  # of a book
 USAGE = f"""{NAME} [--empties N] [FILE ...]
        {NAME} check [--fix PLACE [--real]] [OPTION ...] FILE ...
        {NAME} compare [--fix PLACE [--real]] BOOK FILE ..."""
@@ -263,6 +263,23 @@ def compare(options: argparse.Namespace, messages: Messages) -> Iterator[bytes]:
         name = shown(*options.book)
         scores = scores_in(text_lines(file, name), name)
     yield from compared(found, copies, scores, options, messages)
+
+
+def scores_in(book: Iterable[bytes], name: str) -> Dict[Position, int]:
+    """Returns {canonical position: exact score for its mover} for the lines of a book. Raises NotText, with `name` in
+    the message, if it is not a book of the scoring `winner`, or a line can't be one that ffosolve wrote."""
+    lines, wrong = (line.rstrip(b"\r\n") + b"\n" for line in book), f"{name} is not a book of exact scores: it"
+    if next(lines, b"") != f"{FIRST_LINE}\n".encode():
+        raise NotText(f"{wrong} does not begin with `{FIRST_LINE}`, as what ffosolve-many --book-out writes")
+    scores = {}
+    for at, line in enumerate(lines, 2):
+        if not (match := ENTRY.fullmatch(line)):
+            raise NotText(f"{wrong}s line {at} is not an entry of a book")
+        score = int(match[1])
+        if abs(score) > 64 or score % 2:
+            raise NotText(f"{wrong}s line {at} has the score {score:+03}, with which no game ends")
+        scores[Position.from_obf(line)] = score
+    return scores
 
 
 def compared(found: List[Found], copies: Dict[str, str], scores: Dict[Position, int], options: argparse.Namespace,

@@ -1,10 +1,13 @@
 """Reads lines of text, and shows the names of files in messages and commands."""
 import os
+import re
 import shlex
 from typing import BinaryIO, Iterator, Union
 
 MOST_BYTES = 1_048_576  # in a line with its end; ffosolve takes as many in a whole list
 BOOK_HEADER = "% ffobook 2 "  # the first line of a book is this and the scoring
+# A line of a book, as ffosolve writes it, except that the moves may be in another order. The group has the score.
+ENTRY = re.compile(rb"[XO-]{64} X;(?= ..:([+-]\d\d);)(?: (?:PS|--):\1;|(?: [A-H][1-8]:\1;)+)\n")
 MARKS = (b"\xef\xbb\xbf", b"\xff\xfe", b"\xfe\xff")  # byte-order marks of UTF-8 and UTF-16
 ARCHIVES = (b"PK\3\4", b"\x1f\x8b")  # how a .zip and a .gz begin
 

@@ -1,1 +1,1 @@
-"""The program ffosolve-many, for Python 3.10 or later. It never calls libffosolve, and no wheel contains it."""
+"""The program ffosolve-many, for Python 3.10 or later. It never calls libffosolve."""

@@ -5,13 +5,12 @@ import re
 from operator import itemgetter
 from typing import Any, BinaryIO, Iterable, Iterator, List, Tuple
 
-from .._books import ENTRY
 from .._command_line import MISUSED, Refusal
 from .._obf import BLACK, WHITE
 from .._positions import Position
 from .._refusals import NoPosition
 from .._squares import NAMES
-from .._text import BOOK_HEADER
+from .._text import BOOK_HEADER, ENTRY
 
 
 def entries_of(name: str, lines: Iterable[bytes]) -> Iterator[Tuple[Tuple[int, int], str, int, bytes]]:
