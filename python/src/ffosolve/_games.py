@@ -130,11 +130,10 @@ def read_games(source: "Union[str, os.PathLike[str], io.BufferedIOBase, io.RawIO
         for game in games_in(file, name if isinstance(name, str) else "the file")[0]:
             if game.fault is None:
                 yield game
-                continue
-            error = GameRefused(game.fault, game.number)
-            if refused is None:
-                raise error
-            refused(error)
+            elif refused is None:
+                raise GameRefused(game.fault, game.number)
+            else:
+                refused(GameRefused(game.fault, game.number))
 
 
 def games_in(file: Any, name: str) -> Tuple[Iterator[Game], Optional[int]]:
