@@ -103,15 +103,12 @@ def leave(*_):
     raise Left
 
 
-@contextlib.contextmanager
 def timer(seconds, call, *given):
     """Makes a call from another thread after so many seconds, unless the `with` block ends before."""
-    later = threading.Timer(seconds, call, given)
+    later, stack = threading.Timer(seconds, call, given), contextlib.ExitStack()
     later.start()
-    try:
-        yield
-    finally:
-        later.cancel()
+    stack.callback(later.cancel)
+    return stack
 
 
 def by_signal(call):

@@ -77,8 +77,7 @@ from ._refusals import (
     Status, TooManyEmpties, TooManyEntries, UnequalLengths, UnknownScoring, UnknownSymmetry)
 from ._score_comparison import ScoreComparison, WrongScore, compare_scores
 from ._solvers import Solver, table_entries
-from ._squares import square_name, square_number, square_names
-from ._symmetries import Symmetry
+from ._squares import Symmetry, square_name, square_number, square_names
 from ._text import ReadingWarning
 
 Line = Position  # what read_lines yields had this name in earlier versions

@@ -115,11 +115,10 @@ def in_order(call: SolverCall, solve: Callable[[A], Iterable[B]], batches: Itera
 
 def is_started(work: Callable[[], None]) -> bool:
     """Starts a thread. Returns whether that was possible; while Python is ending, it may not be."""
-    if sys.is_finalizing():
-        return False  # Python 3.11 would wait for ever
     with contextlib.suppress(RuntimeError):
-        threading.Thread(target=work, name="ffosolve", daemon=True).start()
-        return True
+        if not sys.is_finalizing():  # otherwise, Python 3.11 would wait for ever
+            threading.Thread(target=work, name="ffosolve", daemon=True).start()
+            return True
     return False
 
 

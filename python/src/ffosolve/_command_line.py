@@ -94,7 +94,8 @@ class Parser(argparse.ArgumentParser):
 def say(text: object) -> None:
     """Prints a message on standard error, if possible. On a terminal, it replaces the line that `show` left there."""
     show("")
-    _write_error(f"{name}: {text}\n")
+    with contextlib.suppress(OSError):  # `print` would fail in a handler that interrupts `print`
+        os.write(2, f"{name}: {text}\n".encode(errors="backslashreplace"))
 
 
 def show(text: str) -> None:
@@ -104,12 +105,7 @@ def show(text: str) -> None:
         line = f"{name}: {text}" if text else ""
         while len(line) >= columns:
             line = line.rpartition(", ")[0]
-        _write_error(f"\r\033[K{line}")
-
-
-def _write_error(text: str) -> None:
-    with contextlib.suppress(OSError):
-        os.write(2, text.encode(errors="backslashreplace"))  # `print` would fail in a handler that interrupts `print`
+        os.write(2, f"\r\033[K{line}".encode(errors="backslashreplace"))
 
 
 def counted(count: int, name: str) -> str:

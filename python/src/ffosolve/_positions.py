@@ -1,6 +1,7 @@
 """Positions, the moves that lead from one to the next, and lists with a position in each line."""
 import contextlib
 import copy
+import operator
 import reprlib
 from typing import (Any, Callable, Dict, Iterable, Iterator, List, Mapping, NamedTuple, Optional, Tuple, Type, TypeVar,
                     Union)
@@ -10,9 +11,8 @@ from ._boards import OTHER, SIDES, Board, checked_score, checked_side
 from ._library import CAnswer, CPosition, LibraryNotFound, loaded, search
 from ._obf import MOVES, Lines, Listed, Source, bytes_of, lines_of, parsed
 from ._refusals import LineRefused, NoMemory, NoMove, NoPosition, Refused, Status
-from ._squares import (NAMES, accept, c_position, c_positions, mask_of, moves, number_of, size_of, square_names,
-                       square_of)
-from ._symmetries import Symmetry, canonical_form, image
+from ._squares import (NAMES, Symmetry, accept, c_position, c_positions, canonical_form, mask_of, moves, number_of,
+                       size_of, square_names, square_of)
 from ._transcripts import PASSES, transcript_words
 
 P = TypeVar("P", bound="Position")
@@ -226,7 +226,8 @@ class Position:
 
     def image(self: P, symmetry: int) -> P:
         """The image under a Symmetry or the one with a number, 0 to 7. Raises UnknownSymmetry for another number."""
-        return type(self)(image(self.own, symmetry), image(self.opp, symmetry), self.side)
+        move = Symmetry(operator.index(symmetry)).mask
+        return type(self)(move(self.own), move(self.opp), self.side)
 
     def symmetries(self: P) -> List[P]:
         """The eight images of the position, in the order of Symmetry. Some are equal if the position is symmetric."""

@@ -15,11 +15,10 @@ from ._solvers import Solver, as_position
 from ._squares import NAMES
 
 LISTED_SCORE = re.compile(rb"([A-Ha-h][1-8]|[Pp][Ss]|--):([+-]?(?:\d{1,15}(?:\.\d*)?|\.\d+))")
-Number = Union[int, float]
-Values = Union[Number, Mapping[str, Number]]
+Values = Union[float, Mapping[str, float]]
 Evaluated = Union[Source, Mapping[Position, Values], Iterable[Tuple[Position, Values]]]
 Known = Union[Mapping[Position, Union[int, Answer, Mapping[str, int]]], Answers]
-Scores = List[Tuple[Optional[str], Number]]  # of moves, or with None of the position
+Scores = List[Tuple[Optional[str], float]]  # of moves, or with None of the position
 Exact = Dict[Optional[str], int]  # of each move, or with None of the position alone
 Row = Tuple["ListEntry", Exact]
 
@@ -30,11 +29,11 @@ class WrongScore(NamedTuple):
 
     line: int
     move: Optional[str]
-    listed: Number
+    listed: float
     exact: int
 
     @property
-    def error(self) -> Number:
+    def error(self) -> float:
         return abs(self.listed - self.exact)
 
 
@@ -51,7 +50,7 @@ class ScoreComparison(NamedTuple):
     mean_error: float  # over all `moves`, without sign
     root_mean_square_error: float  # over all `moves`
     bias: float  # the mean of score minus exact score over all `moves`; above 0 if the evaluation is too hopeful
-    greatest_error: Number  # without sign
+    greatest_error: float  # without sign
     choices: int
     mean_loss: Optional[float]  # how much less the chosen moves are worth than best ones, over all `choices`
     best_share: Optional[float]  # the share of `choices` whose chosen move is a best one, 0.0 to 1.0

@@ -1,4 +1,5 @@
 """The Solver, which calls the shared library. A mask is a set of squares as a number: A1 is bit 0, .. H8 is bit 63."""
+import bisect
 import os
 import reprlib
 import struct
@@ -21,10 +22,7 @@ ANSWER, MOVE_SCORES = struct.Struct("iiQ"), struct.Struct("64bQ")  # the layouts
 def table_entries(empties: int) -> int:
     """A suitable number of table entries, of 32 bytes each, for positions with `empties` empty squares. The size of a
     table changes how long an answer takes, never the answer."""
-    for most, entries in ((10, 0), (14, 4_096), (22, 65_536)):
-        if empties <= most:
-            return entries
-    return 1_000_000
+    return (0, 4_096, 65_536, 1_000_000)[bisect.bisect_left((10, 14, 22), empties)]
 
 
 class Solver:
@@ -96,8 +94,7 @@ class Solver:
 
     def best_line(self, position: Position, *, threads: int = 1, timeout: Seconds = None) -> List[Tuple[str, int]]:
         """Perfect play from a position to the end of the game: each move and its score for the side that makes it, such
-        as [("H1", 62), ("PS", -62), ("A1", 62)]. Of several best moves, it has the first. Raises the same as `solve`.
-        """
+        as [("H1", 62), ("PS", -62), ("A1", 62)]. Of best moves, it has the first. Raises the same as `solve`."""
         call, line = self._call(timeout, threads), []
         answer = self._answers(call, self._batch(position))[0]
         while answer.kind != Kind.OVER:

@@ -2,12 +2,13 @@
 position is two masks, for which the shared library knows the rules."""
 import array
 import ctypes
+import enum
 import operator
 import reprlib
 from typing import Any, Callable, Iterable, List, Optional, Tuple, Union
 
 from ._library import CPosition, loaded
-from ._refusals import REFUSALS, WRONG_MASK, OtherRefusal, SharedSquare, Status, TooManyEmpties
+from ._refusals import REFUSALS, WRONG_MASK, OtherRefusal, SharedSquare, Status, TooManyEmpties, UnknownSymmetry
 
 NAMES = [column + row for row in "12345678" for column in "ABCDEFGH"]
 # How many squares a mask has; `bit_count` came with Python 3.10.
@@ -120,3 +121,51 @@ def accept(status: int) -> None:
     """Raises the refusal that `status` stands for, or does nothing if it is DONE."""
     if status != Status.DONE:
         raise REFUSALS[status]() if status in REFUSALS else OtherRefusal(status)
+
+
+class Symmetry(enum.IntEnum):
+    """A symmetry of the board. It moves the square in column c and row r, both counted from 0, to the column and row:
+
+        IDENTITY (c, r)        FLIP_COLUMNS (7 - c, r)    FLIP_ROWS (c, 7 - r)    HALF_TURN (7 - c, 7 - r)
+        TRANSPOSE (r, c)       TURN_RIGHT (7 - r, c)      TURN_LEFT (r, 7 - c)    ANTI_TRANSPOSE (7 - r, 7 - c)
+
+    `symmetry.square("F5")` is the name of the square to which it moves F5, `symmetry.mask(mask)` the mask to which it
+    moves another, and `symmetry.inverse` the Symmetry that undoes it."""
+
+    IDENTITY = 0
+    FLIP_COLUMNS = 1
+    FLIP_ROWS = 2
+    HALF_TURN = 3
+    TRANSPOSE = 4
+    TURN_RIGHT = 5
+    TURN_LEFT = 6
+    ANTI_TRANSPOSE = 7
+
+    @classmethod
+    def _missing_(cls, value: object) -> "Symmetry":
+        raise UnknownSymmetry(reason=f"a symmetry has a number from 0 to 7, not {value}")
+
+    @property
+    def inverse(self) -> "Symmetry":
+        """The Symmetry that undoes this one."""
+        return {Symmetry.TURN_RIGHT: Symmetry.TURN_LEFT, Symmetry.TURN_LEFT: Symmetry.TURN_RIGHT}.get(self, self)
+
+    def square(self, square: Union[int, str]) -> str:
+        """The name of the square to which a square moves. `square` is a name such as "F5" or a number, 0 to 63. A pass,
+        "PS", and the end of a game, "--", stay. Raises ValueError for another name or number, TypeError for others."""
+        if isinstance(square, str) and square.upper() in ("PS", "--"):
+            return square.upper()
+        return NAMES[self.mask(1 << square_of(square)).bit_length() - 1]
+
+    def mask(self, mask: int) -> int:
+        """The mask of the squares to which those of a mask move. Raises ValueError for a wrong mask, and TypeError."""
+        found = ctypes.c_uint64()
+        accept(loaded().ffosolve_image(checked_mask(mask), self, found))
+        return found.value
+
+
+def canonical_form(position: Iterable[int]) -> Tuple[int, int, Symmetry]:
+    """The two masks of the canonical image of a position, and the first Symmetry that leads to it."""
+    found, symmetry = CPosition(), ctypes.c_uint32()
+    accept(loaded().ffosolve_canonical(c_position(position), found, symmetry))
+    return found.own, found.opp, Symmetry(symmetry.value)
