@@ -42,7 +42,10 @@ def solves(wanted, name="it.book", *words, **how):
 
 
 def left(files):
-    """Asserts that the test's folder has exactly `files`, which is {name: content}, and removes these."""
+    """Opens the test's folder and files to all, asserts that these are `files`, {name: content}, and removes them."""
+    os.chmod(os.getcwd(), 0o755)
+    for name in os.listdir():
+        os.path.islink(name) or os.chmod(name, 0o644)
     assert {name: content(name) for name in os.listdir()} == files
     for name in files:
         os.remove(name)
@@ -55,9 +58,6 @@ def keeps(before, wanted, after={}, mode=0o644, folder_mode=0o755, **how):
         os.symlink(text, name) if isinstance(text, str) else write(name, text, mode)
     os.chmod(".", folder_mode)
     solves(wanted, **how)
-    os.chmod(".", 0o755)
-    for name in before:
-        os.path.islink(name) or os.chmod(name, 0o644)
     left({**before, **after})
 
 
@@ -126,8 +126,7 @@ def test_other_files_with_the_names_of_temporary_files_are_left_alone():
 def test_what_is_there_stays_if_a_file_appears_or_the_folder_is_closed_during_the_run(
         start, before, new, closed, mode, cause):
     before = {"list": TEXT * 2000, **before}  # the report is more than a pipe holds
-    here = os.getcwd()
-    os.chmod(here, 0o777)
+    os.chmod(".", 0o777)
     for name, text in before.items():
         write(name, text, 0o666)
     program = start(PROGRAM, "--book-out", "it.book", "list", **NOBODY)
@@ -138,8 +137,6 @@ def test_what_is_there_stays_if_a_file_appears_or_the_folder_is_closed_during_th
     report, error = program.communicate(timeout=SECONDS)
     assert (first, report[-3:]) == (b"[", b" 0\n")
     assert (program.returncode, b"", error) == unwritten(cause)
-    for name in (here, *before, *new):
-        os.chmod(name, 0o755)
     left({**before, **new})
 
 

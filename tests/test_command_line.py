@@ -43,11 +43,13 @@ def test_a_wrong_command_line_is_refused_and_the_word_is_named(pipe, name):
 
 
 @pytest.mark.parametrize("name", PROGRAMS)
-def test_help_is_printed_whatever_follows_and_names_the_limits(pipe, name):
+def test_help_and_version_are_printed_whatever_follows_and_the_help_names_the_limits(pipe, name):
     text = run(built(name), "--help", text=True).stdout
     assert f"\n\nUsage: {name} [OPTIONS] [FILES]...\n" in text
     for line in ("--help", "-h", "-hx", "--help --best", "none.obf -h"):
         ends((0, text, ""), built(name), *line.split(), stdin=pipe)
+    for line in ("--version", "-V", "-Vx", "--table 5 --version", "--max-empties=60 --workers=64 --version"):
+        ends((0, f"{name} {stored('VERSION').decode()}", ""), built(name), *line.split(), stdin=pipe)
     text = " ".join(text.split())
     assert re.findall(r"--(\S+) <N> [^<]*?\b0 to (\d+)", text) == [("max-empties", "60"), ("workers", "64")]
     assert set(re.findall(r"(?:files, at most|more than) (\d+)", text)) == {"64"}
@@ -86,12 +88,6 @@ def test_help_has_the_status_of_each_end(folder, names, what, words):
         assert [int(row[0]) for row in rows if what in row] == [run(program, *words.split()).returncode], name
 
 
-@pytest.mark.parametrize("name", PROGRAMS)
-def test_version_is_that_of_the_file_version(pipe, name):
-    for line in ("--version", "-V", "-Vx", "--table 5 --version", "--max-empties=60 --workers=64 --version"):
-        ends((0, f"{name} {stored('VERSION').decode()}", ""), built(name), *line.split(), stdin=pipe)
-
-
 @pytest.mark.parametrize("name, list_", zip(PROGRAMS, ("/dev/null", ROOT / "examples/kinds.obf")))
 def test_a_full_or_closed_output_is_reported_even_for_an_empty_report(folder, name, list_):
     for word in ("--help", "--version", list_):
@@ -100,15 +96,9 @@ def test_a_full_or_closed_output_is_reported_even_for_an_empty_report(folder, na
             ends(wanted, "sh", "-c", f'exec "$0" "$1" {output}', built(name), word)
 
 
-@pytest.fixture
-def lists(folder):
-    """The files `long`, which takes minutes, and `short`, of which one line is refused."""
-    write("long", positions(500, 18, 18))
-    write("short", positions(20, 10, 10) + b"% comment\n-\n")
-
-
 @pytest.mark.parametrize("log", (True, False))
-def test_counts_rise_five_seconds_apart_in_a_log_and_on_a_terminal(lists, start, log):
+def test_counts_rise_five_seconds_apart_in_a_log_and_on_a_terminal(folder, start, log):
+    write("long", positions(500, 18, 18))  # which takes minutes
     solver = f"exec {built()} --progress --workers 1 long >/dev/null"
     stream = start("sh", "-c", solver).stderr if log else start("script", "-qec", solver, "/dev/null").stdout
     text = b"".join(stream.readline() for _ in range(3))
@@ -119,15 +109,12 @@ def test_counts_rise_five_seconds_apart_in_a_log_and_on_a_terminal(lists, start,
 
 
 @pytest.mark.parametrize("files, count", ((["short"], b"20"), (["short", "short"], b"40")))
-def test_the_report_is_the_same_and_the_last_line_counts_all(lists, files, count):
+def test_the_report_is_the_same_even_if_standard_error_fails_and_the_last_line_counts_all(folder, files, count):
+    write("short", positions(20, 10, 10) + b"% comment\n-\n")  # of which one line is refused
     plain = run(built(), *files, check=True)
     ran = run(built(), "--progress", *files, check=True)
     assert (plain.stdout, plain.stderr) == (ran.stdout, b"")
     assert [line[:2] for line in PROGRESS.findall(ran.stderr)][-1:] == [(count, count)]
     assert PROGRESS.sub(b"", ran.stderr) == b""
-
-
-def test_a_full_or_closed_standard_error_changes_nothing(lists):
-    plain = run(built(), "short", check=True).stdout
     for errors in ("2>/dev/full", "2>&-"):
-        ends((0, plain, b""), "sh", "-c", f'exec "$0" --progress short {errors}', built())
+        ends((0, plain.stdout, b""), "sh", "-c", f'exec "$0" --progress "$@" {errors}', built(), *files)

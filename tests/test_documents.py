@@ -6,12 +6,11 @@ not run, since it is for another machine or takes long. Git has to ignore all fi
 """
 import os
 import re
-import shutil
 
 import pytest
 
 from tests.prefix import blocks_of, names_of_files, print_what_is_shown
-from tests.support import MOST_BYTES, ROOT, built, copy_many, ends, need, run, stored, write
+from tests.support import MOST_BYTES, ROOT, built, ends, need, run, stored
 
 DOCUMENTS = ["README.md", "CONTRIBUTING.md", *sorted(f"docs/{path.name}" for path in ROOT.glob("docs/*.md"))]
 TEXTS = {name: stored(name).decode() for name in DOCUMENTS}
@@ -68,37 +67,11 @@ def test_the_header_suggests_the_tables_that_the_packages_choose():
     assert "Suitable sizes are 0 up to 10 empty squares, 4096 up to 14, 65536 up to 22 and 1000000 from 23 on. " in text
 
 
-def test_the_numbers_in_the_help_of_ffosolve_many_are_those_that_are_taken(folder):
-    """The list is missing, and that is refused with another status than a number. Options of ffosolve are also given to
-    ffosolve, which reads an empty list."""
-    many = copy_many("copy")
-    shutil.copy(built(), many.parent)
-    text = " ".join(run(many, "--help", text=True).stdout.split())
-    ranges = re.findall(r"(--[a-z-]+) N [^-]*?([0-9]+) to ([0-9]+)", text)
-    assert {option for option, *_ in ranges} == {"--jobs", "--lines", "--max-empties", "--workers"}
-    for option, least, most in ranges:
-        is_shared = option not in ("--jobs", "--lines")
-        for number, is_taken in ((int(least) - 1, False), (least, True), (most, True), (int(most) + 1, False)):
-            for words in [(many, "missing"), *[(built(), "/dev/null")] * is_shared]:
-                assert (run(*words, f"{option}={number}").returncode != 2) == is_taken, (words, option, number)
-    lines = int(re.search(r"--lines N [^-]*\[default: ([0-9]+)\]", text)[1])
-    write("list", "".join(f"% {number}\n" for number in range(9 * lines)))
-    cuts = [run(many, "--cut", "work", "list", *words, text=True, check=True).stdout
-            for words in ((), (f"--lines={lines}",), (f"--lines={lines // 2}",), (f"--lines={lines * 2}",))]
-    assert cuts[0] == cuts[1] and len({*cuts}) == 3, cuts
-
-
 def test_stored_reports_are_what_ffosolve_prints():
     reports = sorted(ROOT.glob("examples/*.report"))
     assert reports
     for report in reports:
         ends((0, report.read_bytes(), b""), built(), report.with_suffix(".obf"))
-
-
-def test_targets_of_links_exist():
-    for name, text in TEXTS.items():
-        links = [to for to in re.findall(r"\]\(([^)#]+)[^)]*\)", text) if "://" not in to]
-        assert [to for to in links if not (ROOT / name).parent.joinpath(to).exists()] == [], name
 
 
 def test_names_of_what_is_proved_lead_to_files_that_declare_them():
@@ -110,10 +83,12 @@ def test_names_of_what_is_proved_lead_to_files_that_declare_them():
         assert re.search(DECLARES.replace("NAME", name), stored(place).decode()), (name, place)
 
 
-def test_files_between_backticks_exist_unless_a_build_or_installation_makes_them():
+def test_targets_of_links_exist_and_files_between_backticks_unless_a_build_or_installation_makes_them():
     folders = "bench bin crates docs examples include packaging python rust scripts share tests .ci".split()
     path = re.compile(rf"`((?:{'|'.join(map(re.escape, folders))})/[\w./-]*\w)")
     for name, text in TEXTS.items():
+        links = [to for to in re.findall(r"\]\(([^)#]+)[^)]*\)", text) if "://" not in to]
+        assert [to for to in links if not (ROOT / name).parent.joinpath(to).exists()] == [], name
         lost = [to for to in path.findall(text) if not (ROOT / to).exists() and not list(ROOT.glob(to))]
         assert [to for to in lost if not re.search(r"/out(/|$)|^share/doc/", to)] == [], name
 

@@ -225,7 +225,8 @@ def has_positions(read, game):
     assert [position.to_obf() for position in Solver().positions(read)] == wanted, read
 
 
-def test_transcripts_are_read_in_each_form():
+def test_transcripts_are_read_in_each_form_and_games_in_ggf():
+    assert sum(None in game for game in PLAYED) > 10
     rng = random.Random(5)
     for game in PLAYED:
         names = [rng.choice((str.lower, str.upper))(NAMES[square]) for square in squares_of(game)]
@@ -243,6 +244,8 @@ def test_transcripts_are_read_in_each_form():
                                 "\r\n", "  % f5"))
             assert ffosolve.Game.of_text(text).squares == [name.upper() for name in names], text
             has_positions(text, game)
+        for text in (ggf(game), f" 1 {ggf(game, '')}\r\n", ggf(game, with_passes=False)):
+            has_positions(text, game)
 
 
 @pytest.mark.parametrize("moves, word, text", transcript_rows())
@@ -256,13 +259,6 @@ def test_transcripts_are_read_as_the_table_says(moves, word, text):
         Solver().positions(game)
     named = "a pass" if word in ("--", "pass", "ps", "pa") else word.upper() if word.upper() in NAMES else repr(word)
     assert (refused.value.move, refused.value.reason.split(" is not ")[0]) == (len(moves) + 1, named)
-
-
-def test_games_in_ggf_are_read():
-    assert sum(None in game for game in PLAYED) > 10
-    for at, game in enumerate(PLAYED):
-        for text in (ggf(game), f" 1 {ggf(game, '')}\r\n", ggf(game, with_passes=False)):
-            has_positions(text, game)
 
 
 @pytest.mark.parametrize("content, name, wanted", (

@@ -56,12 +56,6 @@ def test_options_stand_anywhere_and_reach_the_program_of_each_part(case):
     case.many("--scoring=sign", "--book-out", "joined.book", "--", "work", "-x")
 
 
-def test_the_limit_of_empty_squares_is_by_default_that_of_the_program(case):
-    case.write_list(case.SMALL + positions(1, 21, 21))
-    case.many(*WORDS)
-    assert " refused: 21 empties, limit 20\n" in case.one.decode()
-
-
 def test_lines_of_each_kind_and_none_at_all_are_solved(case):
     kinds, blank = stored("examples/kinds.obf"), b"\r\n \t\n\t % X\n% no end of the last line\n\r\r\n \r\n"
     whole, best = kinds + blank + kinds.rstrip(b"\n"), b"\n".join(worked_rows("ffosolve/best")[0])
@@ -189,8 +183,7 @@ def test_jobs_are_limited_by_the_files_and_processes_that_there_may_be(case, cou
     assert "failed" not in told
 
 
-# (status, message, *command line)
-REFUSED = [
+@pytest.mark.parametrize("row", [  # (status, message, *command line)
     (2, "name one LIST, or one FOLDER and one LIST; standard input is `-`"),
     (2, "name one LIST, or one FOLDER and one LIST; standard input is `-`", "work", "list.obf", "two.obf"),
     (2, "'list.obf' is not a folder: name one FOLDER and one LIST", "list.obf", "two.obf"),
@@ -238,18 +231,15 @@ REFUSED = [
     (2, "--table: takes a number from 0 to 4194304, not '99999999'", "work", "list.obf", "--table=99999999"),
     (2, "--scoring: invalid choice: 'a;b' (choose from 'winner', 'discs', 'sign')", "list.obf", "--scoring", "a;b"),
     (3, "bad.book: book line 1: bad square", "work", "list.obf", "--book-in=bad.book"),  # in the words of the program
-]
-
-
-@pytest.mark.parametrize("status, message, words", [(status, message, words) for status, message, *words in REFUSED])
-def test_wrong_command_lines_are_refused(case, status, message, words):
+])
+def test_wrong_command_lines_are_refused(case, row):
     for name in ("two.obf", "kept", b"not\xff"):
         write(os.fsdecode(name), case.SMALL)
     write("bad.book", b"?\n")
     os.symlink("kept", "link")
     os.symlink("/proc/self/fd/1", "out")
     os.mkfifo("pipe")
-    case.refused(status, message, *words)
+    case.refused(*row)
 
 
 def test_a_book_of_another_scoring_is_a_list_if_a_scoring_is_named(case):
@@ -293,6 +283,24 @@ def test_help_and_version_are_printed_whatever_else_is_given(case):
     write(by.parent.parent / "VERSION", "1.2.3\n")
     for word in ("-V", "--version"):
         assert case.many("list.obf", word, by=by, output=b"ffosolve-many 1.2.3\n") == ""
+
+
+def test_the_numbers_in_the_help_are_those_that_are_taken(case):
+    """The list is missing, and that is refused with another status than a number. Options of ffosolve are also given to
+    ffosolve, which reads an empty list."""
+    text = " ".join(run(case.MANY, "--help", text=True).stdout.split())
+    ranges = re.findall(r"(--[a-z-]+) N [^-]*?([0-9]+) to ([0-9]+)", text)
+    assert {option for option, *_ in ranges} == {"--jobs", "--lines", "--max-empties", "--workers"}
+    for option, least, most in ranges:
+        is_shared = option not in ("--jobs", "--lines")
+        for number, is_taken in ((int(least) - 1, False), (least, True), (most, True), (int(most) + 1, False)):
+            for words in [(case.MANY, "missing"), *[(case.MANY.with_name("ffosolve"), "/dev/null")] * is_shared]:
+                assert (run(*words, f"{option}={number}").returncode != 2) == is_taken, (words, option, number)
+    lines = int(re.search(r"--lines N [^-]*\[default: ([0-9]+)\]", text)[1])
+    write("list", "".join(f"% {number}\n" for number in range(9 * lines)))
+    cuts = [run(case.MANY, "--cut", "work", "list", *words, text=True, check=True).stdout
+            for words in ((), (f"--lines={lines}",), (f"--lines={lines // 2}",), (f"--lines={lines * 2}",))]
+    assert cuts[0] == cuts[1] and len({*cuts}) == 3, cuts
 
 
 def test_missing_or_wrong_programs_and_tools_are_named(case):

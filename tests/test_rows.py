@@ -90,15 +90,6 @@ def test_a_line_across_the_first_65536_bytes_is_judged_as_a_whole(line, error):
         reads(b"%" * (65_536 - size - 1) + b"\n" + line, error and f"2: {error}")
 
 
-def test_a_terminal_is_refused_as_a_book():
-    numbers = os.openpty()
-    name = os.ttyname(numbers[1])
-    error = f"ffosolve: cannot read {name}\nffosolve: it is neither a file nor a pipe\n"
-    ends((3, "", error), built(), "--book-in", name)
-    for number in numbers:
-        os.close(number)
-
-
 @pytest.mark.parametrize("lines, error", (
     ("yes ?", "1: bad square at column 1"),
     ("yes ? | tr -d '\\n'", "1: bad square at column 1"),
@@ -131,6 +122,7 @@ def test_the_largest_file_and_64_files_are_read_but_not_65():
     ("ffosolve ffoscores", "list none.obf none", "cannot read none.obf"),
     *(("ffosolve ffoscores", f"-- {word}", f"cannot read {word}") for word in ("--best", "-x", "--help")),
     ("ffosolve", "--book-in . list", "cannot read .\n{name}: it is a folder"),
+    ("ffosolve", "--book-in /dev/zero list", "cannot read /dev/zero\n{name}: it is neither a file nor a pipe"),
     ("ffosolve", "--book-in none.book none.obf", "cannot read none.book"),
     ("ffosolve", "--book-in bad.book none.obf", "book line 1: bad square at column 1"),
     ("ffosolve", "--book-in large.book none.obf", "book line 2: bad square at column 1"),
@@ -176,15 +168,6 @@ def test_an_output_that_fails_in_the_middle_is_reported_and_no_book_is_written(n
         assert not Path("it.book").exists()
 
 
-def test_scores_of_files_and_standard_input_are_the_stored_ones():
-    write("kinds.obf", KINDS)
-    ends((1, SCORES, b""), built("ffoscores"), "kinds.obf")
-    ends((1, SCORES, b""), built("ffoscores"), "./kinds.obf", "--table=65536", "--scoring", "winner")
-    ends((1, SCORES, b""), built("ffoscores"), input=KINDS)
-    ends((1, SCORES * 2, b""), built("ffoscores"), "--", "kinds.obf", "kinds.obf", input=b"X")
-    ends((1, SCORES, b""), built("ffoscores"), "/dev/stdin", input=KINDS)
-
-
 def test_each_line_is_printed_as_one_line_that_ends_with_lf():
     unlisted, columns = worked_rows("ffoscores/unlisted")
     rows = [("", *row) for row in zip(KINDS.splitlines(), SCORES.splitlines(), strict=True)]
@@ -209,10 +192,16 @@ def test_ffoscores_does_not_change_its_own_output_and_ffosolve_agrees_with_it():
     assert [row.split()[-1] for row in rows] == [b"agree"] * 8
 
 
-def test_odd_texts_are_printed_again_and_options_set_the_limit_the_table_and_the_scoring():
+def test_files_and_odd_texts_are_printed_again_and_options_set_the_limit_the_table_and_the_scoring():
+    write("kinds.obf", KINDS)
     over, scored = (text.split(b"\n")[6] for text in (KINDS, SCORES))
     whole, wrong = MOST_BYTES // len(TWO), b"% refused: bad square at column 1: "
     for words, status, printed, text in (
+        ("", 1, SCORES, KINDS),
+        ("kinds.obf", 1, SCORES, b""),
+        ("./kinds.obf --table=65536 --scoring winner", 1, SCORES, b""),
+        ("-- kinds.obf kinds.obf", 1, SCORES * 2, b"X"),
+        ("/dev/stdin", 1, SCORES, KINDS),
         ("", 0, b"", b""),
         ("", 0, b"\n", b"\n"),
         ("", 0, b"%\n", b"%"),

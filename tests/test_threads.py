@@ -28,25 +28,20 @@ def solve(*words, **how):
     return (ran.stdout, ran.stderr.replace(b"thread ", b"")), ran.stderr.count(b"thread ")
 
 
-def test_each_file_and_each_worker_has_a_thread_and_the_report_is_the_same_if_none_can_be_started():
-    easy = b"".join(EASY)
-    files = [write("0.obf", HARD + easy + HARD), write("1.obf", easy + HARD)]
+@pytest.mark.parametrize(("texts", "numbers", "times"), [
+    ([HARD + b"".join(EASY) + HARD, b"".join(EASY) + HARD], (0, 1, 4, 64), 1),
+    ([b"".join(EASY[number % 4:] + EASY) for number in range(64)], (64,), 100),
+])
+def test_each_file_and_each_worker_has_a_thread_and_the_report_is_the_same_without_any(texts, numbers, times):
+    files = [write(f"{number}.obf", text) for number, text in enumerate(texts)]
     wanted, _ = solve(*files)
-    for workers in (0, 1, 4, 64):
+    assert wanted[0].endswith(b"refused 0\n") and wanted[0].count(b"[") == len(files)
+    for workers in numbers:
         words = ["--workers", workers, *files]
-        assert solve(*words) == (wanted, workers + len(files))
+        for _ in range(times):
+            assert solve(*words) == (wanted, workers + len(files))
         assert solve(*words, preexec_fn=refuse_threads) == (wanted, 0)
         ends((0, "[1]\nsolved 0 refused 0\n", ""), built(), "--workers", workers, "/dev/null")  # without a position
-
-
-def test_64_files_with_64_workers_always_have_the_same_report():
-    files = [write(f"{number}.obf", b"".join(EASY[number % 4:] + EASY)) for number in range(64)]
-    words = ["--workers", 64, *files]
-    wanted, _ = solve(*words)
-    assert wanted[0].endswith(b"refused 0\n") and wanted[0].count(b"[") == 64
-    assert solve(*words, preexec_fn=refuse_threads) == (wanted, 0)
-    for _ in range(100):
-        assert solve(*words)[0] == wanted
 
 
 @pytest.mark.parametrize("at, settings", enumerate(itertools.product(("winner", "discs", "sign"), (0, 16, 65_536))))
