@@ -416,7 +416,6 @@ def test_wrong_words_are_refused(words, why):
 
 
 def test_help_has_all_uses_in_80_columns(monkeypatch):
-    games("--version", out=f"ffosolve-games {ffosolve.__version__}\n")
     monkeypatch.setenv("COLUMNS", "80")
     printed = run(PROGRAM, "--help", check=True, text=True).stdout
     for task in ("compare", "check"):

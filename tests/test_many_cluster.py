@@ -473,20 +473,10 @@ def test_a_part_is_sent_after_the_pack_and_again_if_no_fit_worker_has_it(one, wo
     assert [part.how["workers"] for part in parts[:3]] == [["a"] if count > 1 else None] * 3
 
 
-def test_workers_that_end_with_the_program_and_a_book_alone_end_the_run(one):
-    import distributed
-    worker, part = mock.Mock(address="tcp://h1:1", local_directory="a", host="h1"), mock.Mock(digest="it")
-    one.answer = mock.AsyncMock(side_effect=distributed.KilledWorker("pack", worker, 3))
-    with pytest.raises(Refusal, match="^h1: 4 workers ended before .* memory too small"):
-        asyncio.run(one.solve(part, []))
-    one.answer.side_effect = ValueError("Dask can't run it\nat all")
-    assert asyncio.run(one.solve(part, [])) == (part, None, "Dask can't run it", ["a worker"])
-
-
 @pytest.mark.parametrize("allowed, count", [(0, 4), (1, 2), (3, 1), (9, 1)])
 def test_no_part_is_to_blame_before_four_workers_have_ended_and_a_machine_whose_workers_solve_no_known_line_is(
         one, allowed, count):
-    """A Pack that ended workers counts once, for all parts that waited for it."""
+    """A Pack that ended workers counts once for all parts that waited. If none solves such a line, the run ends."""
     import distributed
     part, ends = mock.Mock(digest="it"), (allowed + 1) * count
     worker = mock.Mock(address="tcp://h1:1", local_directory="a", host="h1")
@@ -505,6 +495,11 @@ def test_no_part_is_to_blame_before_four_workers_have_ended_and_a_machine_whose_
     for _ in range(100):
         assert one.blame(part, distributed.KilledWorker("pack", worker, 0)) == ("", [])
     assert one.ends == {"h1": {"pack": 1}}
+    one.tested, one.answer = set(), mock.AsyncMock(side_effect=distributed.KilledWorker("pack", worker, 3))
+    with pytest.raises(Refusal, match="^h1: 4 workers ended before .* memory too small"):
+        asyncio.run(one.solve(part, []))
+    one.answer.side_effect = ValueError("Dask can't run it\nat all")
+    assert asyncio.run(one.solve(part, [])) == (part, None, "Dask can't run it", ["a worker"])
 
 
 def test_the_adaptive_cluster_of_the_document_starts_and_ends_workers_by_need(case, dask_python):
@@ -539,7 +534,7 @@ def test_what_is_no_scheduler_is_named(case, address, why):
     no_scheduler(case, address, what + why.format(address))
 
 
-def test_a_server_that_is_no_scheduler_is_named(cluster, case):
+def test_a_server_that_is_no_scheduler_and_a_scheduler_with_tls_are_named(cluster, case):
     """The worker worker2 never answers what it is."""
     write("lib/sitecustomize.py",
           "import asyncio, distributed\ndistributed.Worker.identity = lambda *_: asyncio.sleep(1000)\n")
@@ -553,9 +548,6 @@ def test_a_server_that_is_no_scheduler_is_named(cluster, case):
                              (nanny, " is not a scheduler, but a nanny\n"),
                              (f"tcp://127.0.0.1:{held.getsockname()[1]}", NO_ANSWER), (silent, NO_ANSWER)):
             no_scheduler(case, address, why)
-
-
-def test_a_scheduler_with_tls_is_named(cluster, case):
     run("openssl", "req", "-x509", "-newkey", "rsa:2048", "-nodes", "-keyout", "key", "-out", "cert", "-subj", "/CN=x",
         check=True)
     cluster.start_scheduler("--protocol=tls", "--tls-ca-file=cert", "--tls-cert=cert", "--tls-key=key")

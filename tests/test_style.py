@@ -6,13 +6,10 @@ import graphlib
 import re
 import symtable
 
+import pytest
+
 from tests.prefix import names_of_files
 from tests.support import ROOT, run, stored, write
-
-
-def scripts(language):
-    """Returns the names of files whose first line names an interpreter; the pattern `language` matches its name."""
-    return [name for name in names_of_files() if re.match(rf"#!.*\b{language}\n".encode(), stored(name))]
 
 
 def accepts(*words):
@@ -24,8 +21,11 @@ def test_types():
     accepts("mypy")
 
 
-def test_python():
-    accepts("flake8", ".", *scripts(r"python\d?"))
+@pytest.mark.parametrize("words, language", (
+    (["flake8", "."], r"python\d?"), (["shellcheck", "share/completions/bash"], "(ba)?sh")), ids=("python", "shell"))
+def test_files_and_scripts(words, language):
+    """The first line of a script names an interpreter, whose name the pattern `language` matches."""
+    accepts(*words, *(name for name in names_of_files() if re.match(rf"#!.*\b{language}\n".encode(), stored(name))))
 
 
 def imported(module):
@@ -72,10 +72,6 @@ def test_no_test_module_imports_another():
     tests = [path for folder in ("tests", "python/tests") for path in (ROOT / folder).glob("test_*.py")]
     assert len(tests) > 20
     assert [path.name for path in tests if re.search(r"(?m)^ *(from|import) .*\btest_", path.read_text())] == []
-
-
-def test_shell():
-    accepts("shellcheck", "share/completions/bash", *scripts("(ba)?sh"))
 
 
 def test_recipes(folder):
