@@ -11,7 +11,7 @@ from pathlib import Path
 import pytest
 
 from ffosolve._many import solve
-from tests.support import built, copy_many, positions, processes_in, run, write
+from tests.support import ROOT, built, positions, processes_in, run, write
 
 BOARD = b"-OXXXXX-XXXXXXXOXXXXXXXXXXXXXXXXXXXOXXXXXXXXXXXXXXXXXXXXXXXXXXXX"  # two empty squares
 WORDS = ("--lines=20", "work", "list.obf", "--book-out", "joined.book")  # a command for the folder of a `Case`
@@ -53,9 +53,12 @@ def install(shared_folder):
     in which @real@ is replaced by the path of the real program, @python@ by Python's. Each (module, old, new) of
     `changes` replaces `old`."""
     def begin(name, *changes, script=None):
-        many = copy_many(shared_folder / name)
+        root = shared_folder / name
+        many = root / "bin/ffosolve-many"
+        shutil.copytree(ROOT / "python/src", root / "python/src", ignore=shutil.ignore_patterns("__pycache__"))
+        run("cp", "--parents", "VERSION", "bin/ffosolve-many", "bin/ffosolve-games", root, cwd=ROOT, check=True)
         for module, old, new in changes:
-            path = many.parent.parent / f"python/src/ffosolve/_many/{module}.py"
+            path = root / f"python/src/ffosolve/_many/{module}.py"
             before, after = path.read_text().split(old)  # fails unless the text occurs once
             path.write_text(before + new + after)
         for program in ("ffosolve", "ffoscores"):

@@ -115,14 +115,6 @@ def built(name="ffosolve"):
     return ROOT / "out" / name
 
 
-def copy_many(root):
-    """Copies the package for Python, its scripts and VERSION to the same paths in a folder; returns ffosolve-many's."""
-    shutil.copytree(ROOT / "python/src", Path(root, "python/src"), ignore=shutil.ignore_patterns("__pycache__"))
-    files = ("VERSION", "bin/ffosolve-many", "bin/ffosolve-games")  # which ffosolve-many runs
-    run("cp", "--parents", *files, Path(root).absolute(), cwd=ROOT, check=True)
-    return Path(root, "bin/ffosolve-many")
-
-
 def ends(wanted, *words, **how):
     """Asserts that a command ends with `wanted`: (status, standard output, standard error). Both outputs are str, or
     both bytes; one that goes elsewhere is None."""

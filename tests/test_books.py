@@ -6,8 +6,8 @@ from pathlib import Path
 
 import pytest
 
-from tests.support import (MOST_BYTES, NOBODY, SECONDS, built, copy_many, ends, limited, positions, preload, run,
-                           stored, unshared, write)
+from tests.support import (MOST_BYTES, NOBODY, SECONDS, built, ends, limited, positions, preload, run, stored,
+                           unshared, write)
 
 pytestmark = pytest.mark.usefixtures("folder")
 TEXT, REPORT, BOOK = (stored("examples", f"first.{end}") for end in ("obf", "report", "book"))
@@ -224,7 +224,7 @@ def test_the_log_that_standard_output_goes_to_is_not_overwritten(old, wanted):
     assert content("log") == (old or REPORT)
 
 
-def test_the_book_that_is_read_is_not_overwritten_and_can_be_merged_as_the_error_says():
+def test_the_book_that_is_read_is_not_overwritten_and_can_be_merged_as_the_error_says(install):
     write("it.book", read := b"% ffobook 2 winner\n" + b"X" * 64 + b" X; --:+64;\n")
     os.symlink("it.book", "link")
     os.link("it.book", "twin")
@@ -235,9 +235,7 @@ def test_the_book_that_is_read_is_not_overwritten_and_can_be_merged_as_the_error
             solves((3, b"", error), name, "--book-in", book)
             assert (content("it.book"), len(os.listdir())) == (read, 3)
     solves(DONE, "new", "--book-in", "it.book")
-    many = copy_many("many")
-    shutil.copy(PROGRAM, many.parent)
-    merged = run(many, "--merge-books", "it.book", "new", check=True).stdout
+    merged = run(install("plain"), "--merge-books", "it.book", "new", check=True).stdout
     assert set(merged.splitlines()) == set(BOOK.splitlines() + read.splitlines())
 
 

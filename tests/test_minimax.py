@@ -1,5 +1,4 @@
-"""The Python package and ffoscores find what plain minimax finds in random positions. POSITIONS is the number of those
-with at most 6 empty squares, DEEP the number of those with 7 or 8."""
+"""The Python package and ffoscores find what plain minimax finds in random positions."""
 import itertools
 from concurrent.futures import ProcessPoolExecutor, ThreadPoolExecutor
 
@@ -11,7 +10,7 @@ from .support import SECONDS, built, ends
 from .games import random_positions
 from ffosolve import Answer, Kind, NoMove, Scoring, Solver, square_name
 
-POSITIONS, DEEP = 2000, 40
+POSITIONS, DEEP = 2000, 40  # with at most 6 empty squares, and with 7 or 8
 
 
 def solved(position):

@@ -15,7 +15,6 @@ HARD = b"-XXO-O--OXXXOO--OXXOXO--OXXXXO--OOOOXOO--OOXOXOOXOOO-OXXO--O--O- X\n"  
 ADVISED = b"-XOOOO-X-XOOOOX--OOXOOXX-OOXXOXO-OXOXXO-OOOXOOX-OOXOOO--OX--O--- X\n"  # a third of the time with a book
 MOVES = b"-------X--XX-XX-X-XXXX---XOOXOOX-OOXOOOOOOOOOXXXXOOOXOO--OOOOOOO X\n"  # 18 empty squares
 AGAIN = 8  # how often a position is repeated
-LIMIT = 64 << 20  # bytes of memory: enough for the default table, not for the greatest
 
 
 def spent():
@@ -33,7 +32,7 @@ def is_shorter(quick, slow, times, repeat=3):
 
 @pytest.mark.parametrize(("name", "status"), [("ffosolve", 1), ("ffoscores", 3)])
 def test_the_greatest_table_takes_more_memory(folder, name, status):
-    words, little = (built(name), "--workers", "0"), limited(RLIMIT_AS=LIMIT)
+    words, little = (built(name), "--workers", "0"), limited(RLIMIT_AS=64 << 20)  # enough for the default table
     usual = run(*words, input=KINDS, text=True)
     ends((usual.returncode, usual.stdout, ""), *words, input=KINDS, preexec_fn=little)
     ends((status, "", f"{name}: out of memory\n"), *words, "--table", MOST_ENTRIES, input=KINDS, preexec_fn=little)
