@@ -75,5 +75,3 @@ wheel: commit tools levels ## makes out/ffosolve-VERSION-py3-none-manylinux_2_34
 	done
 	(cd python && FFOSOLVE_STAGE="$$room" SOURCE_DATE_EPOCH="$(seconds)" $(python) -Bm hatchling build --target wheel --directory "$$room" >/dev/null)
 	$(call finish,*.whl)
-
-.PHONY: commit stage dist deb wheel

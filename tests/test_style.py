@@ -2,6 +2,7 @@
 modules of the package for Python import each other in a circle, or those above them in docs/architecture.md."""
 import ast
 import collections
+import functools
 import graphlib
 import re
 import symtable
@@ -11,10 +12,7 @@ import pytest
 from tests.prefix import names_of_files
 from tests.support import ROOT, run, stored, write
 
-
-def accepts(*words):
-    ran = run(*words, cwd=ROOT, text=True, timeout=300)
-    assert ran.returncode == 0, ran.stdout + ran.stderr
+accepts = functools.partial(run, cwd=ROOT, text=True, timeout=300, check=True)
 
 
 def test_types():
