@@ -12,7 +12,8 @@ class Named(enum.IntEnum):
     def __str__(self) -> str:
         return self.name.lower()
 
-    __format__ = enum.Enum.__format__
+    def __format__(self, form: str) -> str:
+        return format(str(self), form)
 
 
 class Scoring(Named):
