@@ -159,10 +159,12 @@ documents = README.md LICENSE CHANGELOG.md $(wildcard PROVED) \
 # Completions call the installed program for its --help, so TAB after bin/ffosolve in a checkout builds nothing.
 install: $(programs:%=out/$(CPU)/%) $(libraries) ## installs programs, library, manual pages, completions and documents under PREFIX (/usr/local), in DESTDIR
 	$(places)
-	install -D -t "$$bin" $(programs:%=out/$(CPU)/%) bin/ffosolve-many
+	install -D -t "$$bin" $(programs:%=out/$(CPU)/%)
 	package=$$(realpath -ms --relative-to='$(BINDIR)/..' '$(PREFIX)/share/ffosolve')
 	library=$$(realpath -ms --relative-to='$(BINDIR)/..' '$(LIBDIR)/libffosolve.so')
-	sed "s|share/ffosolve|$$package|; s|lib/libffosolve.so|$$library|" bin/ffosolve-games | install -m 755 /dev/stdin "$$bin/ffosolve-games"
+	for name in $(scripts); do
+	    sed "s|share/ffosolve|$$package|; s|lib/libffosolve.so|$$library|" bin/$$name | install -m 755 /dev/stdin "$$bin/$$name"
+	done
 	for program in $(programs:%=out/$(CPU)/%) $(scripts:%=bin/%); do
 	    name=$${program##*/}
 	    said=$$(COLUMNS=80 "$$program" --help) || echo "$$name: its manual page has no options, since --help can't be run" >&2

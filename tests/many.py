@@ -56,7 +56,7 @@ def install(shared_folder):
         root = shared_folder / name
         many = root / "bin/ffosolve-many"
         shutil.copytree(ROOT / "python/src", root / "python/src", ignore=shutil.ignore_patterns("__pycache__"))
-        run("cp", "--parents", "VERSION", "bin/ffosolve-many", "bin/ffosolve-games", root, cwd=ROOT, check=True)
+        run("cp", "--parents", "VERSION", "bin/ffosolve-many", root, cwd=ROOT, check=True)
         for module, old, new in changes:
             path = root / f"python/src/ffosolve/_many/{module}.py"
             before, after = path.read_text().split(old)  # fails unless the text occurs once
