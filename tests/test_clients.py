@@ -198,6 +198,12 @@ def test_the_packages_own_tests_pass_where_it_is_installed():
     assert re.search(r"(?m)^4 passed", PREFIX.make(*words).stdout)
 
 
+def test_pip_installs_the_packages_program():
+    program = PREFIX.site / "bin/ffosolve-games"
+    assert PREFIX.make(program, "--version").stdout == f"ffosolve-games {ffosolve.__version__}\n"
+    assert re.search(r"\A\S{64} O; % -, game 1\n\Z", PREFIX.make(program, "--empties=59", input="f5").stdout)
+
+
 def test_a_library_of_another_version_or_without_a_call_is_refused():
     older, lacking = "has version 20000, not 1.x.y", "is not this package's library"
     for missing, number, why in (("", 10203, ""), ("", 20000, older), ("ffosolve_play", 10203, lacking)):

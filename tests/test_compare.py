@@ -411,23 +411,36 @@ def test_another_number_of_empty_squares_goes_on_in_the_same_folder():
         assert (len(results()) > before) == added
 
 
-@pytest.mark.parametrize("number, of_all", ((signal.SIGINT, True), (signal.SIGTERM, False), (signal.SIGKILL, False)))
-def test_an_interrupted_check_goes_on_and_a_second_one_in_its_folder_was_refused(start, number, of_all):
-    """It checks 90 games, one after the other. While the second one tries, the first is stopped."""
+@pytest.fixture
+def slow_check():
+    """The words of a command that checks 90 games, one after the other, and what it prints."""
     played = [game for game in random_games(110, seed=8) if EMPTIES in positions_of(game)][:90]
-    write("it.wtb", wthor([record(it, discs_of_black(positions_of(it)[EMPTIES])) for it in played], empties=EMPTIES))
-    words = (sys.executable, PROGRAM, *CHECK, "--lines=1", "--jobs=1")
+    exact = [discs_of_black(positions_of(game)[EMPTIES]) for game in played]
+    write("it.wtb", wthor(list(map(record, played, exact)), empties=EMPTIES))
+    return (sys.executable, PROGRAM, *CHECK, "--lines=1", "--jobs=1"), counts(90, 0)
+
+
+@pytest.mark.parametrize("number, of_all", ((signal.SIGINT, True), (signal.SIGTERM, False), (signal.SIGKILL, False)))
+def test_an_interrupted_check_goes_on(start, slow_check, number, of_all):
+    words, printed = slow_check
     child = start(*words, start_new_session=True)
     wait_until(results)
-    os.killpg(child.pid, signal.SIGSTOP)
-    ends((3, "", f"ffosolve-many: another run works in it.wtb.check\n{FAILED}\n"), *words)
-    os.killpg(child.pid, signal.SIGCONT)
     (os.killpg if of_all else os.kill)(child.pid, number)
     child.communicate(timeout=SECONDS)
     assert child.returncode == -number
     assert 0 < len(results()) < 90
-    games(*words[2:], out=counts(90, 0))
+    games(*words[2:], out=printed)
     assert len(results()) == 90
+
+
+def test_a_second_check_in_one_folder_is_refused(start, slow_check):
+    words, printed = slow_check
+    first = start(*words, start_new_session=True)
+    wait_until(results)
+    os.killpg(first.pid, signal.SIGSTOP)
+    ends((3, "", f"ffosolve-many: another run works in it.wtb.check\n{FAILED}\n"), *words)
+    os.killpg(first.pid, signal.SIGCONT)
+    assert first.communicate(timeout=SECONDS)[0].decode() == printed
 
 
 def test_check_can_be_cut_for_another_scheduler():
@@ -457,7 +470,7 @@ def test_check_refuses_before_it_solves():
     assert len(results()) == 0
 
 
-def test_scores_are_not_taken_from_a_folder_that_others_may_write():
+def test_scores_are_not_taken_from_a_folder_that_others_own_or_may_write():
     """Nor from a file there that is not ffosolve-many's."""
     games(*CHECK, status=1, out=both() + counts())
     write("it.wtb.check/check.book", BOOK.replace("+", "-"))
@@ -470,6 +483,11 @@ def test_scores_are_not_taken_from_a_folder_that_others_may_write():
     mount = 'mount --bind . . && mount -o remount,bind,ro . && cd "$PWD" && ! echo >new && exec "$@"'
     ran = run(unshare, *words, "sh", "-c", mount, "sh", sys.executable, PROGRAM, *CHECK, text=True)
     assert (ran.returncode, ran.stdout) == (1, both() + counts()), ran.stderr  # on a disk that may only be read
+    if NOBODY:
+        os.chown("it.wtb.check", NOBODY["user"], -1)
+        refused("--fix=new.wtb", why="it.wtb.check belongs to another user: name another folder")
+        os.chown("it.wtb.check", 0, -1)
+        games(*CHECK, status=1, out=both() + counts(), **NOBODY)  # of root
 
 
 @pytest.fixture

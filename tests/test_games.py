@@ -94,12 +94,15 @@ def test_a_wrong_transcript_is_reported_and_the_others_are_printed():
     right = (("f5d6c3", F5D6), ("% a comment", None), ("", None), ("\r", None), ('[Event "f5d6"]', None),
              ('[White "B, c3"] [Result "33-31"]', None), (f"[Round 1] {transcript(GAME)} 33-31", AT),
              (transcript(GAME) + "--pass", AT))
-    wrong = (*REFUSED, ("f5", 1, "it ends here, with 59 empty squares; 58 are asked for"))
     out = "".join(line_of(found[58], f"games, game {number}") for number, (_, found) in enumerate(right, 1) if found)
     err = "".join(f"games, game {number}{', move ' * bool(move)}{move or ''}: {why}\n"
-                  for number, (_, move, why) in enumerate(wrong, 1 + len(right)))
-    text = "\n".join(text for text, *_ in right + wrong).encode()
+                  for number, (_, move, why) in enumerate(REFUSED, 1 + len(right)))
+    text = "\n".join(text for text, *_ in right + REFUSED).encode()
     reads("games", text.replace("\ufffd".encode(), b"\xff"), "--empties=58", out=out, err=err)
+    game = next(game for game in random_games(200, seed=1) if len(squares_of(game)) == 59)
+    for text, empties, where in (("f5", 58, "move 1: it ends here, with 59 empty squares"),
+                                 (transcript(game), 0, "move 59: it ends here, with 1 empty square")):
+        reads("games", text, f"--empties={empties}", err=f"games, game 1, {where}; {empties} are asked for")
 
 
 @pytest.mark.parametrize("text, move, why", REFUSED)
@@ -194,6 +197,7 @@ def test_a_theoretical_score_is_printed_only_for_its_number_of_empty_squares_whi
     reads("it.wtb", wthor([GAME_RECORD], empties=0), status=2,
           err="it.wtb does not say how many squares are empty at its theoretical scores; "
               "try --empties 22 or 24, the usual numbers")
+    reads("text", transcript(GAME), status=2, err="text is a text: its games need --empties N")
 
 
 def test_each_changed_byte_leads_to_a_position_of_the_changed_game():
@@ -416,6 +420,7 @@ def test_wrong_words_are_refused(words, why):
 
 
 def test_help_has_all_uses_in_80_columns(monkeypatch):
+    games("--version", out=f"ffosolve-games {ffosolve.__version__}\n")
     monkeypatch.setenv("COLUMNS", "80")
     printed = run(PROGRAM, "--help", check=True, text=True).stdout
     for task in ("compare", "check"):

@@ -56,6 +56,17 @@ def test_options_stand_anywhere_and_reach_the_program_of_each_part(case):
     case.many("--scoring=sign", "--book-out", "joined.book", "--", "work", "-x")
 
 
+def test_the_limit_of_empty_squares_is_by_default_that_of_the_program(case):
+    case.write_list(case.SMALL + positions(1, 21, 21))
+    case.many(*WORDS)
+    assert " refused: 21 empties, limit 20\n" in case.one.decode()
+    case.write_list(case.SMALL, "--max-empties=3")
+    for words in (), ("--max-empties=4",):
+        case.many(*WORDS[:3], *words, output=mock.ANY)
+    case.many(*WORDS, "--max-empties=3", message=", 0 of them solved before")
+    case.many(*WORDS, "--max-empties=3", message=", 3 of them solved before")
+
+
 def test_lines_of_each_kind_and_none_at_all_are_solved(case):
     kinds, blank = stored("examples/kinds.obf"), b"\r\n \t\n\t % X\n% no end of the last line\n\r\r\n \r\n"
     whole, best = kinds + blank + kinds.rstrip(b"\n"), b"\n".join(worked_rows("ffosolve/best")[0])
@@ -352,6 +363,7 @@ def test_merged_books_are_the_book_of_all(case):
         case.many("--merge-books", name, "a.book", output=whole, input=other)
     case.many("b.book", "a.book", "a.book", "--merge-books", "--book-out", "a.book", output=b"")
     case.same_book("a.book")
+    assert run(case.MANY.with_name("ffosolve"), "--book-in=a.book", "list.obf").stdout == case.one
     write("mine.book", b"% my own\n\n " + BOARD[::-1].lower() + b"\tb; h8:+52; a8:62 % why\r\n")  # in another spelling
     first = ROOT / "examples/first.book"
     case.many("--merge-books", "mine.book", first, output=first.read_bytes())

@@ -257,6 +257,14 @@ def test_a_folder_where_no_program_may_run_is_fine_and_a_finished_one_needs_no_s
     cluster.leaves_nothing()
 
 
+def test_a_worker_that_fails_now_and_then_is_not_left_out(cluster, case):
+    count = f"open('{case.folder}/count', 'a').write('.'), os.path.getsize('{case.folder}/count')"
+    cluster.start_workers("worker1", SPOIL=f"lambda text: text[:-5] if ({count})[1] % 2 else text")
+    cluster.start_workers("worker2", PAUSE="4")
+    told = cluster.ended(cluster.begin())
+    assert told.count(" failed ") >= 3 and "left out" not in told
+
+
 def test_parts_that_fail_everywhere_take_no_worker_out(cluster, case):
     cluster.start_workers("worker1", "worker2", "worker3", PAUSE="0.2")
     write("list.obf", b"".join(b"%% FAIL %d\n" % number for number in range(24)) + case.SMALL)
@@ -498,6 +506,9 @@ def test_no_part_is_to_blame_before_four_workers_have_ended_and_a_machine_whose_
     one.tested, one.answer = set(), mock.AsyncMock(side_effect=distributed.KilledWorker("pack", worker, 3))
     with pytest.raises(Refusal, match="^h1: 4 workers ended before .* memory too small"):
         asyncio.run(one.solve(part, []))
+    one.tested = {("tcp://h1:1", "a")}
+    one.answer.side_effect = distributed.KilledWorker("ffosolve-key-7-x", worker, 3)
+    assert asyncio.run(one.solve(part, [])) == (part, None, "4 workers ended that had it", 2 * ["tcp://h1:1"])
     one.answer.side_effect = ValueError("Dask can't run it\nat all")
     assert asyncio.run(one.solve(part, [])) == (part, None, "Dask can't run it", ["a worker"])
 

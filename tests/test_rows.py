@@ -90,6 +90,15 @@ def test_a_line_across_the_first_65536_bytes_is_judged_as_a_whole(line, error):
         reads(b"%" * (65_536 - size - 1) + b"\n" + line, error and f"2: {error}")
 
 
+def test_a_terminal_is_refused_as_a_book():
+    numbers = os.openpty()
+    name = os.ttyname(numbers[1])
+    error = f"ffosolve: cannot read {name}\nffosolve: it is neither a file nor a pipe\n"
+    ends((3, "", error), built(), "--book-in", name)
+    for number in numbers:
+        os.close(number)
+
+
 @pytest.mark.parametrize("lines, error", (
     ("yes ?", "1: bad square at column 1"),
     ("yes ? | tr -d '\\n'", "1: bad square at column 1"),
@@ -122,12 +131,12 @@ def test_the_largest_file_and_64_files_are_read_but_not_65():
     ("ffosolve ffoscores", "list none.obf none", "cannot read none.obf"),
     *(("ffosolve ffoscores", f"-- {word}", f"cannot read {word}") for word in ("--best", "-x", "--help")),
     ("ffosolve", "--book-in . list", "cannot read .\n{name}: it is a folder"),
-    ("ffosolve", "--book-in /dev/zero list", "cannot read /dev/zero\n{name}: it is neither a file nor a pipe"),
     ("ffosolve", "--book-in none.book none.obf", "cannot read none.book"),
     ("ffosolve", "--book-in bad.book none.obf", "book line 1: bad square at column 1"),
     ("ffosolve", "--book-in large.book none.obf", "book line 2: bad square at column 1"),
     ("ffoscores", "list large none.obf", "cannot read none.obf"),
     ("ffoscores", "list large list large", f"file 2 is larger than {MOST_BYTES} bytes"),
+    ("ffoscores", "list " * 65, "more than 64 files"),
     ("ffoscores", "list " * 65 + "none.obf", "cannot read none.obf"),
 ))
 def test_an_error_in_any_file_is_reported_before_anything_is_printed(names, words, why):
