@@ -185,100 +185,126 @@ fn guess_by(worth: u32) -> i8
     (discs.saturating_sub(GUESS_LESS) / 2 * 2) as i8
 }
 
-// The fewest empty squares of a position whose guess threads make together.
-const FEWEST_GUESSED_TOGETHER: u8 = 16;
+// The fewest plies that threads foresee together. What takes fewer is not worth a note.
+const FEWEST_PLIES_TOGETHER: u8 = 2;
 
-// The number under which threads note what a child is worth for a guess. `judged` has lower ones.
+// The number under which threads note what a move is worth for a guess; the plies from it on are
+// added. `judged` has lower ones.
 const GUESS: u16 = 1000;
 
-// What a move is worth after some plies after it, if that is more than `low`; otherwise a bound of
-// it. From -`GREATEST_WORTH` to `GREATEST_WORTH`.
-fn foresee_move<T: Bounds>(table: &T, child: Child, plies: u8, low: i32) -> i32
-    requires { child.replies ≡ moves_of child.position }
-    ensures least { negsuc 511 ≤ℤ result }
-    ensures most { result ≤ℤ pos 512 }
+// The same as `foresee`, but at least `low`, by the work of all threads that guess the value of one
+// position. They look at the first move together, each at others that no other one has begun, and
+// then at what is left.
+#[cycle(foresee_together)]
+fn foresee_together<T: Bounds>(
+    table: &T,
+    position: Pos,
+    moves: u64,
+    plies: u8,
+    low: i32,
+    high: i32,
+) -> i32
+    requires { moves ≡ moves_of position }
 {
-    let least = low.max(-GREATEST_WORTH).wrapping_neg();
-    let worth = foresee(
-        table,
-        child.position,
-        child.replies,
-        plies,
-        -GREATEST_WORTH,
-        least,
-    );
-    worth.wrapping_neg().clamp(-GREATEST_WORTH, GREATEST_WORTH)
+    let is_shared = table.foreseen(&position, GUESS) != Foreseen::Unkept;
+    if moves == 0 || plies < FEWEST_PLIES_TOGETHER || !is_shared {
+        return foresee(table, position, moves, plies, low, high);
+    }
+    let mut children = ArrayVec::<Child, 64>::new();
+    add_children(position, moves, &mut children);
+    sort_children(&mut children);
+    foresee_shared_children(table, position, &children, plies, low, high)
 }
 
-// The greatest worth of a move that a thread has noted, or that this one finds and notes. Where
-// `is_left` is false, it leaves out those that another thread has begun.
+// The same by the listed children.
+#[cycle(foresee_together)]
+fn foresee_shared_children<T: Bounds>(
+    table: &T,
+    position: Pos,
+    children: &[Child],
+    plies: u8,
+    low: i32,
+    high: i32,
+) -> i32
+    requires children { All (IsChildOf position) children.now }
+    requires some { 0 < plies }
+{
+    let Some((first, others)) = children.split_first() else {
+        return low;
+    };
+    let best = low.max(noted_worth(table, *first, plies, true, low, high));
+    let best = best_noted(table, position, others, plies, false, best, high);
+    best_noted(table, position, others, plies, true, best, high)
+}
+
+// The greatest worth of the moves to the listed children, or `low` if that is greater. Where
+// `is_left` is false, those that another thread has begun are left out.
+#[cycle(foresee_together)]
 fn best_noted<T: Bounds>(
     table: &T,
     position: Pos,
     children: &[Child],
     plies: u8,
     is_left: bool,
-    best_so_far: i32,
+    low: i32,
+    high: i32,
 ) -> i32
-    requires { All (IsChildOf position) children.now }
+    requires children { All (IsChildOf position) children.now }
+    requires some { 0 < plies }
 {
-    let mut best = best_so_far;
+    let mut best = low;
     for child in children {
-        if best >= GREATEST_WORTH {
+        if best >= high {
             return best;
         }
-        let worth = match table.foreseen(&child.position, GUESS) {
-            Foreseen::Worth(noted) => i32::from(noted) - GREATEST_WORTH,
-            Foreseen::Begun | Foreseen::Unkept if !is_left => BELOW_ALL_WORTHS,
-            _ => {
-                table.note_foreseen(&child.position, GUESS, Foreseen::Begun);
-                let worth = foresee_move(table, *child, plies, best);
-                let noted = Foreseen::Worth((worth + GREATEST_WORTH) as u16);
-                table.note_foreseen(&child.position, GUESS, noted);
-                worth
-            }
-        };
-        best = best.max(worth);
+        best = best.max(noted_worth(table, *child, plies, is_left, best, high));
     }
     best
 }
 
-// The greatest worth of the moves to the children, by notes that threads share. Each thread looks at
-// those that no other one has begun, and then at what is left.
-fn foresee_noted<T: Bounds>(table: &T, position: Pos, children: &[Child], plies: u8) -> i32
-    requires { All (IsChildOf position) children.now }
-{
-    let best = best_noted(table, position, children, plies, false, BELOW_ALL_WORTHS);
-    best_noted(table, position, children, plies, true, best)
-}
-
-// What a position is worth after some plies, by notes that threads share.
-fn foresee_together<T: Bounds>(table: &T, position: Pos, moves: u64, plies: u8) -> i32
-    requires moves { moves ≡ moves_of position }
+// What a move is worth, as a thread has noted it, or as this one foresees it; but where `is_left` is
+// false, and another thread has begun to look, a worth below all others.
+#[cycle(foresee_together)]
+fn noted_worth<T: Bounds>(
+    table: &T,
+    child: Child,
+    plies: u8,
+    is_left: bool,
+    low: i32,
+    high: i32,
+) -> i32
+    requires replies { child.replies ≡ moves_of child.position }
     requires some { 0 < plies }
 {
-    let mut children = ArrayVec::<Child, 64>::new();
-    add_children(position, moves, &mut children);
-    sort_children(&mut children);
-    foresee_noted(table, position, &children, plies - 1)
+    match table.foreseen(&child.position, GUESS + u16::from(plies)) {
+        Foreseen::Worth(noted) => i32::from(noted) - GREATEST_WORTH,
+        Foreseen::Begun if !is_left => BELOW_ALL_WORTHS,
+        _ => foresee_move(table, child, plies, low, high),
+    }
 }
 
-// What a position is worth after some plies, by the work of all threads that guess its value.
-fn foresee_root<T: Bounds>(table: &T, position: Pos, plies: u8) -> i32
-    requires { 0 < plies }
+// What a move is worth, which is noted for other threads: from -`GREATEST_WORTH` to
+// `GREATEST_WORTH`.
+#[cycle(foresee_together)]
+fn foresee_move<T: Bounds>(table: &T, child: Child, plies: u8, low: i32, high: i32) -> i32
+    requires replies { child.replies ≡ moves_of child.position }
+    requires some { 0 < plies }
 {
-    let moves = position.moves();
-    if moves != 0 && position.empties() >= FEWEST_GUESSED_TOGETHER {
-        return foresee_together(table, position, moves, plies);
-    }
-    foresee(
+    let respect = GUESS + u16::from(plies);
+    table.note_foreseen(&child.position, respect, Foreseen::Begun);
+    let worth = foresee_together(
         table,
-        position,
-        moves,
-        plies,
-        -GREATEST_WORTH,
-        GREATEST_WORTH,
+        child.position,
+        child.replies,
+        plies - 1,
+        high.wrapping_neg(),
+        low.wrapping_neg(),
     )
+    .wrapping_neg()
+    .clamp(-GREATEST_WORTH, GREATEST_WORTH);
+    let noted = Foreseen::Worth((worth + GREATEST_WORTH) as u16);
+    table.note_foreseen(&child.position, respect, noted);
+    worth
 }
 
 // A guess of a position's value.
@@ -290,7 +316,15 @@ pub(crate) fn first_guess<T: Bounds>(table: &T, position: Pos) -> i8
         return 0;
     }
     let plies = (empties - LEFT_BY_GUESS).min(MOST_PLIES_OF_GUESS);
-    let worth = foresee_root(table, position, plies);
+    let moves = position.moves();
+    let worth = foresee_together(
+        table,
+        position,
+        moves,
+        plies,
+        -GREATEST_WORTH,
+        GREATEST_WORTH,
+    );
     let guess = guess_by(worth.unsigned_abs());
     if worth < 0 { -guess } else { guess }
 }

@@ -5,7 +5,7 @@ ghost use Rattle.othello_rules.specs.declared.scoring.Scoring.TheVariants.{Winne
 
 use super::super::worked::{Discs, pos_of, task_of};
 use bound_table::{BoundTable, Bounds, Foreseen, Range};
-use endgame_search::{Task, solve};
+use endgame_search::{Task, exact_value, solve};
 use othello_bits::Pos;
 use othello_rules::{Scoring, Side};
 use std::alloc::Global;
@@ -15,12 +15,16 @@ use std::test::Fail;
 // X---X--- -X-XX--- --XXXO-- ---XXOXX XXXXXOX- XXXXXOXX XXXXXXX- XXXXXXXX: 20 empty squares
 const TWENTY_EMPTY_SQUARES: Discs = (0xff7f_df5f_d81c_1a11, 0x2020_2020_0000);
 
-// Says of each position what others have noted, or else what the table has noted, and counts what is
-// noted, and the evaluations.
+// -------O X--XO-OX OXX-OOX- OOXXOXO- OOXXOXXX OOOOOXOO OOO-XXOO -XOXX-XO: 16 empty squares
+const SIXTEEN_EMPTY_SQUARES: Discs = (0x5a30_20ec_2c46_8900, 0x84c7_df13_5331_5080);
+
+// Says of each position what others have noted under numbers that are no less than `first`, or else what
+// the table has noted, and counts what is noted, and the evaluations.
 #[derive(Drop)]
 struct Notes {
     table: BoundTable,
     by_others: Option<Foreseen>,
+    first: u16,
     noted: Cell<u32>,
     evaluations: Cell<u32>,
 }
@@ -42,8 +46,8 @@ impl Bounds for Notes {
 
     fn foreseen(&self, position: &Pos, respect: u16) -> Foreseen {
         match self.by_others {
-            Some(foreseen) => foreseen,
-            None => self.table.foreseen(position, respect),
+            Some(foreseen) if respect >= self.first => foreseen,
+            _ => self.table.foreseen(position, respect),
         }
     }
 
@@ -64,6 +68,7 @@ fn count(alloc: Global, task: Task, by_others: Option<Foreseen>) -> Result<(u32,
     let notes = Notes {
         table: BoundTable::new(alloc, 65_536, Scoring::Winner)?,
         by_others,
+        first: 0,
         noted: Cell::new(0),
         evaluations: Cell::new(0),
     };
@@ -84,5 +89,41 @@ fn what_threads_foresee_is_found_once(rt: HostRuntime) -> Result<(), Fail> {
     assert!(rt; begun == plain);
     assert!(rt; found < plain);
     assert!(rt; own <= plain && noted > 0);
+    Ok(())
+}
+
+// The number under which threads note what the root's moves are worth for a guess by 6 plies. Moves below
+// have lower numbers.
+const GUESS_AT_ROOT: u16 = 1_006;
+
+// How many evaluations a guess of the value takes, which is in the table, so that nothing is searched.
+fn count_of_guess(notes: &Notes, position: Pos) -> u32 {
+    notes.evaluations.set(0);
+    let _ = exact_value(notes, position);
+    notes.evaluations.get()
+}
+
+// A guess takes what is noted of the root's moves and, where nothing is, of moves below. What others have
+// begun is looked at once.
+#[test]
+fn what_threads_guess_is_found_at_each_ply(rt: HostRuntime) -> Result<(), Fail> {
+    let position = pos_of(&rt, SIXTEEN_EMPTY_SQUARES, Side::Black);
+    let mut notes = Notes {
+        table: BoundTable::new(rt.alloc(), 65_536, Scoring::Winner)?,
+        by_others: None,
+        first: 0,
+        noted: Cell::new(0),
+        evaluations: Cell::new(0),
+    };
+    let _ = exact_value(&notes, position);
+    let known = count_of_guess(&notes, position);
+    notes.by_others = Some(Foreseen::Unkept);
+    let alone = count_of_guess(&notes, position);
+    notes.by_others = Some(Foreseen::Begun);
+    let begun = count_of_guess(&notes, position);
+    notes.by_others = Some(Foreseen::Unknown);
+    notes.first = GUESS_AT_ROOT;
+    let known_below = count_of_guess(&notes, position);
+    assert!(rt; known < alone && known_below < alone && begun == alone && alone > 0);
     Ok(())
 }
