@@ -7,22 +7,19 @@ import operator
 import random
 
 NOT_A, NOT_H, FULL = 0xFEFEFEFEFEFEFEFE, 0x7F7F7F7F7F7F7F7F, (1 << 64) - 1
-# For each direction, the shift to the left, or if negative to the right, and the squares that it can reach.
-STEPS = ((1, NOT_A), (-1, NOT_H), (8, FULL), (-8, FULL), (9, NOT_A), (-9, NOT_H), (7, NOT_H), (-7, NOT_A))
+# For each direction, the shifts to the left and to the right, one of them 0, and the squares that it can reach.
+STEPS = ((1, 0, NOT_A), (0, 1, NOT_H), (8, 0, FULL), (0, 8, FULL),
+         (9, 0, NOT_A), (0, 9, NOT_H), (7, 0, NOT_H), (0, 7, NOT_A))
 START = (1 << 28 | 1 << 35, 1 << 27 | 1 << 36)
-
-
-def shifted(mask, step, reached):
-    return (mask << step if step > 0 else mask >> -step) & reached
 
 
 def runs(squares, opp):
     """Yields two masks for each direction: runs of `opp` that begin beside `squares`, and the squares after them."""
-    for step, reached in STEPS:
+    for left, right, reached in STEPS:
         run, last = 0, squares
-        while last := shifted(last, step, reached) & opp:
+        while last := (last << left >> right) & reached & opp:
             run |= last
-        yield run, shifted(run, step, reached) & ~opp
+        yield run, (run << left >> right) & reached & ~opp
 
 
 def moves(own, opp):

@@ -23,23 +23,19 @@ const COMMENT: &str = "
 ";
 const SHRINK: f64 = 8.0; // a weight is fitted as if it were 0 in this number of further positions
 
-/// A sequence of numbers (xorshift64*).
-struct Numbers(u64);
-
-impl Numbers {
-    fn below(&mut self, end: u32) -> u32 {
-        self.0 ^= self.0 << 13;
-        self.0 ^= self.0 >> 7;
-        self.0 ^= self.0 << 17;
-        (self.0.wrapping_mul(0x2545_f491_4f6c_dd1d) >> 33) as u32 % end
-    }
+/// A number below `end`, the next one of the sequence that `seed` begins (xorshift64*).
+fn below(end: u32, seed: &mut u64) -> u32 {
+    *seed ^= *seed << 13;
+    *seed ^= *seed >> 7;
+    *seed ^= *seed << 17;
+    (seed.wrapping_mul(0x2545_f491_4f6c_dd1d) >> 33) as u32 % end
 }
 
 /// Plays a game until 10 to 13 squares are empty and the side to move has a move. The first 6 to 30 moves and the last
 /// ones are random; the others leave the opponent about the least mobility. None if the game ends before.
-fn position(numbers: &mut Numbers) -> Option<Pos> {
-    let empties = 10 + numbers.below(4);
-    let (first, last, noise) = (30 + numbers.below(25), empties + numbers.below(5), 16 * (1 + numbers.below(40)));
+fn position(seed: &mut u64) -> Option<Pos> {
+    let empties = 10 + below(4, seed);
+    let (first, last, noise) = (30 + below(25, seed), empties + below(5, seed), 16 * (1 + below(40, seed)));
     let mut p = Pos { own: 0x0000_0008_1000_0000, opp: 0x0000_0010_0800_0000 };
     while p.empties() > empties || p.moves() == 0 {
         if p.moves() == 0 {
@@ -47,8 +43,8 @@ fn position(numbers: &mut Numbers) -> Option<Pos> {
         }
         let is_random = p.empties() > first || p.empties() <= last;
         let key = |&(child, square): &(Pos, u32)| match is_random {
-            true => numbers.below(1 << 16),
-            false => order(child.moves(), square) + numbers.below(noise),
+            true => below(1 << 16, seed),
+            false => order(child.moves(), square) + below(noise, seed),
         };
         p = children(p).into_iter().min_by_key(key)?.0;
     }
@@ -57,13 +53,13 @@ fn position(numbers: &mut Numbers) -> Option<Pos> {
 
 /// The states of `number` positions, and by how much their values exceed the rest of the evaluation.
 fn rows(lot: u64, number: u32) -> Vec<([usize; 8], f64)> {
-    let mut numbers = Numbers(0x9e37_79b9_7f4a_7c15_u64.wrapping_mul(2 * lot + 1));
+    let mut seed = 0x9e37_79b9_7f4a_7c15_u64.wrapping_mul(2 * lot + 1);
     let table = Table::new(65_536, Scoring::Winner);
     let row = |p: Pos| {
         let value = search_window(&table, p, 0, -65, 65);
         (states(p), f64::from(8 * value - simple_worth(p, p.moves())))
     };
-    repeat_with(|| position(&mut numbers)).flatten().take(number as usize).map(row).collect()
+    repeat_with(|| position(&mut seed)).flatten().take(number as usize).map(row).collect()
 }
 
 /// The weights that make the sums of a row's states come nearest to its worth.
@@ -84,8 +80,8 @@ fn fitted(rows: &[([usize; 8], f64)]) -> [f64; STATES] {
 #[test]
 fn planted_weights_are_found_and_a_state_that_never_occurs_has_none() {
     let planted = |state: usize| if state < 99 { f64::from(state as u8 * 2) - 99.0 } else { 0.0 };
-    let mut numbers = Numbers(1);
-    let rows: Vec<_> = (0..20_000).map(|_| [0; 8].map(|_| numbers.below(99) as usize)).collect();
+    let mut seed = 1;
+    let rows: Vec<_> = (0..20_000).map(|_| [0; 8].map(|_| below(99, &mut seed) as usize)).collect();
     let rows: Vec<_> = rows.into_iter().map(|at| (at, at.map(planted).iter().sum())).collect();
     let weights = fitted(&rows);
     assert!((0..STATES).all(|state| (weights[state] - planted(state)).abs() < 1.0), "{:?}", &weights[..100]);

@@ -42,12 +42,9 @@ def test_the_least_times_count_and_a_ratio_is_proved_by_plain(monkeypatch, capsy
             seconds = of_ffosolve if os.path.getsize(words[-1]) else (0.2,)
         return SimpleNamespace(pid=next(taken.setdefault(tuple(words), itertools.cycle(seconds))), args=words)
 
-    def wait(pid, options):
-        return pid, 0, SimpleNamespace(ru_utime=pid / 4, ru_stime=pid * 3 / 4)
-
     monkeypatch.setattr("subprocess.Popen", begin)
     monkeypatch.setattr("subprocess.run", lambda *words, **how: None)
-    monkeypatch.setattr("os.wait4", wait)
+    monkeypatch.setattr("os.wait4", lambda pid, _: (pid, 0, SimpleNamespace(ru_utime=pid / 4, ru_stime=pid * 3 / 4)))
     monkeypatch.setattr("sys.argv", ["bench/run", *words.split()])
     monkeypatch.setattr("sys.dont_write_bytecode", True)
     monkeypatch.syspath_prepend(ROOT / "bench")

@@ -221,9 +221,8 @@ def archives(source, *kinds):
     """Builds archives of the package for Python in the folder `source`, one of each of `kinds`, such as "sdist", by
     the build backend. Returns the archives' paths."""
     pytest.importorskip("hatchling")
-    hooks = "import sys, hatchling.build as made\n"
-    hooks += "for kind in sys.argv[2:]: print(getattr(made, f'build_{kind}')(sys.argv[1]))"
-    names = PREFIX.make(sys.executable, "-Bc", hooks, PREFIX.work, *kinds, cwd=source).stdout.split()
+    hooks = [f"import sys, hatchling.build as made; print(made.build_{kind}(sys.argv[1]))" for kind in kinds]
+    names = [PREFIX.make(sys.executable, "-Bc", hook, PREFIX.work, cwd=source).stdout.strip() for hook in hooks]
     return [PREFIX.work / name for name in names]
 
 
@@ -253,14 +252,12 @@ def test_the_wheel_and_the_source_archive_are_fit_to_be_published():
 
 @pytest.mark.parametrize("features", [(), ("--features", "shared")])
 def test_the_crates_own_tests_pass_with_either_library(features):
-    ran = PREFIX.cargo("test", "--no-run", *features)
+    ran = PREFIX.cargo("test", *features)
     assert "warning" not in ran.stderr
-    program = re.search(r"Executable tests/calls.rs \((.*)\)", ran.stderr)[1]
+    program = re.search(r"Running tests/calls.rs \((.*)\)", ran.stderr)[1]
     needed = PREFIX.make("readelf", "-d", PREFIX.work / program).stdout
     assert ("[libffosolve.so.1]" in needed) == bool(features), needed
-    ran = PREFIX.cargo("test", *features)
-    passed = re.findall(r"^test result: ok. (\d+) passed", ran.stdout, re.MULTILINE)
-    assert len(passed) > 2, ran.stdout
+    assert ran.stdout.count("\ntest result: ok. ") > 2, ran.stdout
 
 
 def test_clippy_and_rustfmt_have_nothing_to_say():
@@ -282,9 +279,8 @@ def test_the_compiler_that_the_manifest_names_takes_all_of_a_copy_of_the_crate_a
     folders = [folder for folder in os.get_exec_path() if os.path.exists(f"{folder}/rustc")
                and run(f"{folder}/rustc", "--version", text=True).stdout.startswith(f"rustc {oldest}.")]
     folder = folders[0] if folders else pytest.skip(f"rustc {oldest} is missing")
-    places = {"RUSTC": f"{folder}/rustc", "CARGO_TARGET_DIR": str(PREFIX.work / "oldest/target")}
-    words = "check", "--quiet", "--all-targets"
-    PREFIX.make(f"{folder}/cargo", *words, cwd=crate, env={**PREFIX.environment, **places})
+    env = {**PREFIX.environment, "RUSTC": f"{folder}/rustc", "CARGO_TARGET_DIR": str(PREFIX.work / "oldest/target")}
+    PREFIX.make(f"{folder}/cargo", "check", "--quiet", "--all-targets", cwd=crate, env=env)
 
 
 def test_the_library_gets_the_scoring_the_table_and_the_claim_that_were_asked_for():
@@ -320,8 +316,6 @@ def test_rust_reads_transcripts_as_the_table_says_and_others_as_python():
 
 def test_a_folder_without_the_library_is_refused_and_pkg_config_asked_only_if_none_is_named():
     PREFIX.cargo("check", "--quiet", env={**PREFIX.environment, "FFOSOLVE_LIB_DIR": ""})
-    nowhere = {**PREFIX.environment, "FFOSOLVE_LIB_DIR": "/nowhere"}
-    ran = PREFIX.run("cargo", "check", cwd=PREFIX.work / "rust", env=nowhere)
-    assert ran.returncode != 0
+    ran = PREFIX.cargo("check", check=False, env={**PREFIX.environment, "FFOSOLVE_LIB_DIR": "/nowhere"})
     why = "/nowhere/libffosolve.a is missing: install ffosolve, or set FFOSOLVE_LIB_DIR to its folder"
-    assert why in ran.stderr
+    assert ran.returncode != 0 and why in ran.stderr, ran

@@ -12,7 +12,7 @@ from unittest import mock
 import pytest
 
 from bench import player
-from tests.games import NAMES, PROGRAM, book_of, discs_of_black, games, positions_of, random_games, record, wthor
+from tests.games import NAMES, PROGRAM, book_of, discs_of_black, games, positions_of, random_games, reads, record, wthor
 from tests.many import files as everything
 from tests.prefix import blocks_of
 from tests.support import NOBODY, ROOT, SECONDS, built, ends, limited, run, stored, unshared, wait_until, write
@@ -97,8 +97,7 @@ def test_a_game_that_is_over_before_its_position_has_the_score_of_its_end(alone)
     assert (ran.returncode, ran.stdout) == (1, out + counts(4, 4)), ran.stderr
     assert Path("new.wtb").read_bytes() == wthor(right, empties=30)
     assert alone("check", "new.wtb").stdout == counts(4, 0)
-    write("it.wtb", wthor(right + EXACT_RECORDS, empties=EMPTIES))
-    games(*COMPARE, out=counts(4 + COUNT, 0))
+    reads("it.wtb", wthor(right + EXACT_RECORDS, empties=EMPTIES), "compare", "book", out=counts(4 + COUNT, 0))
     games("new.wtb", err="".join(f"new.wtb, game {at}, move {moves}: it ends here, with {60 - moves} empty squares; "
                                  "30 are asked for\n" for at, moves in enumerate((9, 10, 20, 26), 1)))
 
@@ -192,35 +191,33 @@ def names(size, *texts):
 
 
 def test_year_players_and_tournament_are_reported():
-    """In the records of wrong scores, the tournament has the number 7, Black 300, and White 301, all counted from 0.
-    Where there are several files of names, one of them has to have the name WTHOR."""
+    """In the records of wrong scores, the tournament has the number 7, Black 300, and White 301, all counted from 0."""
     whole = wthor([it if at in (2, 5) else bytes(6) + it[6:] for at, it in enumerate(RECORDS)], empties=EMPTIES)
     players, tournaments = [*["?"] * 300, "Ann Smith", "Andr\u00e9 \x01\u00a0B."], [*["?"] * 7, "Rome"]
     both_players, rome = ("Ann Smith", "Andr\u00e9 B."), "Rome"
     several = "names are left out, since the folder {} has OTHER.JOU and wthor 2.jou: name the right one WTHOR.JOU"
-    for name, content, year, sides, tournament in (
-        ("it.wtb", whole, 2001, None, None),
-        ("folder.jou/it", b"", 2001, None, None),
-        ("OTHER.JOU", names(20, *players), 2001, both_players, None),
-        ("WTHOR.TRN", names(26, *tournaments), 2001, both_players, rome),
-        ("it.wtb", whole[:10] + b"\0\0" + whole[12:], None, both_players, rome),
-        ("OTHER.JOU", names(20, *players[:-1]), None, None, rome),
-        ("OTHER.JOU", names(20, *players[:-1], ""), None, None, rome),
-        ("WTHOR.TRN", names(26, *tournaments)[:-30], None, None, None),
-        ("WTHOR.TRN", b"", None, None, None),
-        ("wthor 2.jou", b"", None, None, several),
-        ("Wthor.Jou", names(20, *players), None, both_players, None),
+    for name, content, year, sides, tournament, err in (
+        ("it.wtb", whole, 2001, None, None, ""),
+        ("folder.jou/it", b"", 2001, None, None, ""),
+        ("OTHER.JOU", names(20, *players), 2001, both_players, None, ""),
+        ("WTHOR.TRN", names(26, *tournaments), 2001, both_players, rome, ""),
+        ("it.wtb", whole[:10] + b"\0\0" + whole[12:], None, both_players, rome, ""),
+        ("OTHER.JOU", names(20, *players[:-1]), None, None, rome, ""),
+        ("OTHER.JOU", names(20, *players[:-1], ""), None, None, rome, ""),
+        ("WTHOR.TRN", names(26, *tournaments)[:-30], None, None, None, ""),
+        ("WTHOR.TRN", b"", None, None, None, ""),
+        ("wthor 2.jou", b"", None, None, None, several),
+        ("Wthor.Jou", names(20, *players), None, both_players, None, ""),
     ):
         write(f"in/{name}", content)
-        err, place = (tournament, None) if tournament == several else ("", tournament)
-        about = ", ".join(filter(None, (year and str(year), sides and " - ".join(sides), place)))
+        about = ", ".join(filter(None, (year and str(year), sides and " - ".join(sides), tournament)))
         title = f" ({about})" if about else ""
         games("compare", "book", "in/it.wtb", status=1, out=both(name="in/it.wtb", title=title) + counts(),
               err=err.format("in"))
         games("compare", "../book", "it.wtb", status=1, out=both(title=title) + counts(), cwd="in", err=err.format("."))
         with pytest.warns(ReadingWarning, match=several.format("in")) if err else contextlib.nullcontext():
             game = [*read_games("in/it.wtb")][2]
-        assert (game.year, game.players, game.tournament) == (year, sides, place)
+        assert (game.year, game.players, game.tournament) == (year, sides, tournament)
 
 
 def test_the_scores_that_are_wrong_are_changed_and_no_other_byte():
@@ -236,7 +233,7 @@ def test_the_scores_that_are_wrong_are_changed_and_no_other_byte():
 
 
 def test_a_file_that_has_changed_since_its_games_were_read_is_not_copied():
-    games = [(game, {7: 33}) for game in read_games("it.wtb")]
+    games = [(game, 33, None) for game in read_games("it.wtb")]
     with open("it.wtb", "rb") as file:
         assert len(b"".join(corrected(file, 0, games))) == len(WHOLE)
         file.seek(0)
@@ -315,11 +312,10 @@ def test_a_file_system_without_hard_links_gets_the_file(monkeypatch):
 def test_one_of_several_runs_writes_the_file(start):
     before = everything()
     runs = [start(sys.executable, PROGRAM, *COMPARE, "--fix", "new.wtb") for _ in range(6)]
-    found = sorted((it.communicate(timeout=SECONDS)[1].decode(), it.returncode) for it in runs)
-    said = "ffosolve-games: "
-    written, lost = f"{said}{CHANGED}\n", [EXISTS.format("new.wtb"), "cannot write new.wtb: File exists"]
-    assert found.count((written, 1)) == 1 and len(found) == 6
-    assert set(found) - {(written, 1)} <= {(f"{said}{why}\n", 3) for why in lost}
+    found = [(it.communicate(timeout=SECONDS)[1].decode(), it.returncode) for it in runs]
+    written, lost = (f"ffosolve-games: {CHANGED}\n", 1), [EXISTS.format("new.wtb"), "cannot write new.wtb: File exists"]
+    assert found.count(written) == 1 and len(found) == 6
+    assert set(found) <= {written, *((f"ffosolve-games: {why}\n", 3) for why in lost)}
     assert everything() == {**before, Path("new.wtb"): (RIGHT, REGULAR)}
 
 
@@ -368,8 +364,7 @@ def test_check_solves_compares_and_fixes():
     assert Path("new/other.wtb").read_bytes() == wthor([record(PLAYED[1], exact)], empties=6)
     for name, count in (("it.wtb", COUNT), ("other.wtb", 1)):  # each position once
         assert Path(f"{name}.check/list").read_bytes().count(b"\n") == count
-    write("it.wtb", RIGHT)
-    games(*CHECK, "--max-empties=4", "--folder=other", status=1, out=counts(0, 0, COUNT))
+    reads("it.wtb", RIGHT, "check", "--quiet", "--max-empties=4", "--folder=other", status=1, out=counts(0, 0, COUNT))
     assert not os.path.exists("other")
 
 
@@ -413,34 +408,32 @@ def test_another_number_of_empty_squares_goes_on_in_the_same_folder():
 
 @pytest.fixture
 def slow_check():
-    """The words of a command that checks 90 games, one after the other, and what it prints."""
+    """The words of a command that checks 90 games, one after the other."""
     played = [game for game in random_games(110, seed=8) if EMPTIES in positions_of(game)][:90]
     exact = [discs_of_black(positions_of(game)[EMPTIES]) for game in played]
     write("it.wtb", wthor(list(map(record, played, exact)), empties=EMPTIES))
-    return (sys.executable, PROGRAM, *CHECK, "--lines=1", "--jobs=1"), counts(90, 0)
+    return sys.executable, PROGRAM, *CHECK, "--lines=1", "--jobs=1"
 
 
 @pytest.mark.parametrize("number, of_all", ((signal.SIGINT, True), (signal.SIGTERM, False), (signal.SIGKILL, False)))
 def test_an_interrupted_check_goes_on(start, slow_check, number, of_all):
-    words, printed = slow_check
-    child = start(*words, start_new_session=True)
+    child = start(*slow_check, start_new_session=True)
     wait_until(results)
     (os.killpg if of_all else os.kill)(child.pid, number)
     child.communicate(timeout=SECONDS)
     assert child.returncode == -number
     assert 0 < len(results()) < 90
-    games(*words[2:], out=printed)
+    games(*slow_check[2:], out=counts(90, 0))
     assert len(results()) == 90
 
 
 def test_a_second_check_in_one_folder_is_refused(start, slow_check):
-    words, printed = slow_check
-    first = start(*words, start_new_session=True)
+    first = start(*slow_check, start_new_session=True)
     wait_until(results)
     os.killpg(first.pid, signal.SIGSTOP)
-    ends((3, "", f"ffosolve-many: another run works in it.wtb.check\n{FAILED}\n"), *words)
+    ends((3, "", f"ffosolve-many: another run works in it.wtb.check\n{FAILED}\n"), *slow_check)
     os.killpg(first.pid, signal.SIGCONT)
-    assert first.communicate(timeout=SECONDS)[0].decode() == printed
+    assert first.communicate(timeout=SECONDS)[0].decode() == counts(90, 0)
 
 
 def test_check_can_be_cut_for_another_scheduler():
@@ -479,9 +472,8 @@ def test_scores_are_not_taken_from_a_folder_that_others_own_or_may_write():
     refused("--fix=new.wtb",
             why="other users may write it.wtb.check: name another folder, or type chmod go-w it.wtb.check")
     os.chmod("it.wtb.check", 0o755)
-    unshare, *words = unshared()
     mount = 'mount --bind . . && mount -o remount,bind,ro . && cd "$PWD" && ! echo >new && exec "$@"'
-    ran = run(unshare, *words, "sh", "-c", mount, "sh", sys.executable, PROGRAM, *CHECK, text=True)
+    ran = run(*unshared(), "sh", "-c", mount, "sh", sys.executable, PROGRAM, *CHECK, text=True)
     assert (ran.returncode, ran.stdout) == (1, both() + counts()), ran.stderr  # on a disk that may only be read
     if NOBODY:
         os.chown("it.wtb.check", NOBODY["user"], -1)

@@ -14,8 +14,7 @@ from bench import player
 from tests.games import (NAMES, PROGRAM, SQUARE_BYTES, discs_of_black, games, line_of, masks_after, positions_of,
                          random_games, reads, real_score, record, squares_of, transcript, transcript_rows, wthor)
 from tests.support import MOST_BYTES, cannot_write, ends, limited, run, write
-import ffosolve
-from ffosolve import Solver
+from ffosolve import Game, GameRefused, Solver, __version__, read_games
 
 RANDOM = random_games(1000, seed=53)
 KNOWN = list(map(positions_of, RANDOM))
@@ -107,9 +106,9 @@ def test_a_wrong_transcript_is_reported_and_the_others_are_printed():
 
 @pytest.mark.parametrize("text, move, why", REFUSED)
 def test_a_wrong_transcript_is_refused_with_the_move_and_the_reason(text, move, why):
-    for number, game in ((1, text), (7, ffosolve.Game.of_text(text, 7))):
+    for number, game in ((1, text), (7, Game.of_text(text, 7))):
         where = f"^game {number}{', move ' * bool(move)}{move or ''}: "
-        with pytest.raises(ffosolve.GameRefused, match=f"{where}{re.escape(why)}$") as refused:
+        with pytest.raises(GameRefused, match=f"{where}{re.escape(why)}$") as refused:
             Solver().positions(game)
         for it in (refused.value, pickle.loads(pickle.dumps(refused.value))):
             assert (it.game, it.move, it.reason, isinstance(it, ValueError)) == (number, move, why, True)
@@ -158,8 +157,7 @@ def test_wrong_scores_of_records_are_reported_and_the_line_is_printed(
     # A pipe is not opened again for the year: its writer has ended.
     os.mkfifo("pipe")
     start("sh", "-c", "exec cat it.wtb >pipe")
-    out, err = (text.replace("it.wtb", "pipe") for text in (out, err))
-    games(f"--empties={empties}", "pipe", out=out, err=err)
+    games(f"--empties={empties}", "pipe", out=out.replace("it.wtb", "pipe"), err=err.replace("it.wtb", "pipe"))
 
 
 @pytest.mark.parametrize("content, why", (
@@ -246,7 +244,7 @@ def test_transcripts_are_read_in_each_form_and_games_in_ggf():
         for text in texts:
             text += rng.choice(("", " 33-31", " (40:24)", ", 1-0", " 1/2-1/2", " +2", " -12", " [+4]", " 0", " *",
                                 "\r\n", "  % f5"))
-            assert ffosolve.Game.of_text(text).squares == [name.upper() for name in names], text
+            assert Game.of_text(text).squares == [name.upper() for name in names], text
             has_positions(text, game)
         for text in (ggf(game), f" 1 {ggf(game, '')}\r\n", ggf(game, with_passes=False)):
             has_positions(text, game)
@@ -254,12 +252,12 @@ def test_transcripts_are_read_in_each_form_and_games_in_ggf():
 
 @pytest.mark.parametrize("moves, word, text", transcript_rows())
 def test_transcripts_are_read_as_the_table_says(moves, word, text):
-    game = ffosolve.Game.of_text(text)
+    game = Game.of_text(text)
     assert game.squares[:len(moves)] == moves
     if not word:
         assert (len(game.squares), Solver().positions(game)[-1]) == (len(moves), masks_after(moves))
         return
-    with pytest.raises(ffosolve.GameRefused) as refused:
+    with pytest.raises(GameRefused) as refused:
         Solver().positions(game)
     named = "a pass" if word in ("--", "pass", "ps", "pa") else word.upper() if word.upper() in NAMES else repr(word)
     assert (refused.value.move, refused.value.reason.split(" is not ")[0]) == (len(moves) + 1, named)
@@ -278,13 +276,13 @@ def test_texts_and_wthor_files_are_read_by_path_and_from_files_of_each_kind(fold
     with open(name, "rb") as file, open(number, "rb", buffering=0) as raw, gzip.open("packed") as packed:
         inside = io.BytesIO(content)
         for source in (name, folder / name, file, raw, packed, inside):
-            found = list(ffosolve.read_games(source))
+            found = list(read_games(source))
             assert [(it.number, it.score, it.real, it.empties) for it in found] == wanted
             for it, game in zip(found, PLAYED):
                 has_positions(it, game)
         assert (inside.read(), file.closed, raw.closed) == (b"", False, False)
     write("it.wtb", wthor([record(PLAYED[0])], empties=0))
-    assert [it.empties for it in ffosolve.read_games("it.wtb")] == [None]
+    assert [it.empties for it in read_games("it.wtb")] == [None]
 
 
 def test_the_example_of_read_games_finds_wrong_theoretical_scores(capsys):
@@ -294,8 +292,8 @@ def test_the_example_of_read_games_finds_wrong_theoretical_scores(capsys):
     found.append([NAMES.index(square) for square in "E6 F4 E3 F6 G5 D6 E7 F5 C5".split()])
     published = [it ^ (at in (3, 11, 20)) for at, it in enumerate(exact)]
     write("WTH_2001.wtb", wthor(list(map(record, found, published)), empties=6))
-    code = "if True:\n" + inspect.getdoc(ffosolve.read_games).split(":\n\n")[1]
-    exec(code, {"Solver": Solver, "read_games": ffosolve.read_games})
+    code = "if True:\n" + inspect.getdoc(read_games).split(":\n\n")[1]
+    exec(code, {"Solver": Solver, "read_games": read_games})
     assert capsys.readouterr().out == f"4 {published[3]}\n12 {published[11]}\n21 65\n"
 
 
@@ -303,10 +301,10 @@ def test_the_example_of_read_games_finds_wrong_theoretical_scores(capsys):
 def test_a_game_is_refused_after_those_before_it(count, why):
     write("it.wtb", wthor([record(PLAYED[0])], count=count))
     wrong = []
-    assert len(list(ffosolve.read_games("it.wtb", refused=wrong.append))) == min(count, 1)
+    assert len(list(read_games("it.wtb", refused=wrong.append))) == min(count, 1)
     assert [(it.game, it.move) for it in wrong] == [(count or 1, None)]
-    with pytest.raises(ffosolve.GameRefused, match=f"^game {count or 1}: {why}"):
-        list(ffosolve.read_games("it.wtb"))
+    with pytest.raises(GameRefused, match=f"^game {count or 1}: {why}"):
+        list(read_games("it.wtb"))
 
 
 @pytest.mark.parametrize("source, error, why", (
@@ -319,7 +317,7 @@ def test_a_game_is_refused_after_those_before_it(count, why):
 def test_a_wrong_file_is_refused_at_once(source, error, why):
     write("it.wtb", wthor([record(PLAYED[0])], board=10))
     with pytest.raises(error, match=f"^{why}" if why else None):
-        list(ffosolve.read_games(source))
+        list(read_games(source))
 
 
 def test_the_list_has_names_of_files_as_they_are_and_a_hyphen_or_no_file_means_standard_input():
@@ -376,10 +374,10 @@ def test_a_game_on_several_lines_is_told_to_be_one(content):
     err = "cannot read it: a game is on several lines, as in a PGN or SGF file, but a text has one game in each line"
     reads("it", content, "--empties=58", status=3, err=err)
     with pytest.raises(ValueError, match=f"^{err}$"):
-        list(ffosolve.read_games("it"))
+        list(read_games("it"))
     for text in ('[Event "a"]\n[Black "b"]\n\nf5d6\n33-31\n', "(;GM[Othello]B[f5]W[d6];)\n" * 2):
         write("it", text)
-        assert {game.squares == ["F5", "D6"] for game in ffosolve.read_games("it")} == {True}
+        assert {game.squares == ["F5", "D6"] for game in read_games("it")} == {True}
 
 
 @pytest.mark.parametrize("words, before, out", (
@@ -420,7 +418,7 @@ def test_wrong_words_are_refused(words, why):
 
 
 def test_help_has_all_uses_in_80_columns(monkeypatch):
-    games("--version", out=f"ffosolve-games {ffosolve.__version__}\n")
+    games("--version", out=f"ffosolve-games {__version__}\n")
     monkeypatch.setenv("COLUMNS", "80")
     printed = run(PROGRAM, "--help", check=True, text=True).stdout
     for task in ("compare", "check"):

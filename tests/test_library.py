@@ -1,6 +1,5 @@
 """The library for C and C++: its files, header and calls, and the statuses in C, C++, Python and Rust. Python, C and
 ffosolve read lines with random faults alike; Python and C read tests/rows/ffosolve/lines.tsv, too."""
-import functools
 import itertools
 import random
 import re
@@ -99,9 +98,8 @@ def test_the_shared_object_has_its_names_and_needs_only_the_c_library():
 
 
 def test_swig_wraps_the_header():
-    include = '%include "stdint.i"\n%include "ffosolve.h"\n'
-    write(PREFIX.work / "wrap.i", '%module wrap\n%{\n#include "ffosolve.h"\n%}\n' + include)
-    PREFIX.make("swig", "-Wall", "-Werror", "-python", f"-I{PREFIX.header.parent}", "wrap.i")
+    write(PREFIX.work / "wrap.i", '%{\n#include "ffosolve.h"\n%}\n%include "stdint.i"\n%include "ffosolve.h"\n')
+    PREFIX.make("swig", "-Wall", "-Werror", "-python", "-module", "wrap", f"-I{PREFIX.header.parent}", "wrap.i")
     made = (PREFIX.work / "wrap.py").read_text()
     for name in [f"def {name}(" for name in PREFIX.calls] + ["class ffosolve_position(", "class ffosolve_answer("]:
         assert name in made
@@ -332,20 +330,19 @@ def test_python_and_c_read_worked_and_odd_lines_alike(call, text):
 def test_the_report_of_odd_lines_is_what_python_finds(text):
     ran = run(built(), "--max-empties=20", input=text, check=True, timeout=LONGEST)
     report = ran.stdout.decode().splitlines()[1:-1]
-    found = read(text, functools.partial(reported, ffosolve.Solver(str(PREFIX.shared))))
-    assert report == [f"{number} {words}" for number, words in sorted(found.items())]
+    assert report == [f"{number} {words}" for number, words in sorted(read(text, reported).items())]
     kinds = {re.sub(r"\d+", "N", row.partition(" ")[2]) if "refused" in row else row.split()[-1] for row in report}
     refused = ("N empties, limit N", "board has N of N squares", "bad square at column N", "bad side at column N")
     assert kinds >= {"agree", "differ", "unlisted", *(f"refused: {why}" for why in refused)}
 
 
-def reported(solver, it):
+def reported(it):
     """Returns what ffosolve --max-empties=20 prints after the line's number."""
     if isinstance(it, ffosolve.LineRefused):
         return f"refused: {it.reason}"
     if it.empties > 20:
         return f"refused: {it.empties} empties, limit 20"
-    answer = solver.solve(it)
+    answer = ffosolve.Solver(PREFIX.shared).solve(it)
     most = max((score for _, score in it.listed), default=None)
     best = {move for move, score in it.listed if score == most}
     agrees = most == answer.score and best <= set(str(answer).split()[1].split(","))

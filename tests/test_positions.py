@@ -12,8 +12,7 @@ from bench import player
 
 from .support import ROOT, run
 from .games import NAMES, positions_of, random_games, squares_of, transcript
-import ffosolve
-from ffosolve import Position, Scoring, Solver
+from ffosolve import Answer, Kind, Position, ReadingWarning, Scoring, Solver, parse_lines
 
 # In the first position White has no move; in the second neither side has one, and 16 squares are empty.
 AT_PASS = "-OOOOOOXXXXXXXXXXXXXXXXXXXXXXXXXXXXXXXXXXXXXXXXXXXXXXXXXXXXXXXXX O;"
@@ -92,7 +91,7 @@ def test_an_answer_reads_as_its_row_of_a_report_and_its_board_names_a_pass_and_a
         assert (str(answer), str(board)) == (text, str(position.show(scores)).replace("is to move", state))
         for it in (board, *[position, position.show({}), position.show(side="X")] * position.is_over):
             assert it._repr_svg_().count(f">{mover} {state}</text>") == 1
-    two = ffosolve.Answer(0, ffosolve.Kind.MOVES, 0x81)
+    two = Answer(0, Kind.MOVES, 0x81)
     assert (str(two), f"{two}", f"{two:>10}") == ("+00 A1,H1", "+00 A1,H1", " +00 A1,H1")
     assert repr(two) == "Answer(score=0, kind=<Kind.MOVES: 0>, best=129)"
 
@@ -127,11 +126,10 @@ def test_a_picture_has_discs_scores_and_marks_in_their_squares():
         assert [at(x + 22, y + 22) for x, y in corners] == [colours[letter] for letter in BOARD[:64]]
         assert ({at(x + 4, y + 4) for x, y in corners}, at(32, 391)) == ({green}, mover)
     at = picture(position.show(SCORES)._repr_svg_())
-    for place, (x, y) in enumerate(corners):
-        name = ffosolve.square_name(place)
+    for name, letter, (x, y) in zip(NAMES, BOARD, corners):
         assert at(x + 4, y + 4) == (yellow if name in ("A1", "A2") else green), name
         colours = {at(x + right, y + down) for right in range(8, 36) for down in range(14, 30)}
-        if BOARD[place] == "-":
+        if letter == "-":
             assert (len(colours) > 3) == (name in ("A1", "A2", "B1", "H1", "H8")), name
 
 
@@ -141,11 +139,11 @@ def test_a_picture_has_discs_scores_and_marks_in_their_squares():
 def test_a_side_that_goes_on_with_letters_is_read_with_a_warning(side, mover):
     """The first letter counts. The words black and white, a move after the side, other words and comments get none."""
     lines = [f"{'-' * 64} {it}" for it in ("X", side, "XA1:+02;", "Ops:-2", "X to move", "X% blanc", "black", "White;")]
-    with pytest.warns(ffosolve.ReadingWarning) as warned:
-        sides = [position.side for position in ffosolve.parse_lines("\n".join(lines))]
+    with pytest.warns(ReadingWarning) as warned:
+        sides = [position.side for position in parse_lines("\n".join(lines))]
     assert sides == ["X", mover, "X", "O", "X", "X", "X", "O"]
     word, colour = re.match("\\W*\\w+", side)[0], {"X": "Black", "O": "White"}[mover]
     message = f"the side {word} is read as {colour}: only its first letter counts"
     assert [str(it.message) for it in warned] == [f"line 2: {message}"]
-    with pytest.warns(ffosolve.ReadingWarning, match=f"^{re.escape(message)}$"):
-        assert ffosolve.Position.from_obf(lines[1]).side == mover
+    with pytest.warns(ReadingWarning, match=f"^{re.escape(message)}$"):
+        assert Position.from_obf(lines[1]).side == mover

@@ -106,8 +106,7 @@ def test_a_reader_that_leaves_ends_the_program_within_positions_that_take_hours(
     program = begin(start, EASY[0] + positions(100, 14, 15) + HOURS * 9, workers)
     assert program.stdout.readline() == EASY[0]
     program.stdout.close()
-    error = program.stderr.read()
-    assert (program.wait(SECONDS), error) == (3, b"ffoscores: cannot write standard output\n")
+    assert (program.wait(SECONDS), program.stderr.read()) == (3, b"ffoscores: cannot write standard output\n")
 
 
 def test_an_interrupt_from_the_terminal_leaves_no_process(folder, start):

@@ -1,8 +1,7 @@
 """Positions for tests, and the calls of a Solver by their names."""
 import pytest
 
-import ffosolve
-from ffosolve import Answer, Kind, Position
+from ffosolve import Answer, Kind, Position, masks_of
 
 CORNERS = "-OXXXXX-XXXXXXXOXXXXXXXXXXXXXXXXXXXOXXXXXXXXXXXXXXXXXXXXXXXXXXXX X; H1:+62; ps:-4;"
 PASS = "-OOOOOOXXXXXXXXXXXXXXXXXXXXXXXXXXXXXXXXXXXXXXXXXXXXXXXXXXXXXXXXX O;"  # White has no move
@@ -25,5 +24,5 @@ def find(name, threads, solver, positions, **how):
         return call(positions[-1], *more, **how, **({"threads": threads} if name in SEARCHES else {}))
     if name.endswith("arrays"):
         pytest.importorskip("numpy")
-        return list(call(*ffosolve.masks_of(positions), threads=threads, **how))
+        return list(call(*masks_of(positions), threads=threads, **how))
     return list(call(positions, threads=threads, **how))

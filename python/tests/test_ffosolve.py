@@ -1,7 +1,5 @@
-"""Tests of the package ffosolve, installed or on PYTHONPATH, with the library that `Solver()` loads:
-
-    python3 -m pytest python/tests
-"""
+"""Tests of the package ffosolve, installed or on PYTHONPATH, with the library that `Solver()` loads. They are run by
+`python3 -m pytest python/tests`."""
 import copy
 import doctest
 import gc
@@ -195,10 +193,9 @@ def test_the_library_gets_the_scoring_the_size_of_the_table_and_the_claim(settin
     given = [call.args[1:4] for call in library.method_calls]
     assert given == [(1, scoring, settings.get("entries", 0)), (2, scoring, entries)] * len(LISTS)
     solver.confirm(Position(0xFF0, 0xF), Answer(-3, Kind.OVER, 4))
-    position, *of_one, claim, _ = library.ffosolve_confirm.call_args.args
-    assert of_one == [scoring, entries]
-    given = position.own, position.opp, claim.score, claim.kind, claim.best
-    assert given == (0xFF0, 0xF, -3, Kind.OVER, 4)
+    position, *given, claim, _ = library.ffosolve_confirm.call_args.args
+    assert given == [scoring, entries]
+    assert (position.own, position.opp, claim.score, claim.kind, claim.best) == (0xFF0, 0xF, -3, Kind.OVER, 4)
 
 
 @pytest.mark.parametrize("call", [
@@ -261,9 +258,8 @@ SHOWN = "scores are an Answer, or a mapping from squares' names such as move_sco
     (TypeError, "a game is a Game or the text of a transcript, not 5", lambda: Solver().positions(5)),
     *((NoMove, f"square {square} is not a legal move for Black in {FIRST}", partial(START.play, square))
       for square in (64, -1, 255, 256, 256 + 19)),
-    *((NoMove, f"a pass is not a legal move for Black in {FIRST}", partial(START.play, word)) for word in PASSES),
-    *((NoMove, f"a pass is not a legal move: the game is over in {FULL.to_obf()}", partial(FULL.play, word))
-      for word in PASSES),
+    *((NoMove, f"a pass is not a legal move{why}", partial(it.play, word)) for word in PASSES for it, why in (
+        (START, f" for Black in {FIRST}"), (FULL, f": the game is over in {FULL.to_obf()}"))),
     *((ValueError, f"no square has the name {it!r}", partial(call, it))
       for call in (START.play, START.is_legal, START.piece_at, square_number) for it in ("I9", "", "I1", "A9", "A11")),
     *((ValueError, f"no square has the number {number}", partial(call, number))
@@ -430,8 +426,6 @@ class Mine(Position):
 
 
 class Slotted(Position):
-    """Another, with a slot."""
-
     __slots__ = ("note",)
 
 
@@ -515,8 +509,7 @@ def test_positions_with_equal_masks_are_equal_and_keep_their_colours():
 
 
 def test_a_pickle_of_version_1_1_is_read():
-    read = pickle.loads(b"\x80\2cffosolve._positions\nPosition\nK\1K\2\x86\x81.")
-    assert all_of(read) == all_of(Position(1, 2))
+    assert all_of(pickle.loads(b"\x80\2cffosolve._positions\nPosition\nK\1K\2\x86\x81.")) == all_of(Position(1, 2))
 
 
 def test_new_positions_are_of_the_same_class():
@@ -531,15 +524,13 @@ def test_new_positions_are_of_the_same_class():
 
 def test_the_last_move_is_known_of_a_position_that_a_move_made():
     after = START.play("f5")
-    assert (START.last_move, after.last_move, after.passed().last_move, after.play(43).last_move) == (
-        None, "F5", "PS", "D6")
+    assert [it.last_move for it in (START, after, after.passed(), after.play(43))] == [None, "F5", "PS", "D6"]
     assert [it.last_move for it in Solver().positions("f5d6c3")] == [None, "F5", "D6", "C3"]
 
 
 def test_a_position_tells_its_discs():
     """After f5, Black has D5, E4, E5 and F5, and White D4."""
-    after = START.play("F5")
-    for position in (after, after.passed(), after.passed().passed()):
+    for position in (START.play("F5"), AFTER, AFTER.passed(), AFTER.passed().passed()):
         assert position.discs == (4, 1) == (position.discs.black, position.discs.white)
         assert [position.piece_at(it) for it in ("D5", "e4", 36, "F5", "D4", "A1", 63)] == [*"XXXXO", None, None]
 
@@ -582,11 +573,10 @@ def test_squares_have_names_and_numbers_and_a_symmetry_moves_them_as_its_help_sa
         found = [it.square(square) for it in Symmetry]
         assert found == [square_name(8 * to_row + to_column) for to_column, to_row in wanted]
         assert [it.inverse.square(to) for it, to in zip(Symmetry, found)] == [square] * 8
-    after = START.play("F5")  # has no symmetry
-    for symmetry in Symmetry:
-        assert {symmetry.square(move) for move in after.legal_moves} == set(after.image(symmetry).legal_moves)
+    for symmetry in Symmetry:  # AFTER has no symmetry
+        assert {symmetry.square(move) for move in AFTER.legal_moves} == set(AFTER.image(symmetry).legal_moves)
         assert [symmetry.square(move) for move in ("PS", "ps", "--")] == ["PS", "PS", "--"]
-        assert (symmetry.mask(after.own), symmetry.mask(after.opp)) == tuple(after.image(symmetry))
+        assert (symmetry.mask(AFTER.own), symmetry.mask(AFTER.opp)) == tuple(AFTER.image(symmetry))
         assert (symmetry.mask(0), symmetry.mask(2 ** 64 - 1)) == (0, 2 ** 64 - 1)
 
 

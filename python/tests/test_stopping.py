@@ -99,10 +99,6 @@ class Left(Exception):
     """What the handler of a signal raises."""
 
 
-def leave(*_):
-    raise Left
-
-
 def timer(seconds, call, *given):
     """Makes a call from another thread after so many seconds, unless the `with` block ends before."""
     later, stack = threading.Timer(seconds, call, given), contextlib.ExitStack()
@@ -112,6 +108,9 @@ def timer(seconds, call, *given):
 
 
 def by_signal(call):
+    def leave(*_):
+        raise Left
+
     before = signal.signal(signal.SIGALRM, leave)
     with pytest.raises(Left):
         signal.setitimer(signal.ITIMER_REAL, 0.3)
@@ -196,9 +195,8 @@ def test_to_thread_does_what_that_of_asyncio_does(solver):
         assert await ffosolve.to_thread(known.get) == "kept"
         with pytest.raises(ffosolve.SharedSquare):
             await ffosolve.to_thread(solver.solve, Position(3, 2))
-        calls = [ffosolve.to_thread(solver.solve, position, timeout=LATE) for position in (EASY, HARD, EASY)]
         first = asyncio.create_task(ffosolve.to_thread(solver.solve, HOPELESS))
-        answers = asyncio.gather(*calls)
+        answers = asyncio.gather(*(ffosolve.to_thread(solver.solve, it, timeout=LATE) for it in (EASY, HARD, EASY)))
         await cancelled(first)
         assert await answers == solver.solve_all([EASY, HARD, EASY])
 
@@ -262,12 +260,10 @@ def test_a_call_for_one_position_without_a_table_stops(leave):
 
 @each_call
 def test_a_wrong_timeout_is_refused(name, threads, solver):
-    for timeout, error, why in (
-        (-1, ValueError, "timeout is at least 0, not -1"), (float("nan"), ValueError, "timeout is at least 0, not nan"),
-        ("1", TypeError, "timeout is a number of seconds, not '1'"),
-    ):
-        with pytest.raises(error, match=f"^{why}$"):
-            find(name, threads, solver, [EASY], timeout=timeout)
+    for it, error, why in ((-1, ValueError, "at least 0, not -1"), (float("nan"), ValueError, "at least 0, not nan"),
+                           ("1", TypeError, "a number of seconds, not '1'")):
+        with pytest.raises(error, match=f"^timeout is {why}$"):
+            find(name, threads, solver, [EASY], timeout=it)
 
 
 @counts_starts

@@ -5,27 +5,8 @@
 //!     cargo run --example answers <../examples/masks.txt
 //!
 //! If the library is not installed, FFOSOLVE_LIB_DIR names its folder.
-use ffosolve::{Answer, Best, Position, Solver};
+use ffosolve::{Best, Position, Solver};
 use std::{error::Error, io};
-
-fn text(answer: Answer) -> String {
-    match answer.best {
-        Best::Moves(squares) => format!("{:+03} {squares}", answer.score),
-        Best::Pass => format!("{:+03} PS", answer.score),
-        Best::Over => format!("{:+03} --", answer.score),
-    }
-}
-
-fn read_positions() -> Result<Vec<Position>, Box<dyn Error>> {
-    let mut positions = Vec::new();
-    for (at, line) in io::stdin().lines().enumerate() {
-        let line = line?;
-        let (own, opp) = line.split_once(' ').ok_or("two masks a line")?;
-        let position = Position::new(u64::from_str_radix(own, 16)?, u64::from_str_radix(opp, 16)?);
-        positions.push(position.map_err(|error| format!("position {}: {error}", at + 1))?);
-    }
-    Ok(positions)
-}
 
 /// Plays on to the end, and prints each move with all the legal ones.
 fn play_on(mut position: Position) -> Result<(), Box<dyn Error>> {
@@ -42,10 +23,21 @@ fn play_on(mut position: Position) -> Result<(), Box<dyn Error>> {
 }
 
 fn main() -> Result<(), Box<dyn Error>> {
-    let positions = read_positions()?;
+    let mut positions = Vec::new();
+    for (at, line) in io::stdin().lines().enumerate() {
+        let line = line?;
+        let (own, opp) = line.split_once(' ').ok_or("two masks a line")?;
+        let position = Position::new(u64::from_str_radix(own, 16)?, u64::from_str_radix(opp, 16)?);
+        positions.push(position.map_err(|error| format!("position {}: {error}", at + 1))?);
+    }
     let answers = Solver::new().solve_all(&positions)?;
     for (position, answer) in positions.iter().zip(answers) {
-        println!("{}", text(answer));
+        let best = match answer.best {
+            Best::Moves(squares) => squares.to_string(),
+            Best::Pass => "PS".to_owned(),
+            Best::Over => "--".to_owned(),
+        };
+        println!("{:+03} {best}", answer.score);
         assert_eq!(Solver::new().confirm(*position, answer), Ok(answer));
     }
     positions.first().map_or(Ok(()), |first| play_on(*first))

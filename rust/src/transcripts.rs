@@ -18,9 +18,6 @@ impl fmt::Display for TranscriptError {
 
 impl std::error::Error for TranscriptError {}
 
-/// What follows a move's number.
-const POINTS: [char; 3] = ['.', ')', ':'];
-
 fn is_blank(letter: char) -> bool {
     letter.is_whitespace() || ('\u{1c}'..='\u{1f}').contains(&letter)
 }
@@ -55,6 +52,7 @@ fn is_result(word: &str) -> bool {
 fn token(text: &str, is_apart: bool) -> (usize, bool) {
     let length_before = |rest: &str| text.len() - rest.len();
     let is_column = |letter: char| ('a'..='h').contains(&letter);
+    let is_point = |letter: char| ".):".contains(letter); // after a move's number
     let row = text.strip_prefix(is_column).map_or("", |rest| rest.trim_start_matches(is_blank));
     let hyphens = length_before(text.trim_start_matches('-'));
     let digits = text.bytes().take(5).take_while(u8::is_ascii_digit).count();
@@ -69,8 +67,8 @@ fn token(text: &str, is_apart: bool) -> (usize, bool) {
         (hyphens, hyphens > 1)
     } else if text.starts_with(is_separator) {
         (length_before(text.trim_start_matches(is_separator)), false)
-    } else if is_number && point.starts_with(POINTS) {
-        (length_before(point.trim_start_matches(POINTS)), false)
+    } else if is_number && point.starts_with(is_point) {
+        (length_before(point.trim_start_matches(is_point)), false)
     } else if is_number && is_apart && after.chars().next().map_or(true, |next| is_separator(next) || is_column(next)) {
         (digits, false)
     } else {

@@ -29,8 +29,7 @@ def masks_of(positions: Iterable[Position]) -> Tuple[Any, Any]:
 def positions_from(own: Any, opp: Any, side: str = "X") -> List[Position]:
     """Returns the positions in arrays such as `masks_of` returns; `side` is to move in each. Raises TypeError and
     ValueError for other arrays, and ValueError for another side than "X" and "O"."""
-    rows: List[Tuple[int, int]] = rows_of(own, opp).tolist()
-    return [Position(*masks, side) for masks in rows]
+    return [Position(mine, theirs, side) for mine, theirs in rows_of(own, opp).tolist()]
 
 
 def rows_of(own: Any, opp: Any) -> Any:

@@ -21,7 +21,6 @@ Name = Union[str, int, "os.PathLike[str]"]  # of a file, or a descriptor
 DONE, REMARKED, MISUSED, UNREADABLE, MISSING = range(5)
 DEFAULT_EMPTIES = 20  # of --max-empties
 MOST_LINES = 10_000  # in a part of ffosolve-many
-SIGNALS = (signal.SIGINT, signal.SIGTERM, signal.SIGHUP)
 name = "ffosolve"  # of the program, which `run` sets
 _unfinished: Set[str] = set()  # the files that `write_whole` is writing, by their temporary names
 
@@ -219,8 +218,8 @@ def end_by(number: int) -> NoReturn:
 
 def run(program: str, main: Callable[[], int], interrupted: str = "") -> NoReturn:
     """Runs `main` as the program with this name. Ends this process, without waiting for threads, with the status that
-    `main` returns or a Refusal has; by SIGPIPE if standard output is no longer read; or by one of SIGNALS, after the
-    message `interrupted`, if any. An exception of a handler might get lost, so the handler itself ends the process."""
+    `main` returns or a Refusal has; by SIGPIPE if standard output is no longer read; or by SIGINT, SIGTERM or SIGHUP,
+    after the message `interrupted`, if any. A handler ends the process itself, since its exception might get lost."""
     global name
     name = program
     handled = threading.Lock()
@@ -231,7 +230,7 @@ def run(program: str, main: Callable[[], int], interrupted: str = "") -> NoRetur
                 say(interrupted)
             end_by(number)
 
-    for number in SIGNALS:
+    for number in (signal.SIGINT, signal.SIGTERM, signal.SIGHUP):
         if signal.getsignal(number) != signal.SIG_IGN:
             signal.signal(number, handle)
     while os.open(os.devnull, os.O_RDWR) < 3:

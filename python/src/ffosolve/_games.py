@@ -4,8 +4,7 @@ import io
 import os
 import struct
 import warnings
-from typing import (Any, BinaryIO, Callable, Iterable, Iterator, List, Mapping, NamedTuple, Optional, Sequence, Tuple,
-                    Union)
+from typing import Any, BinaryIO, Callable, Iterator, List, NamedTuple, Optional, Sequence, Tuple, Union
 
 from ._positions import NO_SQUARE, START, Position, played
 from ._refusals import NoMove
@@ -20,7 +19,6 @@ EMPTIES_BYTE = 14  # in the header: the number of empty squares
 RECORD, REAL, SCORE, FIRST_MOVE = 68, 6, 7, 8  # the length of a game's record in bytes, and offsets in it
 NUMBERS = struct.Struct("<HHH")  # how a record begins: the numbers, from 0, of the tournament, of Black and of White
 PLAYER, TOURNAMENT = 20, 26  # bytes of a name, with the NUL after it, in a file of players or tournaments
-MOST_DISCS = 64
 SQUARE_NUMBERS = range(64)
 # The number of the square that each byte stands for in a WTHOR file: ten times the row plus the column, both from 1.
 SQUARES = bytes(WORDS.get(f"{chr(96 + byte % 10)}{byte // 10}", NO_SQUARE) for byte in range(256))
@@ -137,8 +135,9 @@ def read_games(source: "Union[str, os.PathLike[str], io.BufferedIOBase, io.RawIO
 
 
 def games_in(file: Any, name: str) -> Tuple[Iterator[Game], Optional[int]]:
-    """Returns (games of a file, number of empty squares in its header). The number is 0 if a WTHOR file gives none, and
-    None for a text. Raises NotText; if the file is taken for a text, only while the games are iterated over."""
+    """Returns (games of a file, number of empty squares at their theoretical scores). The number is 0 if the header of
+    a WTHOR file gives none, and None for a text. Raises NotText, with `name` in it, for other files, also for a WTHOR
+    file without games on 8 by 8 squares; if the file is taken for a text, only while the games are iterated over."""
     refuse_archive(file.peek(4), name)
     if not name.lower().endswith(".wtb") and file.peek(1)[:1].strip(TEXT) == b"":
         if SPREAD.search(file.peek(1)):
@@ -147,13 +146,6 @@ def games_in(file: Any, name: str) -> Tuple[Iterator[Game], Optional[int]]:
         lines = enumerate(text_lines(file, name), 1)
         games = (Game.of_text(line.decode("utf-8", "replace"), number) for number, line in lines)
         return (game for game in games if game.moves or game.fault), None
-    count, year, empties = read_header(file, name)
-    return records(file, count, year, empties), empties
-
-
-def read_header(file: BinaryIO, name: str) -> Tuple[int, int, int]:
-    """Reads a WTHOR file's header: the number of games, their year, and the number of empty squares at the theoretical
-    scores, the last two 0 if not known. Raises NotText, with `name` in it, unless they are games on 8 by 8 squares."""
     head = file.read(HEADER.size)
     count, other, year, board, kind, empties = HEADER.unpack(head.ljust(HEADER.size, b"\0"))
     for is_wrong, why in (
@@ -167,7 +159,7 @@ def read_header(file: BinaryIO, name: str) -> Tuple[int, int, int]:
     ):
         if is_wrong:
             raise NotText(f"{name} is not a WTHOR file of games: {why}")
-    return count, year, empties
+    return records(file, count, year, empties), empties
 
 
 def records(file: Any, count: int, year: int, empties: int) -> Iterator[Game]:
@@ -248,20 +240,20 @@ def position_with(empties: int, game: Game, found: List[Position]) -> Position:
     raise GameRefused(why, game.number, len(found) - 1)
 
 
-def corrected(file: BinaryIO, empties: int, right: Iterable[Tuple[Game, Mapping[int, Optional[int]]]]
+def corrected(file: BinaryIO, empties: int, right: Sequence[Tuple[Game, Optional[int], Optional[int]]]
               ) -> Iterator[bytes]:
-    """Yields the pieces of a copy of a WTHOR file. `right` has its games, each with {offset in its record: right score,
-    or None if that is not known}. A header without a number of empty squares gets `empties`. No other byte changes.
-    Raises NotText if the file has other games."""
+    """Yields the pieces of a copy of a WTHOR file. `right` has its games, each with the theoretical and the real score
+    to write, or None for one that stays. A header without a number of empty squares gets `empties`. No other byte
+    changes. Raises NotText if the file has other games."""
     header = bytearray(file.read(HEADER.size))
     header[EMPTIES_BYTE] = header[EMPTIES_BYTE] or empties
     yield header
-    for game, scores in right:
+    for game, exact, real in right:
         record = bytearray(file.read(RECORD))
         if record[FIRST_MOVE:].rstrip(b"\0") != game.words:
             raise NotText(f"{shown(file.name)} has changed since its games were read")
-        for offset, score in scores.items():
-            record[offset] = record[offset] if score is None else score
+        record[SCORE] = record[SCORE] if exact is None else exact
+        record[REAL] = record[REAL] if real is None else real
         yield record
     yield from iter(lambda: file.read(1 << 16), b"")
 

@@ -11,8 +11,7 @@ from typing import Any, Callable, Dict, Iterable, Iterator, List, NamedTuple, No
 
 from ._command_line import DONE, MISSING, MISUSED, MOST_LINES, REMARKED, UNREADABLE
 from ._command_line import Parser, Refusal, file_of, number, print_all, refusing, run, say, write_whole
-from ._games import (MOST_DISCS, REAL, SCORE, Game, GameRefused, corrected, discs_of_black, games_in, position_with,
-                     positions_of)
+from ._games import Game, GameRefused, corrected, discs_of_black, games_in, position_with, positions_of
 from ._library import MOST_EMPTIES, LibraryNotFound, load
 from ._positions import Position
 from ._text import BOOK_HEADER, ENTRY, NotText, ReadingWarning, shown, text_lines
@@ -76,9 +75,6 @@ status:
      positions are not solved
   4  the library or ffosolve-many can't be found
 """
-MANY = (  # options of ffosolve-many that check passes on: (name, value if it has one)
-    ("--jobs", "N"), ("--scheduler", "ADDRESS"), ("--cut", None), ("--prune", None), ("--quiet", None),
-    ("--workers", "N"), ("--table", "N"), ("--book-in", "FILE"))
 
 
 class Messages:
@@ -113,7 +109,8 @@ def parser_of() -> Parser:
     group.add_argument("--max-empties", metavar="N", type=number(0, MOST_EMPTIES),
                        help="solve only positions with at most N empty squares")
     group.add_argument("--lines", metavar="N", type=number(1, MOST_LINES), help="[default: 10]")
-    for name, value in MANY:
+    for name, value in (("--jobs", "N"), ("--scheduler", "ADDRESS"), ("--cut", None), ("--prune", None),
+                        ("--quiet", None), ("--workers", "N"), ("--table", "N"), ("--book-in", "FILE")):
         how: Dict[str, Any] = {"action": "append_const", "const": name}
         if value:
             how = {"action": "append", "metavar": value, "type": f"{name}={{}}".format}
@@ -236,11 +233,11 @@ def found_in(name: str, options: argparse.Namespace, messages: Messages) -> Iter
 
 
 def wrong_scores(game: Game, discs: Optional[int]) -> Iterator[str]:
-    """Yields a message for each score above MOST_DISCS, and if the game's real score, which the file gives for its end,
+    """Yields a message for each score above 64 discs, and if the game's real score, which the file gives for its end,
     is not `discs` or can't be checked. `discs` is how many Black has then, or None if the moves stop before that."""
     for kind, score in (("theoretical", game.score), ("real", game.real)):
-        if score is not None and score > MOST_DISCS:
-            yield f"its {kind} score is {score}, more than {MOST_DISCS} discs"
+        if score is not None and score > 64:
+            yield f"its {kind} score is {score}, more than 64 discs"
         elif kind == "real" and score is not None and discs is None:
             yield f"its moves stop before the end of the game, so its real score {score} is not checked"
         elif kind == "real" and score not in (None, discs):
@@ -375,7 +372,7 @@ def fix(copies: Dict[str, str], found: List[Found], options: argparse.Namespace)
     with contextlib.ExitStack() as stack:
         pieces = {}
         for path, name in copies.items():
-            right = [(it.game, {SCORE: it.exact, REAL: it.real if options.real else None}) for it in games[path]]
+            right = [(it.game, it.exact, it.real if options.real else None) for it in games[path]]
             pieces[path] = corrected(stack.enter_context(file_of(name)), options.empties or 0, right)
         try:
             write_whole(pieces)

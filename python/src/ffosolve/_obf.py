@@ -5,7 +5,7 @@ import reprlib
 import warnings
 from typing import Any, BinaryIO, Iterable, Iterator, Optional, Tuple, Union
 
-from ._refusals import BadSide, BadSquare, LineRefused, NoPosition, ShortBoard
+from ._refusals import BadSide, BadSquare, NoPosition, ShortBoard
 from ._squares import NAMES
 from ._text import ReadingWarning
 
@@ -26,7 +26,12 @@ def parsed(text: Union[str, bytes], number: Optional[int]) -> Tuple[int, int, st
     found: Any = OBF_LINE.match(without_end(text))
     _, letters, _, side, rest = found.groups()
     if len(letters) < 64 or not side:
-        raise fault_of(found, number)
+        content = found.string[found.end(1):]
+        if not content or content.startswith(b"%"):
+            raise NoPosition(0, number)
+        if len(letters) == 64:
+            raise BadSide(found.end(3) + 1, number)
+        raise ShortBoard(len(letters), number) if letters == content else BadSquare(found.end(2) + 1, number)
     if rest and rest[0] > 64 and (word := SIDE.match(found.string)):
         warnings.warn(f"{'' if number is None else f'line {number}: '}{side_as_read(word[1])}", ReadingWarning)
     squares = letters[::-1]
@@ -39,16 +44,6 @@ def side_as_read(word: bytes) -> str:
     """A message on the side in a match of the pattern SIDE."""
     side = word.decode()
     return f"the side {side} is read as {'White' if side[0] in 'OoWw' else 'Black'}: only its first letter counts"
-
-
-def fault_of(found: "re.Match[bytes]", number: Optional[int]) -> LineRefused:
-    """The refusal of a line: NoPosition, or the one for its first fault. `found` is the match of OBF_LINE."""
-    content, squares = found.string[found.end(1):], len(found[2])
-    if not content or content.startswith(b"%"):
-        return NoPosition(0, number)
-    if squares == 64:
-        return BadSide(found.end(3) + 1, number)
-    return ShortBoard(squares, number) if squares == len(content) else BadSquare(found.end(2) + 1, number)
 
 
 def bytes_of(text: Union[str, bytes]) -> bytes:

@@ -108,14 +108,23 @@ class Process:
             with contextlib.suppress(BrokenPipeError), self.errors, self.process:
                 pass
 
-    def find(self, lines: str, call: "SolverCall") -> List[str]:
-        """Returns the rows for a list. Raises what `output` raises, NoMemory, or ChildProcessError if it was ended."""
+    def find(self, lines: str, call: "SolverCall", found: Any) -> None:
+        """Writes what the program prints for a list to the records of `found`, except for the `moves` of a CMoveScores.
+        Raises what `output` raises, NoMemory, or ChildProcessError if the program was ended."""
         status, printed, errors = self.output(lines, call)
         if errors.endswith("out of memory"):
             raise NoMemory()
         if status or printed.count(b"\n") - 2 * printed.startswith(b"[1]") != lines.count("\n"):
             raise ended(status, errors)
-        return printed.decode().splitlines()
+        rows = printed.decode().splitlines()
+        for it, row in zip(found, rows if isinstance(found[0], CMoveScores) else rows[1:]):
+            if isinstance(it, CMoveScores):
+                scores = dict(parsed(row, None)[3])
+                it.scores[:] = [scores.get(name, NO_SCORE) for name in NAMES]
+            else:
+                _, score, moves, _ = row.split()
+                it.score, it.kind = int(score), {"PS": Kind.PASS, "--": Kind.OVER}.get(moves, Kind.MOVES)
+                it.best = sum(1 << NAMES.index(move) for move in moves.split(",") if it.kind == Kind.MOVES)
 
 
 def forget() -> None:
@@ -128,18 +137,6 @@ def forget() -> None:
 
 
 os.register_at_fork(before=STARTS.acquire, after_in_parent=STARTS.release, after_in_child=forget)
-
-
-def read_rows(rows: List[str], found: Any) -> None:
-    """Writes what a program printed to the records of `found`, except for the `moves` of a CMoveScores."""
-    for it, row in zip(found, rows if isinstance(found[0], CMoveScores) else rows[1:]):
-        if isinstance(it, CMoveScores):
-            scores = dict(parsed(row, None)[3])
-            it.scores[:] = [scores.get(name, NO_SCORE) for name in NAMES]
-        else:
-            _, score, moves, _ = row.split()
-            it.score, it.kind = int(score), {"PS": Kind.PASS, "--": Kind.OVER}.get(moves, Kind.MOVES)
-            it.best = sum(1 << NAMES.index(move) for move in moves.split(",") if it.kind == Kind.MOVES)
 
 
 class SolverCall:
@@ -188,7 +185,7 @@ class SolverCall:
                         raise
                     self.check()
                 else:
-                    read_rows(process.find(lines, self), found)
+                    process.find(lines, self, found)
                     return Status.DONE
         return search(self.library, name, scoring, entries, positions, found)
 

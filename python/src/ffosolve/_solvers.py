@@ -101,8 +101,7 @@ class Solver:
             move = answer.squares[0] if answer.best else ENDS[answer.kind]
             line.append((move, answer.score))
             position = self.play(position, move)
-            claim = answer._replace(score=-answer.score)
-            answer = self._answers(call, self._batch(position), CAnswer(*claim))[0]
+            answer = self._answers(call, self._batch(position), CAnswer(-answer.score))[0]
         return line
 
     def move_scores(self, position: Position, *, threads: int = 1, timeout: Seconds = None) -> Dict[str, int]:
@@ -215,7 +214,4 @@ class Solver:
 
 
 def as_position(position: P) -> P:
-    if isinstance(position, Position):
-        return position
-    own, opp, _ = masks_and_empties(position)
-    return Position(own, opp)
+    return position if isinstance(position, Position) else Position(*masks_and_empties(position)[:2])

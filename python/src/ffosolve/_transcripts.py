@@ -12,7 +12,7 @@ TOKEN = re.compile(r"""
     | [\s,]+ | - | [0-9]{1,4}\s*[.):]+ | (?<![^\s,]) [0-9]{1,4} (?= [\s,a-h] | \Z )
     | ( [^\s,]{1,2} )
     """, re.VERBOSE)
-HEADERS = re.compile(r"\s*(?:\[[^\]]*\]\s*)+")  # such as [Event "Final"] [Black "Ann"]
+HEADERS = re.compile(r"\A\s*(?:\[[^\]]*\]\s*)+")  # such as [Event "Final"] [Black "Ann"]
 # What a game on several lines has: a first line in SGF, or lines with headers alone and then two with moves.
 SPREAD = re.compile(rb"\A\s*\(;.*[^)\s]\s*\n|^(?:\[[^]\n]*][ \t\r]*)+\n\s*[^[%\s].*\n[^[%\n]*[a-h][1-8]", re.I | re.M)
 GGF = re.compile(r"\s*(?:\d+\s*)?\(;")
@@ -27,8 +27,7 @@ def transcript_words(text: str) -> List[str]:
     move with a mark, and as `ggf_words`."""
     if GGF.match(text):
         return ggf_words(text)
-    text = HEADERS.sub("", text, 1) if HEADERS.match(text) else text
-    text = text.partition("%")[0].lower().translate(DASHES)
+    text = HEADERS.sub("", text).partition("%")[0].lower().translate(DASHES)
     if marked := MARKED.search(text):
         raise ValueError(f"{marked[0]} has a mark, but a transcript has only moves, as f5d6c3")
     words = (move or other for move, other in TOKEN.findall(text))
