@@ -343,6 +343,14 @@ def test_a_lack_of_memory_is_told_without_a_traceback(case):
         assert "Traceback" not in told and re.search("^ffosolve-many: .*memory.*\n", told.splitlines(True)[-1])
 
 
+@pytest.mark.parametrize("name", ["ffosolve-many", "ffosolve-games"])
+def test_a_module_that_does_not_load_is_told_without_a_traceback(name):
+    code = "import runpy, sys; sys.modules['ffosolve._library'] = None; runpy.run_path(sys.argv[1])"
+    ran = run(sys.executable, "-c", code, ROOT / "bin" / name, text=True)
+    assert (ran.returncode, ran.stdout, ran.stderr.count("\n")) == (1, "", 1)
+    assert ran.stderr.startswith(f"{name}: out of memory, or not installed whole: ModuleNotFoundError")
+
+
 def test_output_onto_the_list_or_the_book_is_refused(case):
     for stream, message in ((">>list.obf", "standard output is the list list.obf"),
                             (">>joined.book", "--book-out joined.book is standard output, where the report goes"),

@@ -390,11 +390,8 @@ def test_an_ended_process_is_reported_even_if_its_status_is_lost(solver):
 def test_left_calls_end_in_time_and_keep_no_descriptors_no_dead_processes_and_no_memory(name, threads, solver):
     """Some of these calls end in time even on a busy machine."""
     assert _processes.SolverCall(None, 0.05).wait_seconds() <= 0.05
-
-    def all_kept():
-        return psutil.Process().num_fds(), len(psutil.Process().children())
-
-    before, seconds, memory = all_kept(), [], []
+    this, seconds, memory = psutil.Process(), [], []
+    before = this.num_fds()
     tracemalloc.start()
     for _ in range(40):
         begun = time.monotonic()
@@ -404,7 +401,7 @@ def test_left_calls_end_in_time_and_keep_no_descriptors_no_dead_processes_and_no
         gc.collect()
         memory.append(tracemalloc.get_traced_memory()[0])
     tracemalloc.stop()
-    wait_until(lambda: all_kept() == before, all_kept)
+    wait_until(lambda: (this.num_fds(), this.children()) == (before, []), this.num_fds, this.children)
     assert (min(seconds) < 0.19, min(memory[30:]) - min(memory[5:20]) < 18_000) == (True, True), (seconds, memory)
 
 
