@@ -39,7 +39,7 @@ crate_tests = out/$(CPU)/crate_tests_tests
 $(objects) $(levels:%=out/%/libffosolve_c.a) $(crate_tests): $$(call changed,$$@)
 	exec scripts/prove $@ $(tell)
 
-# What is linked from these. Each file is written under another name first, since another make may be running.
+# What is linked from what rt makes. Each file is first written under a name of its own: another make may be running.
 kit = $$(dirname "$$(rt doc)")
 new = $@.$$$$
 

@@ -59,7 +59,7 @@ def test_the_job_array_of_the_document_solves_all_parts_and_shows_why_some_fail(
 
 
 def test_the_job_of_the_document_waits_for_its_own_scheduler_ends_it_and_has_the_status(folder):
-    """Scripts take the places of the programs that it runs."""
+    """Scripts stand for dask, srun and ffosolve-many, which the job runs."""
     write("path/dask", '#!/bin/sh\nsleep 1; echo "$@" >"$5"; exec sleep 60 >/dev/null 2>&1\n')
     write("path/srun", "#!/bin/sh\n")
     write("bin/ffosolve-many", '#!/bin/sh\ncat "$2"; exit 3\n')

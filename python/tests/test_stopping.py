@@ -136,7 +136,7 @@ async def cancelled(task):
 
 
 async def dropped(task):
-    """asyncio.run cancels the task, as after Ctrl-C."""
+    """Leaves the task unfinished: at its end, asyncio.run cancels it, as after Ctrl-C."""
     await asyncio.sleep(0.3)
 
 

@@ -107,7 +107,7 @@ of_front room enough front text F e is =
     let both = front_gives_way room enough text in
     (λ f. both.0 (same.0 f), λ h. same.1 (both.1 h))
 
--- so does the text of a reader, where its bytes are known
+-- if F tells of every text with this front whether it gives way, then of a reader's text, too, where that is known
 pub of_known : (known : Option (List ℕ)) (front : List ℕ) (room n : ℕ) (F : Type 0) → n ≡ room → IfSome known (λ text. front ≡ take n text)
     → ((text : List ℕ) → front ≡ take room text → F ↔ GivesWay (lines_of text)) → IfSome known (λ text. F ↔ GivesWay (lines_of text))
 of_known None front room n F e h free = tt

@@ -16,7 +16,8 @@ pub record TableView : Type 0 where
   pub scoring : Scoring
   pub entries : ℕ
 
--- each slot, seen as the scoring of its range, has the scoring of the table
+-- a table's slots, of each of which only the scoring of its range is seen: all have the table's scoring, and they are no
+-- more than `most_entries`
 pub record IsTable (g : Scoring) (slots : List Scoring) : Type 0 where
   pub scored : All (λ slot. slot ≡ g) slots
   pub few : length slots ≤ most_entries

@@ -9,8 +9,8 @@ use Rattle.bound_table.specs.Range.{RangeView, IsRange}
 use Rattle.endgame_search.specs.Windows.{IsBound, IsWindow, IsFailSoft, IsNullWindowScore}
 use Rattle.endgame_search.proofs.WindowLemmas.{shown, shown_same, score_same}
 
--- the value v is no less than lower where that is above the lower end of the window, and no more than upper where that
--- is below the upper end
+-- if lower is above low, the lower end of the window, the value v is no less than lower; if upper is below high, the
+-- upper end, v is no more than upper; both are scores
 pub record IsBetween (low high v lower upper : ℤ) : Type 0 where
   pub below : low <ℤ lower → lower ≤ℤ v
   pub above : upper <ℤ high → v ≤ℤ upper

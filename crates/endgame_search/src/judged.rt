@@ -32,8 +32,8 @@ const ENOUGH: i32 = 32;
 // What more a child is worth makes no difference.
 const MOST_WORTH: i32 = 2000;
 
-// How children are judged: how many plies are foreseen, from which worth for the opponent on it makes
-// a difference, and the number under which threads note what they find.
+// How children are judged: how many plies are foreseen; up to which worth for the opponent all
+// children count alike; and the number under which threads note what they find.
 #[derive(Clone, Copy)]
 struct Look {
     plies: u8,

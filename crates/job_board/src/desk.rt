@@ -88,7 +88,8 @@ impl Desk {
     }
 
     /// Takes a job as `take_or_wait` does. Where the calling thread would wait, it gets a job to help
-    /// with, if `Board::find_taken` finds one after that of place `helped`.
+    /// with, if `Board::find_taken` finds one of a place above `helped`: that of the job with which
+    /// it helped last, or 0.
     pub fn take_or_help<R: Wait>(&self, rt: &R, helped: u64) -> Option<Errand<Job>>
         ensures { IfSome result (IsLater helped) }
     {
@@ -144,8 +145,8 @@ impl Desk {
         unreachable!()
     }
 
-    /// Returns what `turn` does. Where the calling thread would wait, it gets a job to help with, if
-    /// `Board::find_taken` finds one after that of place `helped`; the client is then as it was.
+    /// Returns what `turn` does. Where the calling thread would wait, it gets a job to help with, as
+    /// from `take_or_help`; the client is then as it was.
     pub fn turn_or_help<R: Wait>(
         &self,
         rt: &R,

@@ -103,7 +103,7 @@ Lists (piece ∷ pieces) (field ∷ fields) =
 
 -- ---- what the reader computes
 
--- the number of a byte among the bytes from first to first + last, counted from 0
+-- how far the byte b is above `first`, if that is from 0 to `last`
 abbrev pub offset_of : ℕ → ℕ → ℕ → Option ℕ
 offset_of first last b =
     if nat_le first b && nat_le b (first + last) then Some (b - first) else None

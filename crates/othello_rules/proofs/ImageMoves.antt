@@ -25,7 +25,7 @@ cond-map : (f : ℕ → ℕ) (b : Bool) (xs : List ℕ) → cond b (map f xs) []
 cond-map f true xs = refl
 cond-map f false xs = refl
 
--- the run of a renamed line of squares, and whether it is closed
+-- a renamed line of squares has the renamed run, and closes it if and only if the line closes its own
 run-map : (opp there : ℕ → Bool) (f : ℕ → ℕ) (xs : List ℕ) → ((s : ℕ) → Contains xs s → there (f s) ≡ opp s) → run there (map f xs) ≡ map f (run opp xs)
 unfolding run
 run-map opp there f [] h = refl

@@ -1,4 +1,5 @@
--- A ray, by the neighbour of its square: tests that compute, over all squares and directions.
+-- The ray from a square is its neighbour and the neighbour's ray, or empty without a neighbour: computed for all squares
+-- and directions.
 use Rattle.std.proofs.Common.{◌≡◌, ℕ, ◌<◌, Bool, true, List, [], ◌∷◌, Option, Some, None, refl, ap, ◌∙◌}
 use Rattle.std.specs.List.{Contains, list_all}
 use Rattle.std.proofs.lemmas.Bool.{agree_below_at}

@@ -29,7 +29,7 @@ pub record Renaming : Type 0 where
 abbrev pub flipped : Renaming → Renaming
 flipped r = record { to = r.back; back = r.to; there = r.here; here = r.there }
 
--- the tests that show it
+-- tests by computing, from which `Keeps` follows
 abbrev pub ray_fits : (ℕ → ℕ) → ℕ → Direction → Bool
 ray_fits to q d = list_any (λ e. same_list (ray e (to q)) (map to (ray d q))) directions
 

@@ -28,7 +28,7 @@ pub fn rays_go_step_by_step()
 
 /// The value is that of textbook minimax. If the game is over, it is the final score. If
 /// only the mover has no move, it is minus the value after a pass. Otherwise it is the greatest of
-/// minus the value after each move. The value of at most 64 cells is from -64 to 64.
+/// minus the value after each move. The value of a position of at most 64 cells is from -64 to 64.
 pub fn value_is_minimax()
     ensures over { (g : Scoring) (P : GridView) → IsOver P → value g P ≡ final g P }
     ensures passed { (g : Scoring) (P : GridView) → moves P ≡ [] → moves (pass P) ≢ []

@@ -63,8 +63,8 @@ fn is_greatest(scores: &[(ListedMove, i8)], score: i8) -> bool
     scores.iter().all(|field| field.1 <= score)
 }
 
-/// Whether a move of the position, which is a field of its scores, is a best one and not listed. A
-/// pass and the end of the game are not moves to choose from.
+/// Whether `field`, one of the position's scores, is that of a best move which is not listed. It is
+/// never that of a pass or of the end of the game, which are no moves to choose from.
 pub(crate) fn is_left_out(
     scores: &[(ListedMove, i8)],
     listed: &[(ListedMove, i8)],

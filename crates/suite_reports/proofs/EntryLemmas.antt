@@ -36,7 +36,7 @@ module _ (g : Scoring) (by : Criteria) (entry : Entry) (p : PosView) (whole : le
         | inr h ↦ absurd (many h)
       ]
 
-  -- with few empty squares it is a task, and solved
+  -- a position within the limit of empty squares is a task, and solved in its row
   pub solved_entry : (A : AnswerView) → empties_of p ≤ by.limit → A ≡ answer_of g p → Solved A (check_by by.complete entry.listed A) ≡ entry_result g by entry
   solved_entry A few a =
       let exact : A ≡ answer g entry.position = a ∙ ap (answer_of g) e ∙ answer-discs_of g entry.position whole in

@@ -1,4 +1,4 @@
--- The claim for a task.
+-- What the claims of a book say of a task.
 use Rattle.std.specs.Prelude.{◌≡◌, ◌≢◌, Option, Some, None}
 use Rattle.endgame_search.specs.Task.{TaskView}
 use Rattle.endgame_search.specs.declared.solved.Claim.{Claim}

@@ -21,8 +21,8 @@ use std::alloc::Global;
 use std::sync::Wait;
 use std::thread::Threads;
 
-// Does the work of `run_serial`. Its one clause is proved at each return, where the checker would ask
-// for all clauses of `run_serial`.
+// Does the work of `run_serial`. At each return the checker asks for these two clauses; in
+// `run_serial` it would ask for all five.
 fn run_files(
     alloc: Global,
     files: &[Vec<u8>],
@@ -68,7 +68,7 @@ pub fn run_serial(
     run_files(alloc, files, settings, claims)
 }
 
-// Does the work of `run`, with one clause, as `run_files` does that of `run_serial`.
+// Does the work of `run`, with one clause, for the same reason.
 fn run_threads<R: Threads + Wait + Sync, G: Gate>(
     rt: &R,
     alloc: Global,

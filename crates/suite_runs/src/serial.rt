@@ -39,7 +39,7 @@ fn solve_all<T: Bounds>(
     Ok(solved)
 }
 
-// The part of a text, whose positions are solved one after the other.
+// Solves a text's positions one after the other, and makes its `Part`: rows and solved positions.
 fn solve_text<T: Bounds>(
     alloc: Global,
     text: &[u8],

@@ -88,7 +88,7 @@ class Messages:
 
 
 def parser_of() -> Parser:
-    """The options of all uses."""
+    """Returns the parser of the options, also those of check and compare."""
     parser = Parser(USAGE, WHAT, MORE)
     parser.add_argument("files", metavar="FILE", nargs="*",
                         help="WTHOR files or texts; `-` is standard input [default: standard input]")

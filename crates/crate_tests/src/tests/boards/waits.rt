@@ -37,7 +37,7 @@ const EVENTS: &[Event] = &[
 // The job that threads wait for, and after which place they help: None if they don't.
 const WAYS: &[(Masks, Option<u64>)] = &[
     (UNEQUAL_CORNERS, None),
-    // A job with which no thread helps.
+    // The job has too few empty squares for threads to help.
     (UNEQUAL_CORNERS, Some(0)),
     // A job with which the threads have helped.
     (TWO_EMPTY_ROWS, Some(1)),

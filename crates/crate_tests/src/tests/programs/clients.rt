@@ -101,7 +101,8 @@ impl Gate for NotingGate<'_> {
 
 const CALLS: &[Call] = &[(1, 0, false), (1, 0, true), (1, 1, false), (1, 1, true)];
 
-// A gate is called as each of the client's own jobs begins, and after its finish was answered.
+// A gate is entered as each of the client's own jobs begins, and left after the desk has accepted
+// its answer.
 #[test]
 fn gates_are_called_for_each_job(rt: HostRuntime) -> Result<(), Fail> {
     let alloc = rt.alloc();

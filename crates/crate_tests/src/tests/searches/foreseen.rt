@@ -61,7 +61,8 @@ impl Bounds for Notes {
     }
 }
 
-// What is noted, and how many evaluations are made.
+// How often something is noted, and how many evaluations are made, if others have noted `by_others`
+// of each position.
 fn count(alloc: Global, task: Task, by_others: Option<Foreseen>) -> Result<(u32, u32), Fail>
     requires { task.scoring ≡ Winner }
 {
