@@ -192,9 +192,8 @@ const FEWEST_PLIES_TOGETHER: u8 = 2;
 // added. `judged` has lower ones.
 const GUESS: u16 = 1000;
 
-// The same as `foresee`, but at least `low`, by the work of all threads that guess the value of one
-// position. They look at the first move together, each at others that no other one has begun, and
-// then at what is left.
+// The same as `foresee`, by the work of all threads that guess the value of one position. They look
+// at the first move together, each at others that no other one has begun, and then at what is left.
 #[cycle(foresee_together)]
 fn foresee_together<T: Bounds>(
     table: &T,
@@ -216,7 +215,7 @@ fn foresee_together<T: Bounds>(
     foresee_shared_children(table, position, &children, plies, low, high)
 }
 
-// The same by the listed children.
+// The same by the listed children, but at least `low`.
 #[cycle(foresee_together)]
 fn foresee_shared_children<T: Bounds>(
     table: &T,
@@ -263,7 +262,8 @@ fn best_noted<T: Bounds>(
 }
 
 // What a move is worth, as a thread has noted it, or as this one foresees it; but where `is_left` is
-// false, and another thread has begun to look, a worth below all others.
+// false, and another thread has begun to look, a worth below all others. What is noted may be a bound
+// under another window, so a guess may depend on those before it.
 #[cycle(foresee_together)]
 fn noted_worth<T: Bounds>(
     table: &T,

@@ -250,7 +250,7 @@ def corrected(file: BinaryIO, empties: int, right: Sequence[Tuple[Game, Optional
     yield header
     for game, exact, real in right:
         record = bytearray(file.read(RECORD))
-        if record[FIRST_MOVE:].rstrip(b"\0") != game.words:
+        if len(record) < RECORD or record[FIRST_MOVE:].rstrip(b"\0") != game.words:
             raise NotText(f"{shown(file.name)} has changed since its games were read")
         record[SCORE] = record[SCORE] if exact is None else exact
         record[REAL] = record[REAL] if real is None else real

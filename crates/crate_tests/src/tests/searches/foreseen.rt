@@ -18,8 +18,8 @@ const TWENTY_EMPTY_SQUARES: Discs = (0xff7f_df5f_d81c_1a11, 0x2020_2020_0000);
 // -------O X--XO-OX OXX-OOX- OOXXOXO- OOXXOXXX OOOOOXOO OOO-XXOO -XOXX-XO: 16 empty squares
 const SIXTEEN_EMPTY_SQUARES: Discs = (0x5a30_20ec_2c46_8900, 0x84c7_df13_5331_5080);
 
-// Says of each position what others have noted under numbers that are no less than `first`, or else what
-// the table has noted, and counts what is noted, and the evaluations.
+// Says of each position what others have noted under numbers that are no less than `first`, or else
+// what the table has noted, and counts what is noted, and the evaluations.
 #[derive(Drop)]
 struct Notes {
     table: BoundTable,
@@ -93,19 +93,20 @@ fn what_threads_foresee_is_found_once(rt: HostRuntime) -> Result<(), Fail> {
     Ok(())
 }
 
-// The number under which threads note what the root's moves are worth for a guess by 6 plies. Moves below
-// have lower numbers.
+// The number under which threads note what the root's moves are worth for a guess by 6 plies. Moves
+// below have lower numbers.
 const GUESS_AT_ROOT: u16 = 1_006;
 
-// How many evaluations a guess of the value takes, which is in the table, so that nothing is searched.
+// How many evaluations a guess of the value takes, which is in the table, so that nothing is
+// searched.
 fn count_of_guess(notes: &Notes, position: Pos) -> u32 {
     notes.evaluations.set(0);
     let _ = exact_value(notes, position);
     notes.evaluations.get()
 }
 
-// A guess takes what is noted of the root's moves and, where nothing is, of moves below. What others have
-// begun is looked at once.
+// A guess takes what is noted of the root's moves and, where nothing is, of moves below. What others
+// have begun is looked at once.
 #[test]
 fn what_threads_guess_is_found_at_each_ply(rt: HostRuntime) -> Result<(), Fail> {
     let position = pos_of(&rt, SIXTEEN_EMPTY_SQUARES, Side::Black);
@@ -124,7 +125,9 @@ fn what_threads_guess_is_found_at_each_ply(rt: HostRuntime) -> Result<(), Fail> 
     let begun = count_of_guess(&notes, position);
     notes.by_others = Some(Foreseen::Unknown);
     notes.first = GUESS_AT_ROOT;
+    notes.noted.set(0);
     let known_below = count_of_guess(&notes, position);
     assert!(rt; known < alone && known_below < alone && begun == alone && alone > 0);
+    assert!(rt; notes.noted.get() > 0);
     Ok(())
 }
