@@ -31,8 +31,8 @@ fn below(end: u32, seed: &mut u64) -> u32 {
     (seed.wrapping_mul(0x2545_f491_4f6c_dd1d) >> 33) as u32 % end
 }
 
-/// Plays a game until 10 to 13 squares are empty and the side to move has a move. The first 6 to 30 moves and the last
-/// ones are random; the others leave the opponent about the least mobility. None if the game ends before.
+/// Plays a game until 10 to 13 squares are empty; None if it ends before, or if the side to move then has no move. The
+/// first 6 to 30 moves and the last ones are random; the others leave the opponent about the least mobility.
 fn position(seed: &mut u64) -> Option<Pos> {
     let empties = 10 + below(4, seed);
     let (first, last, noise) = (30 + below(25, seed), empties + below(5, seed), 16 * (1 + below(40, seed)));

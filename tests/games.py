@@ -99,7 +99,7 @@ def line_of(position, comment):
 
 
 def book_of(positions):
-    """Returns a book with the exact scores of positions, but in their order, and with `--` in place of best moves."""
+    """Returns a book with the exact scores of positions, but not sorted, and with `--` in place of best moves."""
     lines = (f"{Position(own, opp).canonical().to_obf()} --:{player.values(own, opp)[0]:+03};\n"
              for own, opp, _ in positions)
     return "% ffobook 2 winner\n" + "".join(lines)

@@ -44,8 +44,8 @@ class Calls:
         return found
 
     def made(self, name, *inputs):
-        """Makes a call with `inputs`, without the number of positions or bytes that may come first. Returns a list: the
-        status, then the values that the call wrote, each result's from its first on."""
+        """Makes a call with as many of `inputs` as it takes. They lack the length of a list or text that comes first.
+        Returns a list: the status, then the values that the call wrote, each result's from its first on."""
         call, ffi, inputs, results = getattr(self.lib, f"ffosolve_{name}"), self.ffi, [*inputs], []
         kinds = ffi.typeof(call).args
         if kinds[0].kind == "pointer":

@@ -18,8 +18,8 @@ WORDS = ("--lines=20", "work", "list.obf", "--book-out", "joined.book")  # a com
 INTERRUPTED = "ffosolve-many: interrupted; the same command goes on with what is solved\n"
 # A script that replaces the program @real@ and runs it. It appends its arguments to the file $WORDS. If its input has
 # DIE, FAIL or KILL, it kills itself, fails, or kills its parent. For a part of a list, it first sleeps $PAUSE seconds,
-# or 45 once $LAST parts are solved, and the Python function $SPOIL changes the output. $SPOIL_KNOWN changes that for
-# the line solve.KNOWN.
+# or 45 once $LAST parts are solved, and the Python function $SPOIL changes the output. $SPOIL_KNOWN changes that of all
+# other runs: for the line solve.KNOWN, for the version, or to test a book.
 ACTING = """\
 #!@python@ -IS
 import glob, os, signal, subprocess, sys, time
@@ -77,8 +77,8 @@ def install(shared_folder):
 class Case:
     """A test in a folder with a list, `list.obf`, and the book that one run of ffosolve wrote for it, `one.book`. `one`
     is what that run printed, as bytes. MANY and ACTS are the paths of two copies of ffosolve-many; ACTS runs the script
-    ACTING instead of ffosolve and ffoscores. SMALL, the list at first, is 60 lines of 68 bytes. With --lines=20 it has
-    three parts of 20 lines, and with 3, 4, 5, 6 and 7 as many as if each had so many lines."""
+    ACTING instead of ffosolve and ffoscores. SMALL, the list at first, is 60 lines of 68 bytes. --lines is an average,
+    but with 20 SMALL has three parts of 20 lines, and with N from 3 to 7 as many as if each had N lines."""
 
     lines = positions(60, 1, 5).splitlines(keepends=True)
     random.Random(819489).shuffle(lines)

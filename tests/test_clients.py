@@ -146,8 +146,8 @@ def test_examples_in_c_and_cxx_are_built_by_cmake():
 
 @pytest.mark.parametrize("compiler", [C, CXX], ids=["C", "C++"])
 def test_the_example_with_a_limit_of_time_stops_a_call(compiler):
-    """The last position is that at the start of a game. Without its process, nothing holds the standard output open.
-    The programs begin with the signal of the timer ignored."""
+    """A game's start takes too long; a process left at it would hold the standard output open, so that `ends` would
+    fail. The programs begin with the signal of the timer ignored."""
     program = PREFIX.compile(compiler, "limited", [PREFIX.shipped / "examples/c/limited.c"])
     for words, wanted in (
         ("60 fffffff7ffff7f7c 800008002", (0, "+62\n", "")), ("60 3 2", (1, "the masks share a square\n", "")),

@@ -89,7 +89,7 @@ def test_help_has_the_status_of_each_end(folder, names, what, words):
 
 
 @pytest.mark.parametrize("name, list_", zip(PROGRAMS, ("/dev/null", ROOT / "examples/kinds.obf")))
-def test_a_full_or_closed_output_is_reported_even_for_an_empty_report(folder, name, list_):
+def test_a_full_or_closed_output_is_reported_even_for_an_empty_list(folder, name, list_):
     for word in ("--help", "--version", list_):
         for output in (">/dev/full", ">&-"):
             wanted = (3, "", f"{name}: cannot write standard output\n")

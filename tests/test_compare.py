@@ -16,7 +16,7 @@ from tests.games import NAMES, PROGRAM, book_of, discs_of_black, games, position
 from tests.many import files as everything
 from tests.prefix import blocks_of
 from tests.support import NOBODY, ROOT, SECONDS, built, ends, limited, run, stored, unshared, wait_until, write
-from ffosolve import ReadingWarning, read_games
+from ffosolve import Game, ReadingWarning, read_games
 from ffosolve._command_line import write_whole
 from ffosolve._games import corrected
 
@@ -236,9 +236,10 @@ def test_a_file_that_has_changed_since_its_games_were_read_is_not_copied():
     games = [(game, 33, None) for game in read_games("it.wtb")]
     with open("it.wtb", "rb") as file:
         assert len(b"".join(corrected(file, 0, games))) == len(WHOLE)
-        file.seek(0)
-        with pytest.raises(ValueError, match="^it.wtb has changed since its games were read$"):
-            list(corrected(file, 0, games[1:]))
+        for place, others in ((0, games[1:]), (len(WHOLE), games), (len(WHOLE) - 16, [(Game(1, words=b""), 33, None)])):
+            file.seek(place)
+            with pytest.raises(ValueError, match="^it.wtb has changed since its games were read$"):
+                list(corrected(file, 0, others))
 
 
 def test_games_that_are_not_compared_stay_as_they_are_and_real_scores_are_changed_only_if_asked():
@@ -500,7 +501,7 @@ def alone(folder):
     (("--folder", "a", "22.wtb"), "--max-empties=60 --lines=10", "a"),
     (("--max-empties=21", "22.wtb", "--lines=20", "--quiet"), "--max-empties=60 --lines=20 --quiet", "it.wtb.check"),
     (("./it.wtb",), "--max-empties=60 --lines=10", "./it.wtb.check"),  # two names of one folder
-    (("--max-empties=22", "22.wtb"), "--max-empties=60 --lines=10 --cut", "22.wtb.check"),  # the first of two
+    (("--max-empties=22", "22.wtb"), "--max-empties=60 --lines=10 --cut", "22.wtb.check"),  # two: each is first cut
 ))
 def test_ffosolve_many_gets_the_options(alone, words, given, folder_named):
     write("bin/ffosolve-many", '#!/bin/sh\necho "$*" >>words\necho output\nexit 3\n')
@@ -520,7 +521,7 @@ def test_the_list_is_the_same_in_any_order_of_the_files(alone):
 
 @pytest.mark.parametrize("end, status", ((None, 4), ("exit 1", 3), ("exit 2", 2), ("exit 3", 3), ("exit 4", 4),
                                          ("kill $$", 3)))
-def test_the_status_is_that_of_ffosolve_many_if_it_is_missing_or_fails(folder, alone, end, status):
+def test_the_status_tells_how_ffosolve_many_failed_or_that_it_is_missing(folder, alone, end, status):
     missing = ("ffosolve-games: ffosolve-many is missing: it has to be next to ffosolve-games, "
                f"in {folder}/bin, or on the path")
     if end:

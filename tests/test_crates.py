@@ -1,4 +1,4 @@
-"""Runs the crates' tests three ways: proved; with refused memory; and unproved, by `rt try`, with runtime checks."""
+"""Runs some of the crates' tests, proved, with and without refused memory; and all, unproved, with runtime checks."""
 import re
 
 import pytest

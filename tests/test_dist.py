@@ -20,8 +20,8 @@ MAKE = ("make", "-s", f"PYTHON={sys.executable}")
 COMMIT = "GIT_COMMITTER_DATE='1700000000 +0000' git -c user.name=a -c user.email=a@b commit -q -m one"
 COMMIT_ALL = f"git init -q; git add -A; {COMMIT}"
 PACKAGES = ["ffosolve", "libffosolve-dev", "libffosolve1", "python3-ffosolve"]
-# A Python program: solves the position in its argument, and a harder one by a program. Prints versions, best moves, and
-# the files that it loaded, and the folder of the program that it ran.
+# A Python program: solves the position in its argument itself, and one with 15 empty squares by ffosolve. Prints
+# versions, best moves, the files that it loaded, and the folder of the program that it ran.
 SOLVE = """
 import importlib.metadata, os, re, sys, ffosolve
 solver = ffosolve.Solver()

@@ -429,7 +429,7 @@ def test_an_entry_of_a_book_has_the_greatest_score_of_its_line_and_the_moves_wit
 TOOK = (0.010, 0.278, 0.010, 0.223, 0.028, 0.331, 0.060, 0.105, 0.138, 1.174, 0.240, 0.010, 0.173, 0.014, 0.264,
         0.031, 0.364, 0.055, 0.342, 0.058, 0.181, 0.220, 0.007, 0.177, 0.009, 0.164, 0.016, 0.148, 0.026, 0.172,
         0.156, 0.481, 0.305, 0.008, 0.222, 0.007, 0.472, 0.008, 0.220, 0.029, 0.158, 0.201, 0.105, 0.263)
-# Each a list in parts, with the seconds that each part took: 100 easy lines in a part, then hard ones; and vice versa.
+# Parts of a list, each with the seconds that it took: 200 parts of 100 easy lines, and 40 of one hard line.
 EASY, HARD = [(positions(100, 2, 2), 0.008)] * 200, [(positions(1, 18, 18), 0.20)] * 40
 
 
@@ -453,7 +453,7 @@ def at_work(one, hosts, ended={}):
 
 
 @pytest.mark.parametrize("order", ["mixed", "easy first", "hard first"])
-def test_the_time_left_is_known_within_a_factor_of_two_from_a_tenth_of_the_work_on(clock, order):
+def test_the_whole_time_is_known_within_a_factor_of_two_from_a_tenth_of_the_work_on(clock, order):
     lines, ends = positions(264, 8, 18, 3).splitlines(keepends=True), []
     mixed = zip([b"".join(lines[at:at + 6]) for at in range(0, 264, 6)], TOOK)
     texts, took = zip(*(mixed if order == "mixed" else EASY + HARD if order == "easy first" else HARD + EASY))
@@ -476,7 +476,7 @@ def test_the_time_left_is_known_within_a_factor_of_two_from_a_tenth_of_the_work_
         assert 0.5 < end / clock.now < 2, (end, clock.now)
 
 
-# Times of four parts: at each, {part that ended: its seconds}, and {part that is at work since then: its host}.
+# Times of four parts: at each, {part that ended: its seconds}, and {part that is at work from then on: its host}.
 LOST = [(0, {}, {0: "h1", 1: "h2"}), (100, {0: 100}, {1: "h2", 2: "h1"}), (190, {}, {2: "h1"}), (193, {}, {})]
 
 

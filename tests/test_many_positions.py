@@ -37,8 +37,8 @@ def wanted():
 
 @pytest.fixture(params=[7, 0])
 def mocked(monkeypatch, request):
-    """A Solver and a mock that stands for its library, since no call is made by another process. Its calls for many
-    positions do what `side_effect` does, and then what the library does."""
+    """A Solver and a mock that stands for its library, since no call is made by another process. A call with a
+    `side_effect` does that, and what the library does only if that returns mock.DEFAULT."""
     monkeypatch.setattr("ffosolve._processes.is_brief", lambda *_: True)
     monkeypatch.setattr("ffosolve._processes.program", mock.Mock(side_effect=FileNotFoundError))
     solver = Solver(scoring=2, entries=request.param)

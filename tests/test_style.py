@@ -60,7 +60,7 @@ def test_a_name_of_the_package_stands_for_one_thing():
 
 
 def test_no_line_of_the_crates_has_more_than_160_columns():
-    """A wrong body is one line of its file, however long it is."""
+    """In files in must-fail/, a text to replace, or its replacement, has to be one line, however long it is."""
     for name in names_of_files():
         if name.startswith("crates/") and "/must-fail/" not in name:
             assert max(map(len, stored(name).decode().split("\n"))) <= 160, name

@@ -213,7 +213,7 @@ def test_calls_keep_no_memory(call):
     assert kept < 3000  # 30 bytes for each call
 
 
-# In the lists of three, the first position would take hours: they are refused before anything is solved.
+# LISTS are refused before anything is solved: WIDE, the first position there, would take hours.
 @pytest.mark.parametrize("names, given, error, why, index", [
     (ONE, [SHARED], SharedSquare, SHARES, None),
     (SEARCHES, [WIDER], TooManyEmpties, MORE, None),
@@ -563,7 +563,7 @@ def test_the_canonical_image_is_the_least_of_the_images_and_the_same_for_all(own
 
 
 def test_squares_have_names_and_numbers_and_a_symmetry_moves_them_as_its_help_says_and_its_inverse_moves_them_back():
-    """H1 under each symmetry, and any square in column c and row r."""
+    """H1 under each symmetry, and then each square. c and r are its column and row, counted from the other end."""
     assert [it.square("h1") for it in Symmetry] == "H1 A1 H8 A8 A8 H8 A1 H1".split()
     for column, row in itertools.product(range(8), range(8)):
         c, r = 7 - column, 7 - row

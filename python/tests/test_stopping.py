@@ -40,7 +40,7 @@ def solver():
     """A Solver for any position. After the test, asserts that, once processors have worked for a second at most, none
     works for this process, and no process is left. Waits for the threads of calls, too."""
     pytest.importorskip("numpy")
-    gc.collect()  # of earlier tests' threads: it calls Python code, in which the exception of a handler gets lost
+    gc.collect()  # of earlier tests: later, it could call Python code in which the exception of a handler gets lost
     yield Solver(max_empties=60)
     # On a busy machine that may come late, since even a killed process ends on a processor.
     wait_until(lambda: not any(working() or children() or time.sleep(0.01) for _ in range(5)), working, children,

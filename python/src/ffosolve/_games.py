@@ -245,7 +245,7 @@ def corrected(file: BinaryIO, empties: int, right: Sequence[Tuple[Game, Optional
     """Yields the pieces of a copy of a WTHOR file. `right` has its games, each with the theoretical and the real score
     to write, or None for one that stays. A header without a number of empty squares gets `empties`. No other byte
     changes. Raises NotText if the file has other games."""
-    header = bytearray(file.read(HEADER.size))
+    header = bytearray(file.read(HEADER.size).ljust(HEADER.size, b"\0"))
     header[EMPTIES_BYTE] = header[EMPTIES_BYTE] or empties
     yield header
     for game, exact, real in right:

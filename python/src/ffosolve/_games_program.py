@@ -370,10 +370,9 @@ def fix(copies: Dict[str, str], found: List[Found], options: argparse.Namespace)
         raise Refusal("no theoretical score is compared, so --fix has none to write")
     games = {path: [it for it in found if it.file == name and it.game.fault is None] for path, name in copies.items()}
     with contextlib.ExitStack() as stack:
-        pieces = {}
-        for path, name in copies.items():
-            right = [(it.game, it.exact, it.real if options.real else None) for it in games[path]]
-            pieces[path] = corrected(stack.enter_context(file_of(name)), options.empties or 0, right)
+        pieces = {path: corrected(stack.enter_context(file_of(name)), options.empties or 0,
+                                  [(it.game, it.exact, it.real if options.real else None) for it in games[path]])
+                  for path, name in copies.items()}
         try:
             write_whole(pieces)
         except OSError as why:
