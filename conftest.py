@@ -19,8 +19,8 @@ PR_SET_CHILD_SUBREAPER = 36  # of prctl(2)
 
 
 def pytest_configure(config):
-    """Makes this process the parent of programs whose parent ends. What would have to be proved is refused by
-    scripts/prove. The package for Python calls the library of the checkout, and scripts run with the Python of the
+    """Makes this process the parent of programs whose parent ends. With PROVE=no, scripts/prove fails where it would
+    have to prove. The package for Python calls the library of the checkout, and scripts run with the Python of the
     tests. Variables of a git hook go, new files have the usual modes, and the signals below interrupt the tests and end
     programs, as at a login."""
     if not hasattr(config, "workerinput"):  # workers have the variables of the first process

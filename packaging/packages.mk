@@ -50,7 +50,7 @@ dist: commit levels ## makes out/ffosolve-VERSION-linux-x86-64.tar.gz, which run
 	$(call finish,*.gz)
 	(cd out && sha256sum $(archive).tar.gz >$(archive).tar.gz.sha256)
 
-# dpkg-buildpackage runs debian/rules in a copy of the checkout, whose first lines are those that only make knows.
+# dpkg-buildpackage runs debian/rules in a copy of the checkout, with a changelog and a VERSION that only make knows.
 deb: commit levels ## makes packages for Debian: out/ffosolve_VERSION_amd64.deb, out/libffosolve1_VERSION_amd64.deb, ..
 	$(begin)
 	copy="$$room/ffosolve"

@@ -64,7 +64,7 @@ def test_the_header_suggests_the_tables_that_the_packages_choose():
     """Their own tests have these sizes."""
     text = " ".join(stored("include/ffosolve.h.in").decode().split())
     assert "An entry takes 32 bytes; " in text
-    assert "Suitable sizes are 0 up to 10 empty squares, 4096 up to 14, 65536 up to 22 and 1000000 from 23 on. " in text
+    assert "sizes: 0 for up to 10 empty squares, 4096 for up to 14, 65536 for up to 22, 1000000 for more. " in text
 
 
 def test_stored_reports_are_what_ffosolve_prints():

@@ -148,8 +148,8 @@ impl Solver {
         Error::of_status(status, 0).map(|()| Answer::of_raw(answer))
     }
 
-    /// The answers for positions, in their order. One table serves them all; with several threads, each cuts off parts
-    /// of the list, which have a table each.
+    /// The answers for positions, in their order. One table serves them all; with several threads, the list is cut into
+    /// parts, each with a table of its own.
     pub fn solve_all(&self, positions: &[Position]) -> Result<Vec<Answer>, Error> {
         self.call_all(raw::ffosolve_solve_all, raw::Answer::default(), Answer::of_raw, positions)
     }

@@ -48,7 +48,7 @@ Positions with more than 14 empty squares are solved by the programs `ffosolve` 
 call stops, or with this program. They are those in the wheel, beside the library (`lib` and `bin`) or on the path, if
 they have the library's version. If somebody else ends one, its call raises ChildProcessError. If there is none, or
 while Python is ending, a call with a `timeout` raises OSError, and one without is made in this process. Positions with
-fewer empty squares are solved here anyway, some at a time: their call ends within half a second after its `timeout`.
+fewer, unless they follow such a one in a list, are solved here; a call ends within half a second after its `timeout`.
 
 The wheel that `make wheel` builds contains the shared library and the programs. Without that wheel, install ffosolve,
 or name the library: `Solver("FOLDER/libffosolve.so")` or FFOSOLVE_LIBRARY. Reading, writing and showing positions needs

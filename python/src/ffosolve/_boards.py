@@ -34,8 +34,8 @@ class Board:
     `own`, `opp` and `side` are those of a Position: the masks of the discs of the side to move and of the other side,
     and the colour of the side to move, "X" or "O". Below the board, this colour and `state` follow, as "X is to move".
     `scores` is {name of an empty square: score}: each score is shown in its square, and the highest are marked. The
-    picture marks the disc on the square `last_move`, if that is given. Raises ValueError for another side and for a
-    name of no empty square or no disc, TypeError for a score that is not a number."""
+    picture marks the disc on the square `last_move`, if that is given. Raises ValueError for another side, a score of
+    no empty square, or a `last_move` without a disc; TypeError for a score that is not a number."""
 
     def __init__(self, own: int, opp: int, side: str, scores: Optional[Mapping[str, float]] = None,
                  state: str = "is to move", last_move: Optional[str] = None) -> None:

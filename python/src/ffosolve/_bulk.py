@@ -30,8 +30,8 @@ class Batch(NamedTuple):
 
 def slices_of(empties: List[int], call: SolverCall, at_once: bool) -> Iterator[Tuple[slice, int]]:
     """Cuts positions, given by their numbers of empty squares, into slices; yields each with its greatest number. The
-    call for a slice is brief, as the library makes it; but a slice whose first position alone takes longer is for a
-    program (see `SolverCall.search`), and if `at_once`, that gets all further positions, too."""
+    library solves a slice in a brief call (see `is_brief`). If a slice's first position alone takes longer, a program
+    solves the slice and, if `at_once`, also the positions after it."""
     gets_all = at_once and not is_brief(1, max(empties, default=0)) and call.has_program()
     start = greatest = weight = 0
     for at, count in enumerate(empties):
@@ -49,7 +49,7 @@ def slices_of(empties: List[int], call: SolverCall, at_once: bool) -> Iterator[T
 def batches_of(positions: Iterable[Iterable[int]], max_empties: int, call: SolverCall, at_once: bool
                ) -> Iterator[BatchOrRefusal]:
     """Yields Batches of `positions`; reads all before if `at_once`. At a refused position, yields Batches of those
-    before it, then the Refused, or raises it if `at_once`. Raises TypeError, and ValueError for most wrong masks."""
+    before it, then the Refused, or raises it if `at_once`. Raises TypeError, and ValueError for a wrong mask."""
     masks: List[int] = []
     empties: List[int] = []
     weight, end = 0, time.monotonic() + MOST_SECONDS

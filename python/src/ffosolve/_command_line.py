@@ -133,7 +133,7 @@ def regular(name: str) -> Path:
         if path.is_file() and not (name == "-" and source.tell()):
             return path
         with refusing(f"copy {shown(name)} to", tempfile.gettempdir()), tempfile.TemporaryFile() as copy:
-            os.fchmod(copy.fileno(), 0o666)  # which a file with the same content may have
+            os.fchmod(copy.fileno(), 0o666)  # from which callers take the mode of files with this content
             shutil.copyfileobj(source, copy)
             copy.flush()
             kept = os.dup(copy.fileno())  # which stays open, since the copy has no other name

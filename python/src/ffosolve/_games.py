@@ -104,9 +104,9 @@ def read_games(source: "Union[str, os.PathLike[str], io.BufferedIOBase, io.RawIO
     skipped. The names of players and tournaments come from the files WTHOR.JOU and WTHOR.TRN in the folder of a WTHOR
     file, or from its only file .JOU and .TRN; a ReadingWarning says if there are several.
 
-    Raises GameRefused if a WTHOR file ends too early or goes on after its last game; if `refused` is given, it is
-    called with the error instead. An illegal move is refused only by `Solver.positions`. Raises ValueError for a file
-    of another kind, TypeError for another source, and OSError. This prints the games with wrong theoretical scores:
+    Raises GameRefused for a game with a `fault`, such as the last one of a WTHOR file of wrong length; if `refused` is
+    given, it is called with the error instead. An illegal move is refused only by `Solver.positions`. Raises ValueError
+    for a file of another kind, TypeError for another source, OSError. This prints games with wrong theoretical scores:
 
         solver = Solver(max_empties=24)
         for game in read_games("WTH_2001.wtb"):
@@ -137,7 +137,7 @@ def read_games(source: "Union[str, os.PathLike[str], io.BufferedIOBase, io.RawIO
 def games_in(file: Any, name: str) -> Tuple[Iterator[Game], Optional[int]]:
     """Returns (games of a file, number of empty squares at their theoretical scores). The number is 0 if the header of
     a WTHOR file gives none, and None for a text. Raises NotText, with `name` in it, for other files, also for a WTHOR
-    file without games on 8 by 8 squares; if the file is taken for a text, only while the games are iterated over."""
+    file without games on 8 by 8 squares. The lines of a text are tested only while the games are iterated over."""
     refuse_archive(file.peek(4), name)
     if not name.lower().endswith(".wtb") and file.peek(1)[:1].strip(TEXT) == b"":
         if SPREAD.search(file.peek(1)):

@@ -185,8 +185,8 @@ class Position:
 
     def play_all(self: P, squares: Union[str, Iterable[Union[int, str]]]) -> P:
         """The position after several moves. `squares` is a transcript such as "f5d6c3", in any form that `Game.of_text`
-        reads, or a list of what `play` takes. Passes may be left out. Raises TypeError for another object, and NoMove
-        for an illegal move or a word that is not a square. Its message counts moves from 1, without passes."""
+        reads, or a list of what `play` takes. Passes may be left out. Raises TypeError for another object, ValueError
+        for other transcripts, and NoMove for an illegal move or no square. It counts moves from 1, without passes."""
         if isinstance(squares, bytes) or not hasattr(squares, "__iter__"):
             raise TypeError(f"moves are a transcript or a list of squares, not {reprlib.repr(squares)}")
         squares, position = transcript_words(squares) if isinstance(squares, str) else squares, self

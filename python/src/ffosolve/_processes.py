@@ -30,7 +30,7 @@ from ._text import BOOK_HEADER
 
 T = TypeVar("T")
 Seconds = Optional[float]  # None stands for any time
-BRIEF, LIGHTEST = 4096, 8  # the most positions of a brief call, and their most empty squares
+BRIEF, LIGHTEST = 4096, 8  # a call is brief for so many positions with up to so many empty squares: see `is_brief`
 CHECK_SECONDS = 0.2  # how often a waiting call finds out whether it has to stop, also by a signal to another thread
 STARTS = threading.RLock()  # is held while this process has ends of pipes that a forked process must not have
 PATHS: Dict[Tuple[str, ctypes.CDLL], str] = {}  # what `program` has found
@@ -199,8 +199,8 @@ class SolverCall:
 
 async def to_thread(func: Callable[..., T], /, *args: Any, **kwargs: Any) -> T:
     """Calls `func(*args, **kwargs)` in a thread and returns what it returns, as `asyncio.to_thread` does. If the task
-    that awaits this is cancelled, also by `asyncio.wait_for` or a TaskGroup, a Solver's call that `func` makes ends
-    within 0.2 seconds, and raises concurrent.futures.CancelledError in the thread:
+    that awaits this is cancelled, also by `asyncio.wait_for` or a TaskGroup, a Solver's call that `func` makes stops
+    within half a second if `help(ffosolve)` says it can, and raises concurrent.futures.CancelledError in the thread:
 
         answer = await asyncio.wait_for(ffosolve.to_thread(solver.solve, position), 60)
     """

@@ -54,7 +54,7 @@ class ScoreComparison(NamedTuple):
     choices: int
     mean_loss: Optional[float]  # how much less the chosen moves are worth than best ones, over all `choices`
     best_share: Optional[float]  # the share of `choices` whose chosen move is a best one, 0.0 to 1.0
-    refused: int  # lines that `ffoscores` refused, or positions that the Solver refuses
+    refused: int  # lines that `ffoscores` refused; or positions that the Solver refuses, and malformed lines
     illegal: int  # scores of illegal moves
     unread: int  # other pieces between semicolons
     by_empties: "Dict[int, ScoreComparison]"  # the same for each number of empty squares, in rising order
@@ -76,10 +76,10 @@ def compare_scores(listed: Evaluated, scored: Union[Source, Solver, None] = None
     with up to 15 digits before its point, such as +61.5.
 
     The exact scores are found by the Solver `scored`, by default `Solver()`, on so many `threads`, and within `timeout`
-    seconds; positions that it refuses are only counted. A position whose moves are not listed is solved alone, which
-    is faster. What is `known` is not solved: {position: score, Answer or {move: score} with all legal moves}, or the
-    Answers of `Solver.solve_arrays` for all positions of the list. Otherwise `scored` has the lines that `ffoscores`
-    printed for the list.
+    seconds; positions that it refuses are only counted. If no move of a position is listed, only the position's own
+    score is found, which is faster. What is `known` is not solved: {position: score, Answer or {move: score} with all
+    legal moves}, or the Answers of `Solver.solve_arrays` for all positions of the list. Instead of a Solver, `scored`
+    may be a path or the lines of what `ffoscores` printed for the list.
 
         evaluated = {position: {"F5": 1.5, "D6": -2.0} for position in positions}
         for empties, found in compare_scores(evaluated).by_empties.items():
@@ -171,7 +171,7 @@ def has_squares(entry: ListEntry) -> bool:
 
 
 def known_scores(known: Optional[Known], positions: List[Position]) -> Dict[Position, Exact]:
-    """The exact scores in `known`, as `compare_scores` takes it; no moves without scores tell nothing."""
+    """The exact scores in `known`, as `compare_scores` takes it; an empty {move: score} tells nothing."""
     if isinstance(known, Answers):
         if len(known.score) != len(positions):
             raise ValueError(f"{len(known.score)} known scores are not those of {len(positions)} positions")

@@ -85,7 +85,7 @@ def masks_and_empties(position: Iterable[int]) -> Tuple[int, int, int]:
 
 def checked_position(position: Iterable[int], most: int, index: Optional[int] = None) -> Tuple[int, int, int]:
     """What `masks_and_empties` returns. Raises SharedSquare and, for more than `most` empty squares, TooManyEmpties,
-    with the position's `index` in a list; TypeError for another object; ValueError for most masks out of range."""
+    with the position's `index` in a list; TypeError for another object; ValueError if it notices a wrong mask."""
     own, opp, empties = masks_and_empties(position)
     if own & opp or empties > most:
         c_position((own, opp))  # raises ValueError for a wrong mask

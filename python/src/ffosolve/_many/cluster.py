@@ -33,7 +33,7 @@ except ImportError as fault:
 except Exception as fault:  # such as a malformed file of settings
     raise Refusal(f"Dask cannot start: {type(fault).__name__}: {' '.join(str(fault).split())}") from None
 
-LOST_SECONDS = 30  # of silence, after which a scheduler is lost, and no worker waited for: as long as Dask connects
+LOST_SECONDS = 30  # of silence until a scheduler is lost, and no worker waited for; Dask tries as long to connect
 SILENT_SECONDS = 5  # of silence, after which progress says so: a busy scheduler may need a second or two
 AHEAD = 100  # parts that are sent beside two for each thread, so that a cluster which grows by need does
 MOST_FAILS = 3  # parts failed in a row, after which a worker gets no more, unless these fail elsewhere, too
@@ -93,7 +93,7 @@ class Cluster(Engine):
         self.tested: Set[Worker] = set()  # which have solved a known line
         self.left_out: Set[Worker] = set()  # which get no part; (host, "") stands for a machine's untested workers
         self.failed: DefaultDict[Worker, Set[str]] = defaultdict(set)  # the parts that each failed in a row
-        self.ends: DefaultDict[str, Dict[str, int]] = defaultdict(dict)  # of workers with a part or at a host, by keys
+        self.ends: DefaultDict[str, Dict[str, int]] = defaultdict(dict)  # {part's digest or host: {key: ended workers}}
         self.signs: Dict[Worker, Tuple[object, float]] = {}  # what each worker does, and since when
         self.running = {}
         self.heard = self.looked = time.monotonic()
@@ -150,7 +150,7 @@ class Cluster(Engine):
         if self.trouble or self.client.status != "running" or self.count and not fit:
             return 0
         # Dask gives parts that only some workers may have to these at once, so one that falls silent would keep many.
-        # Half of the workers stay free for a part that ends its own, so that it does not end those of others, too.
+        # Half of the workers stay free for a part that ends its worker, so that it ends no worker of other parts, too.
         return max(1, fit // 2) if is_alone else 2 * self.threads + AHEAD * (fit == self.count)
 
     def send(self, part: Part, failed: List[str]) -> Future[Outcome]:

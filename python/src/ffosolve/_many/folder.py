@@ -156,7 +156,7 @@ class Run:
         return found
 
     def keep(self, part: Part, record: bytes, why: str) -> Tuple[Optional[Solved], str]:
-        """Stores a complete record of a part. Returns its results; or None and a reason, by default `why`."""
+        """Stores a complete record of a part. Returns its results; or None and a reason, `why` if there is one."""
         if found := self.check(part, record):
             with refusing("write", self.folder / "results" / part.digest):
                 mode = (self.place / "list").stat().st_mode & 0o666

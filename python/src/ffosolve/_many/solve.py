@@ -23,7 +23,7 @@ KNOWN_SECONDS = 30  # in which a machine has to solve it; that takes 0.01, but a
 GUARD = ("setpriv", "--pdeathsig", "KILL")  # before the path of a program, which is then killed when this process ends
 PART_BYTES = 1_048_576  # in a part; the programs take as many
 MOST_READ = PART_BYTES << 9  # bytes of a file in a folder, if it is not the list
-# Of a line that a report does not leave out: its squares, if it has a position, and two letters if these follow.
+# Of each line that is not blank and no comment: its 64 squares if a side follows, and two letters if these come next.
 LETTER = b"*XxOoBbWw"  # of a disc or of a side; without regard to case, the pattern would take twice as long
 FRONT = re.compile(rb"^(?![ \t]*(?:%%|\r?$))[ \t]*((?:[-.%b]{64}(?=[ \t]*[%b])(?:[ \t]*[A-Za-z]{2})?)?)"
                    % (LETTER, LETTER), re.M)
@@ -126,8 +126,8 @@ class Pack:
         return eval, ("exec(source, names) or names['Pack'](source, task, contents)", {}, names)
 
     def __call__(self, topic: str, text: bytes, most: int) -> Tuple[Tuple[str, str], str, bytes, str]:
-        """Solves a part until Dask takes it. Returns the worker (address, folder), its fault, and what `solve` does. If
-        the worker solves KNOWN, first tells those who asked for the topic."""
+        """Solves a part unless Dask cancels it. Returns the worker (address, folder), its fault, and what `solve` does.
+        If the worker solves KNOWN, first tells those who asked for the topic."""
         from distributed import get_worker
         worker, record, why = get_worker(), b"", ""
         name = worker.address, worker.local_directory
@@ -163,8 +163,8 @@ class Pack:
             return self.fault
 
     def fault_of(self, program: str) -> str:
-        """Returns why a program is not fit, or "" if it has a SHA-256 of the task and solves KNOWN in KNOWN_SECONDS, as
-        the task knows or will know."""
+        """Returns why a program is not fit, or "" if it has a SHA-256 of the task and solves KNOWN in
+        KNOWN_SECONDS, with the results in the task's "known", where the first ones are noted."""
         if sha256(Path(program).read_bytes()) not in self.task["files"].values():
             return "is damaged"
         end = time.monotonic() + KNOWN_SECONDS
@@ -233,7 +233,7 @@ def without_folder(message: str) -> str:
 
 
 def parts_in(words: List[str], count: int) -> Set[int]:
-    """Returns the parts that `words` name, such as 0000003 or 0-99. Raises ValueError for one that does not exist."""
+    """Returns the parts that `words` name, such as 0000003 or 0-99. Raises ValueError for a word that names none."""
     found = [re.fullmatch("([0-9]{1,7})(?:-([0-9]{1,7}))?", word) for word in words]
     ranges = [range(int(word[1]), min(count, int(word[2] or word[1]) + 1)) for word in found if word]
     if not words or len(ranges) < len(words) or not all(ranges):
