@@ -66,9 +66,9 @@ fn read_front<R: BufRead>(reader: &mut R, line: &mut Vec<u8>) -> io::Result<bool
     Err(io::Error::from(ErrorKind::Interrupted))
 }
 
-// Reads the rest of a line whose front was read. If the front is faulty, whatever follows it, this
-// is its fault, and nothing is read, since the line may have no end. Its last byte is not judged: it
-// may be the CR of a line's end.
+// Reads the rest of a line whose front was read. If the front is faulty, whatever follows it, its
+// fault is returned and nothing is read, since the line may have no end. The last byte of the front
+// is not judged: it may be the CR of a line's end.
 fn read_rest<R: BufRead>(
     alloc: Global,
     reader: &mut R,

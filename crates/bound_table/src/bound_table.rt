@@ -20,7 +20,8 @@ use std::sync::atomic::{AtomicU8, Ordering};
 // One more than the greatest number of empty squares.
 const ABOVE_ALL_EMPTIES: u8 = 65;
 
-// The most places for positions that threads are searching: 64 threads need fewer than 64 each.
+// The most places for positions that threads are searching. A thread notes fewer than 64 at once,
+// so these are enough for 64 threads.
 const MOST_BEGUN: usize = 4096;
 
 // The most places for what threads foresee. With 4,096, four threads evaluate 3 to 6 % more.

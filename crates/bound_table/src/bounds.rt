@@ -51,8 +51,8 @@ pub trait Bounds {
         false
     }
 
-    /// What threads have noted that a position is worth, in a respect that the search numbers. Any answer
-    /// is right: it is advice.
+    /// What threads have noted that a position is worth, in a respect: a number that the search
+    /// chooses for what is asked of the position. Any answer is right: it is advice.
     #[inline]
     fn foreseen(&self, _position: &Pos, _respect: u16) -> Foreseen {
         Foreseen::Unkept

@@ -9,7 +9,7 @@ pub enum TableFault {
     /// More entries were asked for than a table may have.
     #[error("more than {} table entries", BoundTable::MOST_ENTRIES)]
     TooMany,
-    /// Memory for the entries was refused.
+    /// Memory for the table was refused.
     #[error("out of memory")]
     Memory,
 }

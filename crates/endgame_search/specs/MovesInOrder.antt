@@ -8,8 +8,8 @@ use Rattle.endgame_search.specs.declared.last_four.NextMove.{NextMove}
 abbrev pub HasNoMoveOn : PosView → ℕ → Type 0
 HasNoMoveOn p squares = (q : ℕ) → IsMove p q → in_mask squares q ≡ true → ⊥
 
--- m is the position after a move on a square of the mask, and a mask of fewer squares: every other
--- move on the mask is on one of those
+-- m is the position after a move, and a mask of fewer squares than `squares`: every other move on a
+-- square of `squares` is on one of those
 pub record IsNextMove (p : PosView) (squares : ℕ) (m : NextMove) : Type 0 where
   pub square : ℕ
   pub legal : IsMove p square

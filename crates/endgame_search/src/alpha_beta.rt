@@ -48,8 +48,8 @@ pub fn value_in<T: Bounds>(table: &T, position: Pos, low: i8, high: i8) -> i8
 
 // A fail-soft score of the window from `low` to `high`. The first null window is at the guess. Each
 // later one is at the lower bound that the last one proved, or at one below the upper bound. No
-// null window lies outside the scores that are possible at first, so the search ends at the
-// greatest or the least of them.
+// null window lies outside the scores that are possible at first, so a score at the greatest or
+// the least of them ends the search.
 pub(crate) fn search_window<T: Bounds>(table: &T, position: Pos, guess: i8, low: i8, high: i8) -> i8
     requires { IsWindow low high }
     ensures { IsFailSoft low high (value_of (T.scoring table.now) position) result }
@@ -111,7 +111,8 @@ fn search_pass<T: Bounds>(table: &T, position: Pos, bound: i8) -> i8
     score
 }
 
-// Searches a position in which the mover has a move, and passes the score to `store_if_deep`.
+// Searches a position in which the mover has a move. A score that the table does not show by the
+// first probe is passed to `store_if_deep`.
 #[cycle(search)]
 fn search_moves<T: Bounds>(table: &T, position: Pos, moves: u64, bound: i8) -> i8
     requires moves { moves ≡ moves_of position }
@@ -236,9 +237,9 @@ fn next_to_share<T: Bounds>(
     first
 }
 
-// Searches the children of a position that other threads may be searching, too. A thread leaves a
-// child that another one is searching for later, when the table mostly shows what it is worth. So
-// threads share the children out among them.
+// Searches the children of a position that other threads may be searching, too. If another thread
+// is searching a child, this one leaves it for later: by then the table mostly shows what the child
+// is worth. So threads share the children out among them.
 #[cycle(search)]
 #[inline(never)]
 fn search_shared_children<T: Bounds>(table: &T, position: Pos, children: &[Child], bound: i8) -> i8

@@ -29,7 +29,7 @@ fn plies_ahead(empties: u8) -> u8 {
 // From this many discs above the bound on, only the opponent's mobility counts.
 const ENOUGH: i32 = 32;
 
-// What more a child is worth makes no difference.
+// From this worth for the opponent on, in eighths of a disc, all children count alike.
 const MOST_WORTH: i32 = 2000;
 
 // How children are judged: how many plies are foreseen; up to which worth for the opponent all

@@ -202,8 +202,8 @@ pub(crate) fn search_in_order<T: Bounds>(
     }
 }
 
-// Searches a position in which the mover has no move: a pass, or the end of the game, if the
-// position is not probed.
+// Searches a position in which the mover has no move, and which is not probed yet: a pass, or the
+// end of the game.
 #[cycle(last)]
 #[inline(never)]
 fn search_pass_in_order<T: Bounds>(table: &T, position: Pos, empties: u8, bound: i8) -> i8

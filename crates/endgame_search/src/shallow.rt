@@ -1,7 +1,7 @@
 //! Null windows (`alpha_beta` says what they are) of positions with at most 7 empty squares.
-//! Nothing is stored, and no child is probed before it is searched. The limit is 7 since the
-//! compiler makes a list of 7 children in place, and one of 8 by a function call. With at most 4
-//! empty squares a list takes more time than its order saves.
+//! Nothing is stored, and a child is not probed until its own search begins. The limit is 7 since
+//! the compiler makes a list of 7 children in place, and one of 8 by a function call. With at most
+//! 4 empty squares a list takes more time than its order saves.
 
 ghost use Rattle.std.specs.Prelude.{◌≡◌, ◌≢◌, ◌≤◌, ◌≤ℤ◌, negsuc, length};
 ghost use Rattle.othello_bits.specs.Pos.{moves_of, empties_of, value_of, HasNoMove};

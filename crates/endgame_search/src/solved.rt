@@ -124,10 +124,10 @@ pub fn solve<T: Bounds>(table: &T, task: Task) -> Solved
 }
 
 /// Solves a task by testing a claim. The result is that of `solve` whatever the claim is, and comes
-/// sooner if the claimed score is right: then one null window for each move, and one more for a
-/// best one, find the answer, whatever is claimed of the moves. A score that is too low saves less,
-/// and one that is too high costs a window for each move. The table must have the scoring of the
-/// task.
+/// sooner if the claimed score is right: then at most one null window for each move, and one more
+/// for each best move, find the answer, whatever is claimed of the moves. A score that is too low
+/// saves less, and one that is too high costs a window for each move. The table must have the
+/// scoring of the task.
 pub fn confirm<T: Bounds>(table: &T, task: Task, claim: Claim) -> Solved
     requires { task.scoring ≡ T.scoring table.now }
     ensures { result ≡ task }

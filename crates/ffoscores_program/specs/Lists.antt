@@ -57,8 +57,10 @@ pub record AreListsBegun (words : List (List ℕ)) (given old new : Option (List
   pub asked : AsksLists words request
   pub stopped : StopsLists request given old new
 
--- A call of `ffoscores` ended: with 0 or 1 after printing the lists that the words ask for, 1 if
--- something in them is wrong; with 3 after printing nothing, help or the version, or a front.
+-- A call of `ffoscores` ended: with 0 after printing the lists that the words ask for, with nothing
+-- wrong in them, or if the words ask for help or the version; with 1 after printing lists in which
+-- something is wrong; with 2 if clap refuses the words; with 3 after printing nothing or a front of
+-- the lists, or if the words ask for help or the version.
 pub record EndsFfoscores (words : List (List ℕ)) (given old new : Option (List ℕ)) (status : ℕ)
     : Type 0 where
   pub ends : EndsProgram ffoscores 3 words old new status

@@ -21,7 +21,8 @@ pub record ListRequest : Type 0 where
 abbrev pub list_request_of : ListOptions → ListRequest
 list_request_of o = record { settings = o.settings; files = names_of o.files.items }
 
--- the words of `ffoscores` ask for the request, as `Asks` says it of `ffosolve`
+-- the words ask for the request: clap finds no fault in them, and the request has the values in the
+-- matches that clap defines for the words and the command `ffoscores`
 pub record AsksLists (words : List Text) (r : ListRequest) : Type 0 where
   pub names : NameList
   pub named : NamesScorings names

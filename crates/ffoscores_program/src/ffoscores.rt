@@ -33,8 +33,8 @@ fn list_error(fault: ListFault) -> ProgramError<'static>
     }
 }
 
-// Prints lists again with every move's score, over one table of bounds. As many positions are
-// scored at once as the settings have workers, plus one. The result says whether nothing in the
+// Prints lists again with every move's score, over one table of bounds. At most as many positions
+// are scored at once as the settings have workers, plus one. The result says whether nothing in the
 // lists is wrong.
 fn print_lists<T: Threads + Wait, W: Write>(
     rt: &T,
@@ -87,7 +87,7 @@ fn carry_out<'a, T: Files + Threads + Wait, R: Read, W: Write>(
 
 /// The whole program `ffoscores`, for the words of its command line, the program's name first. It
 /// reads the lists that the words name, or standard input. It prints them again on standard output
-/// with every move's score, each line as soon as it is solved.
+/// with every move's score, each line as soon as it and all lines before it are solved.
 ///
 /// The status is 0 if nothing in the lists is wrong, or if help or the version was asked for
 /// and printed; 1 if a line is refused or there is a remark; 2 if the command line is

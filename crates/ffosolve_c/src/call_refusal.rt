@@ -5,8 +5,9 @@ ghost use Rattle.ffosolve_c.specs.Refusals.{call_status, fault_refusal};
 
 use obf_text::LineFault;
 
-/// Why a call writes nothing but `at`. A call tests its arguments in this order, and the first
-/// refusal that fits is returned.
+/// Why a call writes nothing but `at`. If several refusals fit, the first in this order is
+/// returned; but for a list of positions the refusal is that of the first refused position, and
+/// for a line `Skipped` or the line's fault comes before `NoMemory`.
 #[derive(Clone, Copy)]
 pub enum CallRefusal {
     /// No scoring has the number.

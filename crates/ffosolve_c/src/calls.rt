@@ -59,8 +59,8 @@ pub extern "C" fn ffosolve_solve(
 }
 
 /// Writes the answer of a position as `ffosolve_solve` does, with its statuses, by a search that
-/// tests `claim` first unless its kind or score can't be one. Any claim may be made: it changes how
-/// long the search takes, but never the answer.
+/// tests `claim` first, unless its kind is not 0, 1 or 2 or its score is not from -64 to 64. Any
+/// claim may be made: it changes how long the search takes, but never the answer.
 #[unsafe(no_mangle)]
 pub extern "C" fn ffosolve_confirm(
     alloc: Global,

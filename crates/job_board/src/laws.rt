@@ -54,9 +54,9 @@ pub fn deliveries_are_in_order()
 
 /// Take any list of the accepted submits and the turns of a client at a desk, whatever other
 /// threads do there. The answers that the client received are, in order and each once, those of a
-/// prefix of the tasks that it sent. If its last turn returns `Drained`, they are those of all
-/// these tasks. `Client::sent` is the list of these tasks, and `Client::received` the number of
-/// these answers.
+/// prefix of the tasks that it sent. If the list ends with a turn that returns `Drained`, they are
+/// those of all these tasks. `Client::sent` is the list of these tasks, and `Client::received` the
+/// number of these answers.
 pub fn clients_receive_in_order()
     ensures in_order { (s : ℕ) (es : List Event) (me : ClientView)
         → Leads (new_client s) es me

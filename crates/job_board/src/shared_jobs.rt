@@ -21,7 +21,8 @@ pub(crate) struct SharedId {
 #[derive(Drop)]
 pub(crate) struct SharedJobs {
     ids: ArrayVec<SharedId, MOST_SHARED>,
-    // The place of the job that was listed last.
+    // The place of the last taken job that threads can share, whether there was room to list it or
+    // not.
     last: u64,
 }
 

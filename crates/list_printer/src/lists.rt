@@ -103,7 +103,8 @@ struct ChunkQueue<'a> {
     chunks: VecDeque<StartedChunk<'a>>,
     // Whether all printed lines are right: none is refused, and no remark is made.
     right: bool,
-    // The greatest number of chunks that are scored on threads at once, less one.
+    // If above 0, one less than the greatest number of threads that score lines at once. With 0 the
+    // calling thread scores all.
     workers: u8,
 }
 
@@ -246,11 +247,12 @@ fn print_all<'a, R: Threads + Wait, W: Write>(
 /// is refused: it is printed as a comment with the reason and the line. Under `criteria.complete`
 /// each best move that a line with moves does not list gets a remark after the other remarks.
 ///
-/// With `workers` above 0, up to `workers` + 1 threads score lines at once, besides the calling
-/// thread, which scores lines that take less time than starting a thread. When no line is left to
-/// start, they share the first one that is not scored. With 0 the calling thread scores all. What
-/// is printed is the same. If `Err` is returned, threads that score lines run on, and are
-/// not waited for. The call may wait for its threads.
+/// With `workers` above 0, up to `workers` + 1 threads score lines at once. The calling thread is
+/// one of them while it scores lines that take less time than starting a thread. When no line is
+/// left to start, the others share the first one that is not scored. With 0 the calling thread
+/// scores all. What is printed is the same. The call waits until a line is scored before it prints
+/// it. If `Err` is returned, threads that score lines run on. After `Ok`, too, threads that helped
+/// with a line may run on.
 ///
 /// Returns whether no line is refused and no remark is made. If `Err` is returned, a prefix of
 /// the whole output is printed.

@@ -1,4 +1,4 @@
--- Where a step of a permutation of bits takes bit i from.
+-- Where a step of a permutation of bits takes bit i from. A square is k above another if its number is k greater.
 use Rattle.std.specs.Prelude.{ℕ, ◌+◌, ◌-◌, Bool, not, ◌&&◌, nat_le, if◌then◌else◌}
 use Rattle.std.specs.Bool.{beq}
 use Rattle.othello_rules.specs.Masks.{in_mask}

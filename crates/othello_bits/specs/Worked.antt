@@ -1,5 +1,6 @@
--- Worked examples, which the check computes from the definitions: where H1 goes under each symmetry in turn, and the
--- canonical positions of four positions with their first symmetries. Numbers of squares are those of the masks' bits.
+-- Worked examples, which the check computes from the definitions: where H1 goes under each symmetry in turn, the
+-- canonical positions of four positions, and the first symmetries of two of them. Numbers of squares are those of the
+-- masks' bits.
 use Rattle.std.specs.Prelude.{◌≡◌, [], ◌∷◌, map, refl}
 use Rattle.othello_rules.specs.declared.discs.Side.TheVariants.{Black}
 use Rattle.othello_rules.specs.Board.{squares}

@@ -13,7 +13,7 @@ use crate::mobility::Direction;
 
 // The number of discs that a move turns in a line of eight squares. The first index is the place of
 // the move, from 0 to 7. The second is the byte of the mover's discs on the line. All other squares
-// of the line hold discs of the opponent.
+// of the line, but that of the move, count as discs of the opponent.
 static TURNED_IN_LINE: [[u8; 256]; 8] = [
     [
         0, 0, 0, 0, 1, 1, 0, 0, 2, 2, 0, 0, 1, 1, 0, 0, 3, 3, 0, 0, 1, 1, 0, 0, 2, 2, 0, 0, 1, 1,

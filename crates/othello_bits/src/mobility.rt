@@ -19,8 +19,8 @@ pub enum Direction {
 }
 
 impl Direction {
-    // The mask moved by one step. A square that leaves its row at the edge comes out in the next
-    // row.
+    // The mask moved by one step. A square that a step takes over the edge at column A or H comes
+    // out at the other edge, a row off, if the board has that row.
     #[inline(always)]
     fn shifted(self, mask: u64) -> u64
         ensures { (i : ℕ) → in_mask result i ≡ (can self i && in_mask mask (back self i)) }
@@ -49,8 +49,8 @@ impl Direction {
         }
     }
 
-    // The runs of at most six squares of `within` that begin next to `from`, in three doubling
-    // steps.
+    // The runs of at most six squares of `within` that begin next to `from`. `one`, `two` and
+    // `four` are those of at most that many squares.
     #[inline(always)]
     fn fill(self, from: u64, within: u64) -> u64
         ensures { (i : ℕ) → in_mask result i

@@ -91,7 +91,9 @@ fn read_named<'a, T: Files>(
     Ok(files)
 }
 
-/// Reads the files of these names, in their order, or standard input if there is no name.
+/// Reads the files of these names, in their order, or standard input if there is no name. Of each
+/// it reads at most one byte more than a file may have, and it reads at most one file more than a
+/// run may have: a text that is cut off, or files that are left out, are refused by `check_files`.
 pub fn read_files<'a, T: Files, R: Read>(
     rt: &T,
     alloc: Global,

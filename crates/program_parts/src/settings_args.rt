@@ -176,7 +176,8 @@ fn u32_of(matches: &ArgMatches<'_>, id: &str) -> Option<u32>
     matches.get_one::<u32>(id)
 }
 
-/// The settings in the matches; None if an option has no value, or a number above its limit.
+/// The settings in the matches; None if an option has no value, or a number above its limit, or if
+/// `--scoring` has another name than those of the scorings.
 pub fn settings_of(matches: &ArgMatches<'_>) -> Option<Settings>
     ensures value { IfSome result
         (λ settings. HasSettings settings (rows_of (found_of matches.now))) }

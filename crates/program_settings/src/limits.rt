@@ -1,4 +1,4 @@
-//! The limits of a run, and their defaults.
+//! The limits of a run, and the defaults of its settings.
 
 use bound_table::BoundTable;
 use endgame_search::Task;

@@ -1,4 +1,4 @@
-//! The text that is printed for one line of a list.
+//! The text that is printed for the lines of a list.
 
 ghost use Rattle.std.specs.Prelude.{◌≡◌, ◌≢◌, ◌≤◌, ◌<◌, ◌++◌, ◌∷◌, [], All, IfOk, IsOk, OnOk};
 ghost use Rattle.std.specs.Prelude.{nat_abs, not, true, false};

@@ -1,4 +1,4 @@
-//! A value that a thread is started to make, and what is promised of it: if no thread can be
+//! A value that a thread is started to make, and what is promised of it. If no thread can be
 //! started, the calling thread makes the value.
 //!
 //! ```rust

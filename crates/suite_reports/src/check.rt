@@ -107,8 +107,8 @@ fn lists_best(listed: &[(ListedMove, i8)], score: i8, best: Best) -> bool
 }
 
 /// Compares the moves and scores that a line lists with the exact answer of its position, as
-/// `check_of` does, but a line that leaves out a best move differs. So the moves that agree are
-/// exactly the best ones.
+/// `check_of` does, but a line that lists moves and leaves out a best one differs. So if a line of
+/// a position with moves agrees, those that it lists with the score are exactly the best ones.
 #[tactic(auto, unfolding(crate::specs::Check::check, crate::specs::Check::complete_check))]
 pub fn complete_check_of(listed: &[(ListedMove, i8)], answer: &Answer) -> Check
     ensures { result ≡ complete_check listed.now answer.now }

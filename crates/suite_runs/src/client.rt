@@ -43,7 +43,8 @@ fn send_all<R: Wait>(
 
 // Receives the answers of all tasks that the client sent, in the order of the tasks. Between two
 // answers the thread solves the jobs that it takes, and helps with jobs of other threads. `Memory`
-// if the list can't grow; `Mixed` if the desk or a job is refused.
+// if the list can't grow; `Mixed` if the desk refuses a turn or an answer, or if a job is under
+// another scoring.
 fn receive_all<R: Wait, T: Bounds, G: Gate>(
     rt: &R,
     alloc: Global,

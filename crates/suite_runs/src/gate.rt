@@ -3,9 +3,10 @@
 use std::marker::Sync;
 use std::sync::Wait;
 
-/// Calls that the threads of a run make: one when a file's jobs are at the desk, two before and after
-/// each job is solved, and one if its answer was accepted. `sender` is the number of the job's
-/// file, and `number` the number of the job in that file; both are counted from 0.
+/// Calls that the threads of a run make: one when a file's jobs are at the desk, from which the
+/// threads take them; one before and one after each job is solved; and one if its answer was
+/// accepted. `sender` is the number of the job's file, and `number` the number of the job in that
+/// file; both are counted from 0.
 pub trait Gate: Sync {
     /// Called after all jobs of a file were submitted, `count` in all. Other threads may have solved
     /// some of them. A file whose jobs are not all submitted gets no call. The provided method does

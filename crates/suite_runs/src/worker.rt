@@ -56,8 +56,9 @@ impl<'a, T: Bounds, G: Gate> Worker<'a, T, G> {
         place
     }
 
-    // Takes a job at the desk. Where the thread would wait, it gets a job to help with, after that of
-    // place `helped`, if help is of use over the table.
+    // Takes a job at the desk. Where the thread would wait, it gets a job to help with, if help is
+    // of use over the table: one whose place in the desk's list of shared jobs is above `helped`,
+    // which is what `help` returned last, or 0.
     fn take<R: Wait>(&self, rt: &R, helped: u64) -> Option<Errand<Job>>
         ensures { IfSome result (IsLater helped) }
     {
@@ -88,9 +89,9 @@ impl<'a, T: Bounds, G: Gate> Worker<'a, T, G> {
     }
 
     /// Takes jobs at the desk and solves them until the desk is done. While no job waits, it helps
-    /// with those that other threads have taken, with each once. It ends early after a job under a
-    /// scoring other than the table's, and after an answer that the desk refuses. It may wait for
-    /// other threads.
+    /// with jobs that other threads have taken, one after another, if help is of use over the
+    /// table; otherwise it waits for other threads. It ends early after a job under a scoring other
+    /// than the table's, and after an answer that the desk refuses.
     pub(crate) fn work<R: Wait>(&self, rt: &R) {
         let mut helped = 0;
         for _ in rt.forever() {

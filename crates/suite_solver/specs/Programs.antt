@@ -23,7 +23,8 @@ pub record PrintsReports (c : SettingsView) (texts : List (List ℕ)) (old new :
   pub small : first_large texts ≡ None
   pub written : Appends old new (concat (reports c.scoring (criteria_of c) texts))
 
--- the reports of the files of these names, or of standard input, were printed
+-- the reports of the files of these names were printed, or without names that of standard input,
+-- which held `given`
 pub record PrintsReportsOf (c : SettingsView) (names : List (List ℕ))
     (given old new : Option (List ℕ)) : Type 0 where
   pub texts : List (List ℕ)
@@ -37,8 +38,8 @@ pub record IsAnswered (words : List (List ℕ)) (given old new : Option (List �
   pub asked : Asks words request
   pub printed : PrintsReportsOf request.settings request.files given old new
 
--- A call of `ffosolve` ended: with 0 after printing the reports that the words ask for, and with
--- 1 or 2 before printing anything.
+-- A call of `ffosolve` ended: with 0, the words ask for help or the version, or the reports that they
+-- ask for were printed; with 1 or 2, nothing was printed on standard output.
 pub record EndsFfosolve (words : List (List ℕ)) (given old new : Option (List ℕ)) (status : ℕ)
     : Type 0 where
   pub ends : EndsProgram ffosolve 1 words old new status (IsAnswered words given old new)
@@ -77,10 +78,10 @@ NamesFileOfWords words (Program Memory) = Unit {0}
 NamesFileOfWords words (Program CannotWriteOutput) = Unit {0}
 NamesFileOfWords words error = (r : Request) × (Asks words r × NamesFileOf r error)
 
--- An error with this status ended a call for these words. Standard error held `held` when the error
--- came, the same as before the call unless progress was reported, and then got the lines of the
--- error: it holds `new` now. With `Seen` its bytes are known throughout. Unless the error is one of
--- writing, standard output is as it was.
+-- An error with this status ended a call for these words. Standard error held `old` before the call
+-- and `held` when the error came, the same unless progress was reported, and then got the lines of
+-- the error: it holds `new` now. With `Seen` its bytes are known throughout. Standard output held
+-- `given` before the call and holds `made` now, the same unless the error is one of writing.
 pub record EndsEarly (words : List (List ℕ)) (Seen : Type 0)
     (old new given made : Option (List ℕ)) (status : ℕ) : Type 0 where
   pub error : SolveError

@@ -164,11 +164,12 @@ fn carry_out<'a, T: Files + Clock + Threads + Wait + Sync, R: Read, W: Write, E:
 /// name.
 ///
 /// The status is 0 if everything is done, or if help or the version was asked for and
-/// printed; 1 if the run is refused, for memory or for the number or size of its files; 2 if
-/// the command line is refused; 3 if a file can't be read or is not a book, if standard output
-/// or the book can't be written, or if the book would destroy another file or the book that is
-/// read. An error that ends the program early is printed on standard error, as one or two lines or
-/// as clap's text; a failure of standard error changes nothing. The call may wait for its threads.
+/// printed; 1 if the run is refused, for memory or for the number or size of its files, or ends
+/// with `Mixed`; 2 if the command line is refused; 3 if a file or standard input can't be read, if
+/// the book to read is not one, if standard output or the book can't be written, or if the book
+/// would destroy another file or the book that is read. An error that ends the program early is
+/// printed on standard error, as one or two lines or as clap's text; a failure of standard error
+/// changes nothing. The call may wait for its threads.
 #[tactic(auto, using(crate::proofs::ProgramLemmas::asked_faultless))]
 pub fn program<T: Files + Clock + Threads + Wait + Sync, R: Read, W: Write, E: ErrorStream>(
     rt: &T,

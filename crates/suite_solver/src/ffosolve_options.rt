@@ -134,7 +134,7 @@ pub fn read_options(alloc: Global, words: &[&str]) -> Result<Options, OptionFaul
     let names = Scoring::names();
     let command = ffosolve_command(alloc, names.as_slice())?;
     let matches = command.try_get_matches_from(words)?;
-    // Each option has a default, and clap keeps each number in its range.
+    // Each option of the settings has a default, and clap keeps each number in its range.
     let settings = settings_of(&matches).unwrap();
     let book_in = book_name_of(alloc, &matches, "book-in")?;
     let book_out = book_name_of(alloc, &matches, "book-out")?;
