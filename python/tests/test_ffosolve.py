@@ -205,12 +205,12 @@ def test_the_library_gets_the_scoring_the_size_of_the_table_and_the_claim(settin
 def test_calls_keep_no_memory(call):
     call()
     tracemalloc.start()
-    for _ in range(100):
+    for _ in range(200):
         call()
     gc.collect()
     kept, _ = tracemalloc.get_traced_memory()
     tracemalloc.stop()
-    assert kept < 3000  # 30 bytes for each call
+    assert kept < 3000  # 15 bytes for each call
 
 
 # LISTS are refused before anything is solved: WIDE, the first position there, would take hours.
