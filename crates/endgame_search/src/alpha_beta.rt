@@ -16,6 +16,7 @@ use crate::move_order::{
     Child, ChildIndex, add_children, add_until_no_replies, indices_of, sort_children,
 };
 use crate::shallow::{MOST_SHALLOW_EMPTIES, search_shallow};
+use crate::stable_cutoff::stable_cutoff;
 use crate::table_cutoff::{
     BELOW_ALL_SCORES, enhanced_cutoff, possible_scores, probe_cutoff, store_always, store_if_deep,
 };
@@ -111,8 +112,8 @@ fn search_pass<T: Bounds>(table: &T, position: Pos, bound: i8) -> i8
     score
 }
 
-// Searches a position in which the mover has a move. A score that the table does not show by the
-// first probe is passed to `store_if_deep`.
+// Searches a position in which the mover has a move. A score that neither the first probe nor stable
+// discs show is passed to `store_if_deep`.
 #[cycle(search)]
 fn search_moves<T: Bounds>(table: &T, position: Pos, moves: u64, bound: i8) -> i8
     requires moves { moves ≡ moves_of position }
@@ -121,6 +122,9 @@ fn search_moves<T: Bounds>(table: &T, position: Pos, moves: u64, bound: i8) -> i
     ensures { IsNullWindowScore bound (value_of (T.scoring table.now) position) result }
 {
     if let Some(score) = probe_cutoff(table, position, bound) {
+        return score;
+    }
+    if let Some(score) = stable_cutoff(position, bound) {
         return score;
     }
     let score = search_by_list(table, position, moves, bound);

@@ -10,6 +10,7 @@ ghost use Rattle.endgame_search.specs.Children.{UnlistedAreAtMost};
 
 use crate::last_four::search_in_order;
 use crate::move_order::{Child, add_children, add_until_no_replies, indices_of, next_of};
+use crate::stable_cutoff::stable_cutoff;
 use crate::table_cutoff::{BELOW_ALL_SCORES, probe_cutoff};
 use arrayvec::ArrayVec;
 use bound_table::Bounds;
@@ -105,6 +106,9 @@ fn search_shallow_by_list<T: Bounds>(table: &T, position: Pos, moves: u64, bound
 {
     let mut children = ArrayVec::<Child, SHALLOW_ROOM>::new();
     if let Some(score) = probe_cutoff(table, position, bound) {
+        return score;
+    }
+    if let Some(score) = stable_cutoff(position, bound) {
         return score;
     }
     let Some(split) = add_until_no_replies(position, moves, &mut children) else {

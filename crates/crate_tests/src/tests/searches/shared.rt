@@ -72,7 +72,8 @@ impl Bounds for Others {
 }
 
 // The children of the position in the order in which they are searched while other threads search these.
-// No move is worth 64, so the window from 63 to 64 takes all of them.
+// No move is worth 36, and White has too few stable discs to show it, so the window from 35 to 36 takes
+// all of them.
 fn begun_beside(
     alloc: Global,
     position: Pos,
@@ -89,7 +90,7 @@ fn begun_beside(
         begun,
         count: Cell::new(0),
     };
-    let _ = value_in(&others, position, 63, 64);
+    let _ = value_in(&others, position, 35, 36);
     let mut order = Vec::new(alloc);
     for place in &others.begun {
         order.push(place.get())?;
