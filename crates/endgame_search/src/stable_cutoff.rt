@@ -5,11 +5,8 @@ ghost use Rattle.othello_rules.specs.declared.scoring.Scoring.{Scoring};
 ghost use Rattle.othello_bits.specs.Pos.{value_of};
 ghost use Rattle.endgame_search.specs.Windows.{IsBound, IsNullWindowScore};
 
+use crate::tuning::LEAST_COUNTED_BOUND;
 use othello_bits::Pos;
-
-// The least bound for which stable discs are counted. For a lower bound they cut so seldom that to
-// count them takes more time than the cutoffs save.
-const LEAST_COUNTED_BOUND: i8 = 20;
 
 // An upper bound of the value, under any scoring, where so many discs of the opponent stay. It is at
 // least 1, since the opponent's win is -1 under `Sign`.

@@ -8,7 +8,7 @@ ghost use Rattle.othello_rules.specs.declared.scoring.Scoring.TheVariants.{Winne
 ghost use Rattle.bound_table.specs.Range.{IsTrueOf};
 
 use super::published::MOST_ENTRIES;
-use bound_table::{BoundTable, Bounds, Foreseen, NoTable, Range, TableFault};
+use bound_table::{Advice, BoundTable, Bounds, Foreseen, NoTable, Range, TableFault};
 use othello_bits::{Pos, Sym};
 use othello_rules::{Scoring, Side};
 use std::process::Abort;

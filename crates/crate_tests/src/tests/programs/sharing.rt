@@ -3,7 +3,7 @@
 ghost use Rattle.std.specs.Prelude.{◌≡◌};
 
 use super::runs::{files_of, settings_of, texts_of};
-use bound_table::{BoundTable, Bounds, Foreseen, Range};
+use bound_table::{Advice, BoundTable, Bounds, Foreseen, Range};
 use job_board::Desk;
 use othello_bits::Pos;
 use othello_rules::Scoring;
@@ -56,7 +56,9 @@ impl Bounds for Counter {
         self.stores.fetch_add(1, Ordering::SeqCst);
         self.table.store(position, range);
     }
+}
 
+impl Advice for Counter {
     fn is_worth_sharing(&self) -> bool {
         self.visits.fetch_add(1, Ordering::SeqCst);
         self.table.is_worth_sharing()

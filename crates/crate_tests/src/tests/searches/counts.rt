@@ -4,7 +4,7 @@
 ghost use Rattle.std.specs.Prelude.{◌≡◌};
 
 use super::super::worked::{Discs, pos_of, task_of};
-use bound_table::{BoundTable, Bounds, Range};
+use bound_table::{Advice, BoundTable, Bounds, Range};
 use endgame_search::{Task, solve};
 use othello_bits::Pos;
 use othello_rules::{Scoring, Side};
@@ -36,7 +36,9 @@ impl Bounds for Counter {
         self.stores.set(self.stores.get().wrapping_add(1));
         self.table.store(position, range);
     }
+}
 
+impl Advice for Counter {
     fn note_evaluation(&self) {
         self.evaluations.set(self.evaluations.get().wrapping_add(1));
     }

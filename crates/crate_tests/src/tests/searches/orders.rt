@@ -7,7 +7,7 @@ use super::{
     EQUAL_CORNERS, FOUR_WITH_UNEQUAL_REPLIES, OPEN_CORNERS, UNEQUAL_CORNERS, after, is_first_enough,
 };
 use arrayvec::ArrayVec;
-use bound_table::{Bounds, NoTable, Range};
+use bound_table::{Advice, Bounds, NoTable, Range};
 use endgame_search::value_in;
 use othello_bits::Pos;
 use othello_rules::{Scoring, Side, Square};
@@ -22,6 +22,8 @@ struct OrderNoter {
     met: Cell<usize>,
     is_mixed: Cell<bool>,
 }
+
+impl Advice for OrderNoter {}
 
 impl Bounds for OrderNoter {
     ghost scoring = { λ noter. Winner };

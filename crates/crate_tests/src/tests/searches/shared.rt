@@ -3,7 +3,7 @@
 ghost use Rattle.othello_rules.specs.declared.scoring.Scoring.TheVariants.{Winner};
 
 use super::super::worked::{Discs, pos_of};
-use bound_table::{BoundTable, Bounds, Range};
+use bound_table::{Advice, BoundTable, Bounds, Range};
 use endgame_search::value_in;
 use othello_bits::Pos;
 use othello_rules::{Scoring, Side};
@@ -54,7 +54,9 @@ impl Bounds for Others {
     fn store(&self, position: &Pos, range: Range) {
         self.table.store(position, range);
     }
+}
 
+impl Advice for Others {
     fn begin(&self, position: &Pos) {
         if position.empties() != self.empties {
             return;
