@@ -9,13 +9,13 @@
 pub(crate) const MOST_EMPTIES_IN_ORDER: u8 = 4;
 
 // The most empty squares of a position that `shallow` searches. The compiler makes a list of 7
-// children in place, and one of 8 by a function call; with fewer, more positions go the slower way
-// of `alpha_beta`.
+// children in place, and one of 8 by a function call; with fewer, more lists are sorted, which takes
+// longer than to pick from them.
 pub(crate) const MOST_SHALLOW_EMPTIES: u8 = 7;
 
 // The fewest empty squares of a position that is stored. With 8 or 9 fewer positions are searched,
-// in more time: to search one again takes less than to find it in the table. With 11 or 12 up to
-// 1.17 times as many are searched.
+// in no less time, since to find one in the table takes as long as to search it again. With 11 or
+// 12, up to 1.17 times as many are searched.
 pub(crate) const FEWEST_STORED: u8 = 10;
 
 // The fewest empty squares of a position whose children are probed before one of them is searched.
@@ -55,8 +55,8 @@ pub(crate) const SQUARE_ORDER: [u8; 64] = [
 // The order by worth
 
 // The fewest empty squares of a position whose children are sorted by what they are worth; with
-// fewer than `FEWEST_SHARED_OUT` none are. With 11 or 13, 0.96 and 1.05 times as many positions are
-// searched, in about the same time.
+// fewer than `FEWEST_SHARED_OUT` none are. With 13, 1.05 times as many positions are searched, in
+// about the same time; with 11, 0.96, but to foresee takes more time than that saves.
 pub(crate) const FEWEST_JUDGED: u8 = 12;
 
 // How many plies are foreseen after a move, by the empty squares before it. Without plies 1.4 times
@@ -100,7 +100,7 @@ pub(crate) fn corner_worth(empties: u8) -> u16 {
     17 * u16::from(empties) / 4 + 4
 }
 
-// The turn.
+// The turn, to be the one to move: it is worth more while more squares are empty, too.
 #[inline(always)]
 pub(crate) fn turn_worth(empties: u8) -> i32 {
     9 * i32::from(empties) / 2 - 40
@@ -109,19 +109,19 @@ pub(crate) fn turn_worth(empties: u8) -> i32 {
 // The first guess
 
 // The fewest empty squares of a position whose value is guessed before it is searched. With fewer, a
-// guess takes time that a short search has to win back.
+// guess takes time that a short search has to win back; that was not measured.
 pub(crate) const FEWEST_GUESSED: u8 = 14;
 
 // How many plies a guess looks ahead at most. 4 or 8 gain nothing.
 pub(crate) const MOST_PLIES_OF_GUESS: u8 = 6;
 
-// How many empty squares a guess leaves at least. With 6, as many plies as that allows took 0.64 to
-// 1.31 times as many positions, by the position.
+// How many empty squares a guess leaves at least. With fewer, it looks further ahead, and takes
+// longer; that was not measured.
 pub(crate) const LEFT_BY_GUESS: u8 = 10;
 
 // By how many discs a guess is nearer to 0 than the value that is foreseen. Windows beyond the value
-// take longest: with 0, a position took 1.7 times as long. With 12 and more a search climbs through
-// more windows: up to 1.2 times as many positions.
+// take longest: with 0, a position took 1.7 times as long. With 4, 6, 12 or 16, 1.0 to 1.2 times as
+// many positions are probed.
 pub(crate) const GUESS_LESS: u8 = 8;
 
 // Threads that search one position
@@ -138,9 +138,9 @@ pub(crate) const FEWEST_SHARED_OUT: u8 = 12;
 // How many children, the eldest ones, each thread searches in their order, by the empty squares of
 // their parent. If none of them is worth more than the bound, all others most likely have to be
 // searched ("young brothers wait": Feldmann, Mysliwietz, Monien and Vornberger, 1989). With more,
-// threads search the same; with fewer, children that need not be searched. From 16 empty squares on,
-// four threads stored and evaluated 1.35 and 1.59 times as much with three, 1.25 and 1.34 with two,
-// 1.26 and 1.28 with one.
+// threads search the same; with fewer, children that need not be searched. On FFO 40 to 42, 44 and
+// 47, shared from 16 empty squares on, four threads stored and evaluated 1.35 and 1.59 times as much
+// as one with three eldest children, 1.25 and 1.34 with two, 1.26 and 1.28 with one.
 pub(crate) fn eldest_children(empties: u8) -> u8 {
     match empties {
         0..=15 => 1,
@@ -149,6 +149,6 @@ pub(crate) fn eldest_children(empties: u8) -> u8 {
     }
 }
 
-// The fewest plies that threads foresee together. With fewer, notes take the place of others; with
-// more, threads foresee the same.
+// The fewest plies that threads foresee together. With fewer, more notes take the place of others;
+// with more, threads foresee the same. It was not measured.
 pub(crate) const FEWEST_PLIES_TOGETHER: u8 = 2;
