@@ -14,7 +14,8 @@ use Rattle.program_parts.specs.CommandLine.{IsFaultless}
 use Rattle.program_parts.specs.Inputs.{AreFrontsOf}
 use Rattle.program_parts.specs.ProgramError.{error_text}
 use Rattle.program_parts.specs.declared.program_error.ProgramError.{ProgramError}
-use Rattle.program_parts.specs.declared.program_error.ProgramError.TheVariants.{Memory, BadInput, BadWords, CannotReadInput, CannotRead, CannotWrite, CannotWriteOutput}
+use Rattle.program_parts.specs.declared.program_error.ProgramError.TheVariants.{BadInput, BadWords, CannotRead}
+use Rattle.program_parts.specs.declared.program_error.ProgramError.TheVariants.{CannotReadInput, CannotWrite, CannotWriteOutput, Memory}
 use Rattle.program_parts.proofs.EndingLemmas.{not_one, whole_texts}
 
 -- what was read is lists, where no limit is passed

@@ -22,9 +22,7 @@ ghost use Rattle.program_settings.specs.declared.input_fault.InputFault.{InputFa
 use crate::exit_status::print_error;
 use crate::ffosolve_options::{Options, read_options};
 use crate::progress::solve_with_progress;
-use book_files::{
-    BookPlace, Found, NewFile, SolveError, find_place, read_claims, ready_book, write_book,
-};
+use book_files::{BookPlace, NewFile, SolveError, find_place, read_claims, ready_book, write_book};
 use program_parts::{ErrorStream, OptionFault, ProgramError, end_without_options, read_files};
 use program_settings::check_files;
 use solved_book::Claims;
@@ -61,11 +59,11 @@ fn solve_and_print<'a, T: Files + Clock + Threads + Wait + Sync, W: Write, E: Wr
     asked: &Options,
     texts: &[Vec<u8>],
     claims: Option<&Claims>,
-    place: &Option<BookPlace<'a>>,
+    place: Option<BookPlace<'a>>,
     output: &mut W,
     errors: &mut E,
 ) -> Result<Option<NewFile<'a>>, SolveError<'a>>
-    requires { IfSome place.now (λ p. IsFree p.found) }
+    requires { IfSome place (λ p. IsFree p.found) }
     ensures reported { OnOk result (PrintsReports asked.now.settings (texts_of texts.now)
         (W.contents output.old) (W.contents output.new)) }
     ensures silent { IfErr result
@@ -78,9 +76,9 @@ fn solve_and_print<'a, T: Files + Clock + Threads + Wait + Sync, W: Write, E: Wr
     ensures book { IfOk result (λ book. IfSome book (λ file. (files : SolvedFiles)
         × (AreFilesOf asked.now.settings (texts_of texts.now) files)
         × (IsBookTextOf files file.text.items))) }
-    ensures placed { IfOk result (λ book. book ≡ None ↔ place.now ≡ None) }
-    ensures name { IfOk result (λ book. IfSome book
-        (λ file. IfSome place.now (λ p. file.name ≡ p.name))) }
+    ensures placed { IfOk result (λ book. book ≡ None ↔ place.entry ≡ None) }
+    ensures place { IfOk result (λ book. IfSome book
+        (λ file. IfSome place.entry (λ p. file.place ≡ p))) }
     ensures error { IfErr result (NamesFileOf (request_of asked.now)) }
     ensures unbooked { IfErr result (λ error. IsBookUnwritten error → ⊥) }
     ensures limits { IfErr result
@@ -118,6 +116,10 @@ fn place_of_run<'a, T: Files>(
 ) -> Result<Option<BookPlace<'a>>, SolveError<'a>>
     ensures named { IfOk result (λ place. option_map (λ p. p.name.now) place
         ≡ option_map string_bytes asked.now.book_out) }
+    ensures book_in { IfOk result (λ place. IfSome place
+        (λ p. p.book_in.now ≡ asked.now.book_in)) }
+    ensures lists { IfOk result (λ place. IfSome place
+        (λ p. p.lists.now ≡ asked.now.files.items)) }
     ensures free { IfOk result (λ place. IfSome place (λ p. IsFree p.found)) }
     ensures files { (fault : InputFault) → refusal_of (texts_of texts.now) ≡ Some fault
         → IsErrOf result (Program (BadInput fault)) }
@@ -133,13 +135,13 @@ fn place_of_run<'a, T: Files>(
         return Ok(None);
     };
     let name = name.as_str();
-    let found = Found::under(rt, name, &asked.book_in, &asked.files);
-    Ok(Some(find_place(rt, alloc, name, found)?))
+    let place = find_place(rt, alloc, name, &asked.book_in, &asked.files)?;
+    Ok(Some(place))
 }
 
 // Reads the book and then the files, tests them and the place of the book to be written, solves,
 // prints the reports, and writes the book.
-#[tactic(auto, using(crate::proofs::ProgramLemmas::silent_not_book, crate::proofs::ProgramLemmas::of_none, crate::proofs::LimitLemmas::book_unlimited, crate::proofs::LimitLemmas::read_unlimited, crate::proofs::LimitLemmas::limit_of_files))]
+#[tactic(auto, using(crate::proofs::ProgramLemmas::silent_not_book, crate::proofs::ProgramLemmas::of_none, crate::proofs::LimitLemmas::limit_of_files))]
 fn carry_out<'a, T: Files + Clock + Threads + Wait + Sync, R: Read, W: Write, E: Write + Send>(
     rt: &T,
     alloc: Global,
@@ -177,7 +179,7 @@ fn carry_out<'a, T: Files + Clock + Threads + Wait + Sync, R: Read, W: Write, E:
         asked,
         &texts,
         claims.as_ref(),
-        &place,
+        place,
         output,
         errors,
     )?;

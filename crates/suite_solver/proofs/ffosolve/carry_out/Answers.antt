@@ -1,8 +1,8 @@
-use Rattle.std.proofs.Common.{◌≡◌}
+use Rattle.std.proofs.Common.{◌≡◌, rules}
 use Rattle.program_parts.specs.Inputs.{names_of}
 use Rattle.obf_text.specs.LineText.{texts_of}
 use Rattle.suite_solver.specs.Programs.{PrintsReportsOf, StopsReports}
-use Rattle.suite_solver.proofs.LimitLemmas.{written_unlimited}
+use Rattle.suite_solver.proofs.LimitLemmas.{book_unlimited, read_unlimited, written_unlimited}
 use Rattle.suite_solver.proofs.ProgramLemmas.{booked, not_refused, on_err, on_ok, error_late, stops_at_end, stops_of_files}
 use Rattle.program_parts.proofs.EndingLemmas.{whole_texts}
 use Rattle.suite_solver.proofs.ffosolve.carry_out.Goals as goal
@@ -56,6 +56,12 @@ returns-in_err-book-clause-stopped g c =
     let fronts = rw c.deref.ensures.value at c.in_ok-texts.ensures.ok in
     on_err c.from_residual-in_err-book.result _
     (stops_of_files _ _ _ _ _ texts fronts (rw c.deref-3.ensures.value at c.in_err-book.ensures.front))
+
+pub returns-in_err-claims-clause-limits : goal.returns-in_err-claims-clause-limits
+returns-in_err-claims-clause-limits g c = search (rules, book_unlimited)
+
+pub returns-in_err-texts-clause-limits : goal.returns-in_err-texts-clause-limits
+returns-in_err-texts-clause-limits g c = search (rules, read_unlimited)
 
 pub returns-clause-limits : goal.returns-clause-limits
 returns-clause-limits g c = written_unlimited c.write_book.result _ c.write_book.ensures.late
