@@ -21,7 +21,7 @@ levels = x86-64-v2 x86-64-v3
 programs = ffosolve ffoscores
 scripts = ffosolve-many ffosolve-games
 exported = ffosolve_*
-version := $(firstword $(subst +, ,$(file <VERSION)))# a copy of the sources that `make deb` packs has more in it
+version := $(firstword $(subst .dev, ,$(subst +, ,$(file <VERSION))))# VERSION has more in it before a release, and in what `make deb` packs
 major := $(firstword $(subst ., ,$(version)))
 
 $(if $(filter $(levels),$(CPU)),,$(error CPU is $(CPU), but has to be one of: $(levels)))

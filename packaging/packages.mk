@@ -1,7 +1,8 @@
 # Makes packages from a clean checkout, with programs and libraries for both levels of processors. They are put together
 # in a temporary folder, since rt refuses a checkout with links.
 
-# The version of a package: VERSION and, if commits came after its last change, their number and the last commit.
+# The version of a package: VERSION and, if commits came after its last change, their number and the last commit. One
+# before a release has `.dev` in it, and for Debian `~dev`, so that it is older than the release.
 package = $(eval package := $(or $(shell $(python) python/src/ffosolve/_version.py 2>/dev/null),$(version)))$(package)
 archive = ffosolve-$(package)-linux-x86-64
 git = git --git-dir='$(CURDIR)/.git'# not the repository of a folder above
@@ -58,7 +59,7 @@ deb: commit levels ## makes packages for Debian: out/ffosolve_VERSION_amd64.deb,
 	$(git) ls-files -z | xargs -0 cp -p --parents -t "$$copy"
 	cp -pr --parents $(levels:%=out/%) "$$copy"
 	$(call texts,$$copy)
-	printf '%s\n' 'ffosolve ($(package)) unstable; urgency=medium' '' '  * CHANGELOG.md, in the package ffosolve, says what is new.' '' \
+	printf '%s\n' 'ffosolve ($(subst .dev,~dev,$(package))) unstable; urgency=medium' '' '  * CHANGELOG.md, in the package ffosolve, says what is new.' '' \
 	    " -- Gimzolens <ffosolve@gimzolens.invalid>  $$(date -Rud "@$(seconds)")" >"$$copy/debian/changelog"
 	echo '$(package)' >"$$copy/VERSION"
 	touch -r LICENSE "$$copy/VERSION"
