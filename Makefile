@@ -218,4 +218,4 @@ include packaging/packages.mk
 help: ## lists the targets
 	sed -n 's/^\([a-z-]*\):.*## /make \1	/p' $(MAKEFILE_LIST) | expand -t 20
 
-.PHONY: all levels library constants look check tools install uninstall commit stage dist deb wheel help always
+.PHONY: all levels library constants look check tools install uninstall commit stage dist deb needs wheel help always

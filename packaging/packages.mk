@@ -52,7 +52,8 @@ dist: commit levels ## makes out/ffosolve-VERSION-linux-x86-64.tar.gz, which run
 	(cd out && sha256sum $(archive).tar.gz >$(archive).tar.gz.sha256)
 
 # dpkg-buildpackage runs debian/rules in a copy of the checkout, with a changelog and a VERSION that only make knows.
-deb: commit levels ## makes packages for Debian: out/ffosolve_VERSION_amd64.deb, out/libffosolve1_VERSION_amd64.deb, ..
+deb: commands = dpkg-buildpackage:dpkg-dev
+deb: commit tools needs levels ## makes packages for Debian: out/ffosolve_VERSION_amd64.deb, out/libffosolve1_VERSION_amd64.deb, ..
 	$(begin)
 	copy="$$room/ffosolve"
 	mkdir "$$copy"
@@ -65,6 +66,10 @@ deb: commit levels ## makes packages for Debian: out/ffosolve_VERSION_amd64.deb,
 	touch -r LICENSE "$$copy/VERSION"
 	said=$$(cd "$$copy" && PATH=/usr/sbin:/usr/bin:/sbin:/bin dpkg-buildpackage --build=binary --unsigned-changes 2>&1) || { echo "$$said" | tail -n 20 >&2; exit 1; }
 	$(call finish,*.deb)
+
+# Names missing packages before anything is proved.
+needs:
+	dpkg-checkbuilddeps || { echo 'apt-get build-dep ./ installs them' >&2; exit 4; }
 
 wheel: modules = hatchling
 wheel: commit tools levels ## makes out/ffosolve-VERSION-py3-none-manylinux_2_34_x86_64.whl, the package for Python with programs and library

@@ -335,6 +335,17 @@ def test_without_a_commit_of_all_files_no_package_is_made(folder, target):
     assert not Path("copy/out").exists()
 
 
+def test_missing_packages_are_named_before_anything_is_proved(folder):
+    why = "dpkg-checkbuilddeps: error: unmet build dependencies: one"
+    run("cp", "-r", *(ROOT / name for name in ("Makefile", "packaging", "VERSION")), folder, check=True)
+    write("tools/dpkg-checkbuilddeps", f"#!/bin/sh\necho '{why}' >&2\nexit 1\n")
+    write("tools/rt", "#!/bin/sh\necho proves >&2\nexit 1\n")
+    run("sh", "-euc", COMMIT_ALL, check=True)
+    ran = run(*MAKE, "deb", env={**os.environ, "PATH": f"{folder}/tools:{os.environ['PATH']}"}, text=True)
+    assert (ran.returncode, ran.stdout) == (2, "")
+    assert ran.stderr.startswith(f"{why}\napt-get build-dep ./ installs them\nmake: "), ran
+
+
 @pytest.fixture(scope="module")
 def packages(dist):
     """Returns the paths of the packages for Debian, by their names."""
