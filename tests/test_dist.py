@@ -364,6 +364,14 @@ def test_lintian_finds_nothing_but_functions_that_gcc_would_guard(packages):
     assert (ran.returncode, tags) == (0, {"I: ffosolve: hardening-no-fortify-functions"}), ran
 
 
+def test_packages_have_the_programs_that_make_has_linked(dist, packages, folder):
+    run("dpkg-deb", "-x", packages["ffosolve"], "root", check=True)
+    for level, name in itertools.product(LEVELS, ("ffosolve", "ffoscores")):
+        linked = (dist.first / "out" / level / name).read_bytes()
+        for place in (dist.unpacked / "lib", Path("root/usr/lib")):
+            assert (place / f"ffosolve/{name}-{level}").read_bytes() == linked, (place, name, level)
+
+
 def test_versions_are_between_releases_in_the_order_of_commits(dist, packages):
     for package in packages.values():
         ends((0, f"{for_debian(dist.version)}\n", ""), "dpkg-deb", "-f", package, "Version")
