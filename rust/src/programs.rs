@@ -9,11 +9,10 @@ use std::os::unix::io::{AsRawFd, FromRawFd, OwnedFd};
 use std::os::unix::net::UnixStream;
 use std::os::unix::process::{parent_id, CommandExt, ExitStatusExt};
 use std::path::{Path, PathBuf};
-use std::process::{self, Child, Command};
+use std::process::{self, Child, Command, ExitStatus};
 use std::time::{Duration, Instant};
 
-// Calls of the C library, which `std` links, with numbers of Linux on x86-64. The crate `libc` has them too, but
-// nobody gets that without a registry.
+// Calls of the C library, which `std` links. The crate `libc` has them, too, but nobody gets that without a registry.
 const PR_SET_PDEATHSIG: c_int = 1;
 const SIGINT: c_int = 2;
 const SIGKILL: c_ulong = 9;
@@ -40,8 +39,7 @@ pub(crate) fn left(end: Option<Instant>) -> Result<Option<Duration>, Error> {
     }
 }
 
-/// What a call asks of a program: its options, with blanks between them; the text of its book, if it has one; and when
-/// it has to end.
+/// What a call asks of a program: its options, between blanks, the text of a book if there is one, and when it ends.
 pub(crate) struct Asked {
     pub(crate) options: String,
     pub(crate) book: Option<String>,
@@ -111,8 +109,8 @@ impl Asked {
         Err(Error::NoProgram { name, version })
     }
 
-    /// Runs a program with options, which have blanks between them, and a list as its input. Returns its status, or minus the number of the signal that ended it,
-    /// and what it printed on both outputs. The error is of kind `TimedOut` if it does not end in time.
+    /// Runs a program with options and a list. Returns its status, or minus the number of the signal that ended it, and
+    /// what it printed on both outputs. If it does not end in time, the error is of kind `TimedOut`.
     fn run(&self, path: &Path, options: &str, list: &str) -> io::Result<(i32, String)> {
         let ((mut ours, theirs), book, parent) = (UnixStream::pair()?, self.book.as_deref(), process::id());
         let book_file = file_of(book.unwrap_or(""))?;
@@ -133,8 +131,9 @@ impl Asked {
                 Err(why) => return Err(why),
             }
         }
-        let status = running.0.wait()?;
-        let status = status.code().unwrap_or_else(|| -status.signal().unwrap_or(0));
+        // Where SIGCHLD is ignored, no status is known.
+        let of_status = |status: ExitStatus| status.code().unwrap_or_else(|| -status.signal().unwrap_or(0));
+        let status = running.0.wait().map_or(0, of_status);
         Ok((status, String::from_utf8_lossy(&printed).into_owned()))
     }
 }
