@@ -362,8 +362,7 @@ def called(installed):
 
 @pytest.mark.parametrize("words, workers", ((["3"], 2), (["1", "60"], 0), (["99"], 64)))
 def test_programs_get_the_options_the_claim_and_lists_for_several_threads_or_a_timeout(called, words, workers):
-    """Since SIGCHLD is ignored, the system does not keep their statuses."""
-    printed, notes = called(*words, preexec_fn=lambda: signal.signal(signal.SIGCHLD, signal.SIG_IGN))
+    printed, notes = called(*words)
     answer, line = "Answer { score: -1, best: Moves(Squares(D3,C4)) }", ffosolve.START.to_obf()
     assert printed == [answer, answer, "[(D3, -1), (C4, 1)]", "15001"]
     options = f"--workers={workers} --table=1000000 --scoring=sign --max-empties=60"

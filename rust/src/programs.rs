@@ -9,7 +9,7 @@ use std::os::unix::io::{AsRawFd, FromRawFd, OwnedFd};
 use std::os::unix::net::UnixStream;
 use std::os::unix::process::{parent_id, CommandExt, ExitStatusExt};
 use std::path::{Path, PathBuf};
-use std::process::{self, Child, Command, ExitStatus};
+use std::process::{self, Child, Command};
 use std::time::{Duration, Instant};
 
 // Calls of the C library, which `std` links. The crate `libc` has them, too, but nobody gets that without a registry.
@@ -131,9 +131,8 @@ impl Asked {
                 Err(why) => return Err(why),
             }
         }
-        // Where SIGCHLD is ignored, no status is known.
-        let of_status = |status: ExitStatus| status.code().unwrap_or_else(|| -status.signal().unwrap_or(0));
-        let status = running.0.wait().map_or(0, of_status);
+        let status = running.0.wait()?;
+        let status = status.code().unwrap_or_else(|| -status.signal().unwrap_or(0));
         Ok((status, String::from_utf8_lossy(&printed).into_owned()))
     }
 }
