@@ -1,5 +1,6 @@
 """Programs that use the library, built and run as documented, and the packages for Python and Rust."""
 import email
+import functools
 import inspect
 import os
 import random
@@ -341,20 +342,21 @@ def test_the_library_gets_the_scoring_the_table_and_the_claim_that_were_asked_fo
 
 @pytest.fixture(scope="module")
 def called(installed):
-    """A function that runs CALLED_IN_RUST, by default for a game's start, with made-up programs, which do `acts` and
-    are of the version `of`. Beside the library that it is linked with, there is no program. Returns the lines that it
-    prints, and the programs' notes."""
-    alone, notes = write(PREFIX.work / "alone/libffosolve.a", PREFIX.archive.read_bytes()).parent, PREFIX.work / "notes"
-    client = PREFIX.rust_client("called", CALLED_IN_RUST, FFOSOLVE_LIB_DIR=str(alone))
-    for name in ("ffosolve", "ffoscores"):
-        write(PREFIX.work / "noting" / name, NOTING)
-        write(PREFIX.work / "noting/not executable" / name, "")
+    """A function that runs CALLED_IN_RUST, by default for a game's start, with made-up programs that do `acts` and are
+    of the version `of`. They are on the path, after files that can't be run, or elsewhere, in `folder`. The library is
+    in `place`. Returns the lines that it prints, and the programs' notes."""
+    @functools.cache
+    def client(place):
+        library = write(PREFIX.work / place / "libffosolve.a", PREFIX.archive.read_bytes()).parent
+        return PREFIX.rust_client(f"called-{len(place)}", CALLED_IN_RUST, FFOSOLVE_LIB_DIR=str(library))
 
-    def call(*words, acts="", of=VERSION, line=ffosolve.START.to_obf(), **how):
-        notes.write_text("")
-        path = f"{PREFIX.work}/noting/not executable:{PREFIX.work}/noting:/usr/bin:/bin"
-        env = {"PATH": path, "ACTS": acts, "OF": of, "NOTES": str(notes)}
-        ran = PREFIX.make(client, line, *words, env=env, **how)
+    def call(*words, acts="", of=VERSION, line=ffosolve.START.to_obf(), place="alone", folder="noting", **how):
+        notes, path = write(PREFIX.work / "notes", ""), f"{PREFIX.work}/wrong:{PREFIX.work}/noting:/usr/bin:/bin"
+        for name in ("ffosolve", "ffoscores"):
+            write(PREFIX.work / folder / name, NOTING)
+            write(PREFIX.work / "wrong" / name, "")
+        env = {"PATH": path if folder == "noting" else "/usr/bin:/bin", "ACTS": acts, "OF": of, "NOTES": str(notes)}
+        ran = PREFIX.make(client(place), line, *words, env=env, **how)
         return ran.stdout.splitlines(), notes.read_text().splitlines()
 
     return call
@@ -373,11 +375,19 @@ def test_programs_get_the_options_the_claim_and_lists_for_several_threads_or_a_t
         f" 1 {line}"]
 
 
+@pytest.mark.parametrize("place, folder", (
+    ("a/lib64", "a/bin"), ("b/lib/x86_64-linux-gnu", "b/bin"), ("c/library", "c"), ("beside", "beside")))
+def test_programs_are_found_by_the_place_of_the_library(called, place, folder):
+    assert called("3", place=place, folder=folder)[0][-1] == "15001"
+
+
 @pytest.mark.parametrize("words, how, why", (
     (["3"], {"of": "9.9.9"}, f"no process can be started: NAME {VERSION} is neither beside ALONE nor on the path"),
     (["3"], {"acts": "kill -9 $$"}, "the process that solved ended with status -9"),
     (["3"], {"acts": '[ "$1" = --version ] || exit 3'}, "the process that solved ended with status 3"),
     (["3"], {"acts": '[ "$1" = --version ] || exit 0'}, "the process that solved ended with status 0"),
+    (["3"], {"acts": "[ $1 = --version ] || { NOTES=$NOTES.not; trap 'exit 3' EXIT; }"},
+     "the process that solved ended with status 3"),
     (["3"], {"acts": '[ "$1" = --version ] || { echo "$name: out of memory" >&2; exit 1; }'}, "out of memory"),
     (["3"], {"preexec_fn": limited(RLIMIT_NOFILE=5)}, "no process can be started: Too many open files (os error 24)"),
     (["1", "0"], {}, "not finished within the timeout"),
@@ -390,7 +400,8 @@ def test_a_call_without_its_program_or_time_is_refused_with_the_reason(called, w
     assert called(*words, **how) == ([why.replace("NAME", name) for name in names], [])
 
 
-@pytest.mark.parametrize("words, empties, calls", ((["3"], 14, 3), (["1", "60"], 14, 3), (["1"], 15, 4)))
+@pytest.mark.parametrize("words, empties, calls", (
+    (["3"], 14, 3), (["1", "60"], 14, 3), (["3"], 15, 0), (["1", "60"], 15, 0), (["1"], 15, 4)))
 def test_brief_calls_and_those_of_one_thread_without_a_timeout_need_no_program(called, words, empties, calls):
     ((own, opp),) = random_positions(1, [empties])
     line = ffosolve.Position(own, opp).to_obf()

@@ -1,8 +1,8 @@
 //! Makes each call with good and with bad arguments.
 use ffosolve::*;
 use std::collections::HashSet;
-use std::thread;
 use std::time::{Duration, Instant};
+use std::{fs, thread};
 
 const LINE: &str = "-OXXXXX-XXXXXXXOXXXXXXXXXXXXXXXXXXXOXXXXXXXXXXXXXXXXXXXXXXXXXXXX X; H1:+62;";
 const ANSWER: Answer = Answer { score: 62, best: Best::Moves(Squares(0x80)) };
@@ -113,6 +113,7 @@ fn a_call_ends_at_its_timeout() {
         assert_eq!(solver.confirm(hopeless, ANSWER), Err(Error::TimedOut));
         assert_eq!(solver.move_scores(hopeless), Err(Error::TimedOut));
         assert_eq!(solver.solve(corners()).is_ok(), milliseconds > 0);
+        assert_eq!(fs::read_to_string("/proc/thread-self/children").expect("processes"), "");
     }
     assert!(begun.elapsed() < Duration::from_secs(60));
 }
