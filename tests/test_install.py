@@ -238,8 +238,8 @@ def test_the_version_rises_with_the_first_change_after_a_release():
 
 def test_programs_pages_library_and_texts_have_the_version_of_the_file_version(place):
     place.install()
-    for name in COMMANDS:
-        ends((0, f"{name} {VERSION}\n", ""), place.root / "bin" / name, "--version")
+    for name, version in zip(COMMANDS, (VERSION, VERSION, WRITTEN, WRITTEN)):
+        ends((0, f"{name} {version}\n", ""), place.root / "bin" / name, "--version")
         page = (place.root / f"share/man/man1/{name}.1").read_text()
         assert page.startswith(f'.TH {name.upper()} 1 "" "ffosolve {VERSION}"'), page[:99]
     for path, text in (
