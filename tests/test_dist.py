@@ -391,7 +391,7 @@ def test_they_have_what_the_archive_has_and_run_when_unpacked(dist, packages, fo
             wanted.add(re.sub("^lib/(?!ffosolve/)", "lib/x86_64-linux-gnu/", name))
     for name in files_below(dist.unpacked / "share/ffosolve/python/src"):
         wanted.add(f"lib/python3/dist-packages/{name}")
-    wanted |= {f"{documents}/{name}" for name in ("README.md", "PROVED")}
+    wanted |= {f"{documents}/{name}" for name in ("README.md", "PROVED")} | {"share/lintian/overrides/ffosolve"}
     wanted |= {f"share/doc/libffosolve-dev/{name}" for name in ("library.md", *(
         f"examples/{name}" for name in files_below(dist.first / "examples")))}
     wanted |= {f"share/doc/{name}/{file}" for name in PACKAGES for file in ("copyright", "changelog.gz")}
