@@ -14,7 +14,8 @@ from bench import player
 from tests.games import (NAMES, PROGRAM, SQUARE_BYTES, discs_of_black, games, line_of, masks_after, positions_of,
                          random_games, reads, real_score, record, squares_of, transcript, transcript_rows, wthor)
 from tests.support import MOST_BYTES, cannot_write, ends, limited, run, write
-from ffosolve import Game, GameRefused, Solver, __version__, read_games
+from ffosolve import START, Game, GameRefused, Solver, __version__, read_games
+from ffosolve._transcripts import result_fits
 
 RANDOM = random_games(1000, seed=53)
 KNOWN = list(map(positions_of, RANDOM))
@@ -57,10 +58,11 @@ GGF = "(;GM[Othello]PC[GGS/os]DT[2003.12.15_13:24:03.MST]PB[\\]W[a1]PW[B[b]RB[21
 GGF_BOARD = "BO[8 --------  --------  --------  ---O*---  ---*O---  --------  --------  -------- *]"
 
 
-def ggf(game, first=GGF_BOARD, with_passes=True):
-    """Returns a random game in GGF, as https://skatgame.net/mburo/ggsa/ggf shows it, with a blank after some moves."""
+def ggf(game, first=GGF_BOARD, with_passes=True, begin=0):
+    """Returns a random game in GGF, as https://skatgame.net/mburo/ggsa/ggf shows it, with a blank after some moves. Its
+    moves are those from the number `begin` on."""
     moves = ""
-    for at, square in enumerate(game):
+    for at, square in [*enumerate(game)][begin:]:
         if square is not None or with_passes:
             name = "PA" if square is None else NAMES[square].lower() if at % 3 else NAMES[square]
             moves += f"{'BW'[at % 2]}[{name}{('', '/-1.00', ' /2.5/0.01', '//0.01')[at % 4]}]"
@@ -78,15 +80,22 @@ REFUSED = (  # transcript, move, reason
     *((text, move, f"'{word}' is not a square") for text, move, word in (
         ("F5 D6 C5 z9", 4, "z9"), ("f5d6i1c3", 3, "i1"), ("f5d6c3d3c4f4c5b3c2\ufffd", 10, "\ufffd"))),
     ("(;GM[Othello]B[f5]B[d6];)", 2, f"a pass is not a legal move for White in {player.line(*F5[59])}"),
-    (f"2 {ggf(GAME)}{ggf(GAME)}", None, "a line has one game, but this has several in GGF"),
+    (f"{ggf(GAME)}(;GM[Othello]", None, "it begins like a game in GGF, but does not end with `;)`"),
     ("(;GM[Othello]PC[GGS/os])", None, "it begins like a game in GGF, but does not end with `;)`"),
     *((text, None, "it is a game in SGF, or in GGF without GM[Othello]")
       for text in ("(;GM[2]B[f5]W[d6];)", "(;FF[4]GM[2]SZ[8];B[f5];W[d6])")),
     *((f"f5 {marked} c3", None, f"{marked} has a mark, but a transcript has only moves, as f5d6c3")
       for marked in ("d6!", "d6 ?")),
-    *((ggf(GAME, GGF_BOARD.replace(*other)), None, "it is in GGF, and does not begin from the usual position")
-      for other in (("O*", "OO"), (" *]", " O]"))),
+    *((ggf(GAME, board), None, "it is in GGF, and BO does not tell a board of 8 by 8 squares")
+      for board in (GGF_BOARD.replace("8 ", "10 "), GGF_BOARD.replace(" *]", "]"), "TY[s8r20]")),
 )
+
+
+def discs_at_end(game):
+    """How many discs Black and White have after the last move."""
+    found = positions_of(game)
+    own, opp, is_black = found[min(found)]
+    return [mask.bit_count() for mask in ((own, opp) if is_black else (opp, own))]
 
 
 def test_a_wrong_transcript_is_reported_and_the_others_are_printed():
@@ -96,7 +105,8 @@ def test_a_wrong_transcript_is_reported_and_the_others_are_printed():
     out = "".join(line_of(found[58], f"games, game {number}") for number, (_, found) in enumerate(right, 1) if found)
     err = "".join(f"games, game {number}{', move ' * bool(move)}{move or ''}: {why}\n"
                   for number, (_, move, why) in enumerate(REFUSED, 1 + len(right)))
-    text = "\n".join(text for text, *_ in right + REFUSED).encode()
+    right = [(text.replace("33-31", "{}-{}".format(*discs_at_end(GAME))), found) for text, found in right]
+    text = "\n".join(text for text, *_ in [*right, *REFUSED]).encode()
     reads("games", text.replace("\ufffd".encode(), b"\xff"), "--empties=58", out=out, err=err)
     game = next(game for game in random_games(200, seed=1) if len(squares_of(game)) == 59)
     for text, empties, where in (("f5", 58, "move 1: it ends here, with 59 empty squares"),
@@ -178,7 +188,68 @@ def test_a_file_of_another_kind_is_refused(content, why):
     games("none.wtb", "it.wtb", status=3, out=LINE, err=f"none.wtb is not a WTHOR file of games: {why}")
 
 
-@pytest.mark.parametrize("content", (b"PK\3\4\n\0\r\0", b"PK\3\4\24\0\r\0", gzip.compress(b"f5", mtime=0)))
+@pytest.mark.parametrize("form, nothing, fits, misfits", (
+    ("{} {}", "* 12", "13-0 64-0 64:0 (13-0) 1-0 +13 +64 [+64]", "33-31 0-64 0-13 0-1 1/2-1/2 +2 -13 -64 0"),
+    ("(;GM[Othello]{2}RE[{1}];)", "-64.00:t ? +2:r", "+13 +64.00", "-64 +2.0 0.00 +0"),
+), ids=("transcript", "ggf"))
+def test_a_result_that_is_not_that_of_the_board_or_cannot_be_checked_is_reported(form, nothing, fits, misfits):
+    """Black wins the game in nine moves by 13 discs to none, and 51 squares are empty."""
+    won, told = "e6 f4 e3 f6 g5 d6 e7 f5 c5".split(), f"{fits} {misfits}".split()
+    listed = [*nothing.split(), *told]
+    for moves, wrong, why in (
+        (won, misfits.split(), "its result is {}, but its moves give 13-0"),
+        (won[:8], told, "its moves stop before the end of the game, so its result {} is not checked"),
+    ):
+        of_ggf = "".join(f"{'BW'[at % 2]}[{move}]" for at, move in enumerate(moves))
+        write("it", "\n".join(form.format("".join(moves), it, of_ggf) for it in listed))
+        err = [f"it, game {at}: {why.format(it.strip('()[]'))}" for at, it in enumerate(listed, 1) if it in wrong]
+        games("it", "--empties=55", out=None, err="\n".join(err))
+    assert [Game.of_text(f"f5 {it}").result for it in ("33 - 31", "(*).", "[+4]", "")] == ["33 - 31", "*", "+4", None]
+    for result, fits in (("32-32", True), ("1/2-1/2", True), ("1-0", False), ("20-20", True), ("+0", True)):
+        assert result_fits(result, 20, 20) == fits
+
+
+def test_games_in_ggf_have_players_date_and_result_may_be_several_on_a_line_and_begin_anywhere():
+    """Both games of a line begin at a random position with 20 discs."""
+    begun = [game for game in PLAYED if None not in game[:16]][:2]
+    boards = [player.line(*positions_of(game)[44]).translate({ord("X"): "*", ord(";"): None}) for game in begun]
+    line = "2 " + "".join(ggf(game, f"BO[8 {board}]", begin=16) for game, board in zip(begun, boards))
+    write("it", f"{ggf(GAME, 'TY[8]')}\n{line}\n{transcript(GAME)}")
+    first, *both, plain = read_games("it")
+    about = (2003, ("]W[a1", "B[b"), "2003.12.15_13:24:03.MST", "+2")
+    assert [(it.year, it.players, it.date, it.result) for it in (first, *both, plain)] == [about] * 3 + [(None,) * 4]
+    assert [it.number for it in (first, *both, plain)] == [1, 2, 2, 3]
+    for game, found in zip(begun, both):
+        wanted = [player.line(*at) for empties, at in positions_of(game).items() if empties <= 44]
+        assert [it.to_obf() for it in Solver().positions(found)] == wanted
+        assert found.turns()[0][0] == found.start
+    out = "".join(line_of(positions_of(game)[44], "it, game 2") for game in begun)
+    assert out in run(PROGRAM, "it", "--empties=44", text=True).stdout
+    err = run(PROGRAM, "it", "--empties=45", text=True).stderr
+    assert err.count("it, game 2: it begins with 44 empty squares; 45 are asked for\n") == 2
+    several = "it has several games in GGF: read_games reads them"
+    assert (Game.of_text(line).fault, Game.of_text(line).moves) == (several, ())
+    for text in (line, line.split(";)")[0] + ";)"):
+        with pytest.raises(ValueError, match="several games or another first position: read_games reads it$"):
+            START.play_all(text)
+
+
+def test_a_gz_file_is_read_and_a_damaged_one_is_not():
+    """The content of the damaged ones is long enough to be read in several pieces."""
+    packed = gzip.compress(b"".join(b"%%%d\n" % number for number in range(99_999)))
+    reads("it.gz", gzip.compress(WTHOR), out=LISTED.format("it.gz").rstrip() + ", theoretical score 33\n")
+    reads("text.GZ", gzip.compress(TEXT.encode()), "--empties=20", out=LISTED.format("text.GZ"))
+    for content, why in ((packed[:-9], "Compressed file ended before the end-of-stream marker was reached"),
+                         (packed[:-8] + b"damaged!", "CRC check failed .*"),
+                         (packed[:99] + packed[200:], "Error -3 .*")):
+        write("it.gz", content)
+        ran = run(PROGRAM, "--empties=20", "it.gz", text=True)
+        assert re.fullmatch(f"ffosolve-games: cannot read it.gz: {why}\n", ran.stderr) and ran.returncode == 3
+    with pytest.raises(OSError, match="^Error -3"):
+        list(read_games("it.gz"))
+
+
+@pytest.mark.parametrize("content", (b"PK\3\4\n\0\r\0", b"PK\3\4\24\0\r\0"))
 def test_an_archive_is_reported_as_what_it_is(content):
     """Of the first archive, the first line has no NUL byte."""
     for words, name in (("check", "it"), ("check", "it.wtb"), ("compare book", "it.zip"), ("--empties=20", "it.gz")):

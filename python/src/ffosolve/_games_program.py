@@ -14,7 +14,8 @@ from ._command_line import Parser, Refusal, file_of, number, print_all, refusing
 from ._games import Game, GameRefused, corrected, discs_of_black, games_in, position_with, positions_of
 from ._library import MOST_EMPTIES, LibraryNotFound, load
 from ._positions import Position
-from ._text import BOOK_HEADER, ENTRY, NotText, ReadingWarning, shown, text_lines
+from ._text import BOOK_HEADER, ENTRY, NotText, ReadingWarning, shown, text_lines, unpacked
+from ._transcripts import TELLS, result_fits
 
 NAME = "ffosolve-games"
 SOLVER = "ffosolve-many"
@@ -214,7 +215,7 @@ def found_in(name: str, options: argparse.Namespace, messages: Messages) -> Iter
             raise Refusal(f"{shown(name)} does not say how many squares are empty at its theoretical scores; "
                           "try --empties 22 or 24, the usual numbers", MISUSED)
         for game in games:
-            position = real = exact = None
+            last = position = real = exact = None
             try:
                 *_, last = positions = positions_of(game)
                 real = discs_of_black(last.score(), last.side) if last.is_over else None
@@ -228,13 +229,13 @@ def found_in(name: str, options: argparse.Namespace, messages: Messages) -> Iter
                 game = game._replace(score=None)
             found = Found(name, game, position, real, exact)
             yield found
-            for wrong in wrong_scores(game, real) if position or exact is not None else ():
+            for wrong in wrong_scores(game, last, real) if last and (position or exact is not None) else ():
                 messages.report(f"{found.title}: {wrong}", REMARKED)
 
 
-def wrong_scores(game: Game, discs: Optional[int]) -> Iterator[str]:
-    """Yields a message for each score above 64 discs, and if the game's real score, which the file gives for its end,
-    is not `discs` or can't be checked. `discs` is how many Black has then, or None if the moves stop before that."""
+def wrong_scores(game: Game, last: Position, discs: Optional[int]) -> Iterator[str]:
+    """Yields a message for each score above 64 discs, and if the game's real score or result is not that of its `last`
+    position or can't be checked. `discs` is how many Black has then, or None if the moves stop before the end."""
     for kind, score in (("theoretical", game.score), ("real", game.real)):
         if score is not None and score > 64:
             yield f"its {kind} score is {score}, more than 64 discs"
@@ -242,6 +243,11 @@ def wrong_scores(game: Game, discs: Optional[int]) -> Iterator[str]:
             yield f"its moves stop before the end of the game, so its real score {score} is not checked"
         elif kind == "real" and score not in (None, discs):
             yield f"its real score is {score}, but its moves give {discs}"
+    result = game.result or ""
+    if discs is None and TELLS.fullmatch(result):
+        yield f"its moves stop before the end of the game, so its result {result} is not checked"
+    elif not result_fits(result, *last.discs):
+        yield f"its result is {result}, but its moves give {last.discs.black}-{last.discs.white}"
 
 
 def check(options: argparse.Namespace, messages: Messages) -> Iterator[bytes]:
@@ -258,7 +264,7 @@ def compare(options: argparse.Namespace, messages: Messages) -> Iterator[bytes]:
     found, copies = scored_games(options, messages), new_paths(options)
     with file_of(*options.book) as file:
         name = shown(*options.book)
-        scores = scores_in(text_lines(file, name), name)
+        scores = scores_in(text_lines(unpacked(file), name), name)
     yield from compared(found, copies, scores, options, messages)
 
 
@@ -351,7 +357,8 @@ def new_paths(options: argparse.Namespace) -> Dict[str, str]:
     if options.fix is None:
         return {}
     place, names = options.fix, options.files
-    paths = [os.path.join(place, os.path.basename(name)) for name in names] if os.path.isdir(place) else [place]
+    bases = [re.sub(r"(?i)\.gz$", "", os.path.basename(name)) for name in names]
+    paths = [os.path.join(place, base) for base in bases] if os.path.isdir(place) else [place]
     if len(paths) < len(names):
         raise Refusal(f"--fix takes a folder, since {len(names)} WTHOR files are named")
     if len(set(paths)) < len(names):
@@ -370,7 +377,7 @@ def fix(copies: Dict[str, str], found: List[Found], options: argparse.Namespace)
         raise Refusal("no theoretical score is compared, so --fix has none to write")
     games = {path: [it for it in found if it.file == name and it.game.fault is None] for path, name in copies.items()}
     with contextlib.ExitStack() as stack:
-        pieces = {path: corrected(stack.enter_context(file_of(name)), options.empties or 0,
+        pieces = {path: corrected(unpacked(stack.enter_context(file_of(name))), options.empties or 0,
                                   [(it.game, it.exact, it.real if options.real else None) for it in games[path]])
                   for path, name in copies.items()}
         try:

@@ -201,8 +201,8 @@ class Solver:
         return as_position(position).play(square)
 
     def positions(self, game: Union[Game, str]) -> List[Position]:
-        """The positions of a Game or transcript: the start, then that after each move but passes. At index n, it has
-        60 - n empty squares. Raises GameRefused for a game that can't be read or played, and TypeError for others."""
+        """The positions of a Game or transcript: the start, then that after each move but passes. At index n, it has n
+        empty squares fewer. Raises GameRefused for a game that can't be read or played, and TypeError for others."""
         game = Game.of_text(game) if isinstance(game, str) else game
         if not isinstance(game, Game):
             raise TypeError(f"a game is a Game or the text of a transcript, not {reprlib.repr(game)}")
