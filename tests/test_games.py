@@ -7,13 +7,14 @@ import os
 import pickle
 import random
 import re
+import sys
 
 import pytest
 
 from bench import player
 from tests.games import (NAMES, PROGRAM, SQUARE_BYTES, discs_of_black, games, line_of, masks_after, positions_of,
                          random_games, reads, real_score, record, squares_of, transcript, transcript_rows, wthor)
-from tests.support import MOST_BYTES, cannot_write, ends, limited, run, write
+from tests.support import MOST_BYTES, ROOT, cannot_write, ends, limited, run, stored, write
 from ffosolve import START, Game, GameRefused, Solver, __version__, read_games
 from ffosolve._transcripts import result_fits
 
@@ -419,10 +420,13 @@ def test_the_status_is_the_highest_that_a_refused_file_causes():
     games("--empties=20", "none", ".", "text", status=3, out=LISTED.format("text"), err=err)
 
 
+MARKED = "it begins with a byte-order mark; `{}` writes a copy without"
+
+
 @pytest.mark.parametrize("content, why", (
-    (b"\xef\xbb\xbf" + TEXT.encode() + b"\n", "it begins with a byte-order mark"),
-    (("\ufeff" + TEXT).encode("utf-16-le"), "it begins with a byte-order mark"),
-    (("\ufeff" + TEXT).encode("utf-16-be"), "it begins with a byte-order mark"),
+    (b"\xef\xbb\xbf" + TEXT.encode() + b"\n", MARKED.format("tail -c +4 <OLD >NEW")),
+    *((("\ufeff" + TEXT).encode(f"utf-16-{end}e"), MARKED.format("iconv -f utf-16 -t utf-8 <OLD >NEW"))
+      for end in "lb"),
     (f"% games\r{TEXT}\r{TEXT}\r".encode(), "its lines end with CR alone"),
     (b"\r" + TEXT.encode(), "its lines end with CR alone"),
     (b"f5\0d6\n" + TEXT.encode(), "its line 1 has a NUL byte, so it is not a text"),
@@ -435,6 +439,9 @@ def test_files_that_are_not_texts_are_refused_and_the_next_is_read(content, why)
     games("compare", "bad", "it.wtb", status=3, err=err)
     for words in (["--empties=20"], ["compare", "-", "it.wtb"]):
         games(*words, input=content, status=3, err=f"cannot read -: {why}")
+    if "`" in why:
+        run("sh", "-c", why.split("`")[1].replace("OLD", "bad").replace("NEW", "good"), check=True)
+        games("--empties=20", "good", out=LISTED.format("good"))
 
 
 @pytest.mark.parametrize("content", (
@@ -482,6 +489,7 @@ def test_a_long_line_is_refused_without_reading_it_all(words, before, out):
     ("check it.wtb --max-empties=61", "--max-empties: takes a number from 0 to 60, not '61'"),
     *((f"check it.wtb --lines={it}", f"--lines: takes a number from 1 to 10000, not '{it}'") for it in ("0", "10001")),
     ("check", "check takes WTHOR files"),
+    ("fix it.wtb", "fix is now the option --fix PLACE of check and compare"),
     ("check it.wtb --cut --fix new.wtb", "--fix does not go with --cut"),
 ))
 def test_wrong_words_are_refused(words, why):
@@ -494,10 +502,36 @@ def test_help_has_all_uses_in_80_columns(monkeypatch):
     printed = run(PROGRAM, "--help", check=True, text=True).stdout
     for task in ("compare", "check"):
         games(task, "--help", out=printed)
-    assert re.search("Black's discs.*the winner gets the empty squares", " ".join(printed.split()))
+    assert re.search("Black's discs.*the winner gets the empty squares", words := " ".join(printed.split()))
+    assert "--folder FOLDER keeps what is solved of all FILEs [default: FILE.check for each FILE]" in words
     uses = "usage: ffosolve-games .*\n       ffosolve-games check .*\n       ffosolve-games compare "
     assert re.match(uses, printed)
     assert max(map(len, printed.splitlines())) <= 80
+
+
+@pytest.mark.parametrize("name", ("ffosolve-many", "ffosolve-games"))
+def test_an_entry_point_of_pip_starts_its_program_or_tells_which_python_that_needs(name):
+    entry = re.search(f'^{name} = "(.*):(.*)"$', stored("python/pyproject.toml").decode(), re.M)
+    needs = f"{name} needs Python 3.10 or later, and this is {sys.version.split()[0]}\n"
+    for version, wanted in (("sys.version_info", (0, f"{name} {__version__}\n", "")), ("(3, 9)", (1, "", needs))):
+        code = f"import sys; sys.version_info = {version}; from {entry[1]} import {entry[2]}; {entry[2]}()"
+        places = {**os.environ, "PYTHONPATH": str(ROOT / "python/src")}
+        ends(wanted, sys.executable, "-c", code, "--version", env=places)
+
+
+def test_a_checkout_builds_a_missing_library_and_ends_with_status_4_if_that_fails():
+    """Also if the variable that names another is empty. The last run builds nothing."""
+    for name in ("bin/ffosolve-games", "python/src", "VERSION"):
+        run("cp", "-r", "--parents", name, os.getcwd(), cwd=ROOT, check=True)
+    os.mkdir("crates")
+    places = {**os.environ}
+    copy = f"mkdir -p out/library; cp {places.pop('FFOSOLVE_LIBRARY')} out/library/libffosolve.so"
+    found = 0, LISTED.format("text")
+    for recipe, wanted in (("false", (4, "")), (copy, found), ("false", found)):
+        write("Makefile", f"library:\n\t@{recipe}\n")
+        for empty in ({}, {"FFOSOLVE_LIBRARY": ""}):
+            ran = run(sys.executable, "bin/ffosolve-games", "--empties=20", "text", env={**places, **empty}, text=True)
+            assert (ran.returncode, ran.stdout) == wanted, ran
 
 
 @pytest.mark.parametrize("words", (

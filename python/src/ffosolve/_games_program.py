@@ -10,7 +10,7 @@ import warnings
 from typing import Any, Callable, Dict, Iterable, Iterator, List, NamedTuple, NoReturn, Optional
 
 from ._command_line import DONE, MISSING, MISUSED, MOST_LINES, REMARKED, UNREADABLE
-from ._command_line import Parser, Refusal, file_of, number, print_all, refusing, run, say, write_whole
+from ._command_line import Parser, Refusal, counted, file_of, number, print_all, refusing, run, say, write_whole
 from ._games import Game, GameRefused, corrected, discs_of_black, games_in, position_with, positions_of
 from ._library import MOST_EMPTIES, LibraryNotFound, load
 from ._positions import Position
@@ -31,8 +31,9 @@ the exact one.
 A FILE is a WTHOR file (.wtb) or a text with one game in each line. A line of a
 text has the squares of the moves, as f5d6c3 or `1. F5 2. D6`, with blanks,
 commas, hyphens or nothing between them. A pass is left out, or is written as
-`pass`, `ps`, `pa` or `--`. Headers in brackets before the moves are skipped, as
-is a result at the end, such as 33-31 or *. A line may also be a game in GGF.
+`pass`, `ps`, `pa` or `--`. A result, such as 33-31 or *, may come last. Headers
+in brackets before the moves are skipped. A line may also be a game in GGF, or
+several. A FILE or BOOK may be packed by gzip.
 
 The comment of a printed line names the file and the game: its line in a text,
 or its place in a WTHOR file. If the WTHOR file has a theoretical score for N
@@ -50,8 +51,8 @@ files, WTHOR.JOU and WTHOR.TRN, are in the folder of the WTHOR file.
 MORE = f"""\
 The side to move in a printed position may have to pass. A game is reported on
 standard error instead if it has an illegal move, or ends before the position.
-There is also a line if the real score of a WTHOR file's game does not fit its
-moves, or the moves stop before the end of the game.
+There is also a line if the real score of a WTHOR file's game or the result of
+another does not fit its moves, or the moves stop before the end of the game.
 
 --fix never overwrites a file. Scores that were not compared stay as they are,
 and a line on standard error counts them. A header that does not say how many
@@ -133,6 +134,7 @@ def read_options(words: List[str]) -> argparse.Namespace:
     of_check += [word.partition("=")[0] for word in options.many]
     fixes = options.fix is not None
     for is_wrong, why in (
+        (words[:1] == ["fix"] and not os.path.exists("fix"), "fix is now the option --fix PLACE of check and compare"),
         (not task and (fixes or options.real),
          "--fix and --real go with check or compare, which has to be the first word"),
         (task != "check" and of_check, f"{''.join(of_check[:1])} goes with check, which has to be the first word"),
@@ -207,7 +209,8 @@ def found_in(name: str, options: argparse.Namespace, messages: Messages) -> Iter
     with file_of(name) as file:
         games, of_scores = games_in(file, shown(name))
         if options.task and of_scores is None:
-            raise Refusal(f"{shown(name)} is a text, which has no theoretical scores")
+            book = "a BOOK of --book-out, and " * (options.task == "compare")
+            raise Refusal(f"{shown(name)} is a text, but {options.task} takes {book}WTHOR files")
         empties = of_scores if options.empties is None or options.task and of_scores else options.empties
         if empties is None:
             raise Refusal(f"{shown(name)} is a text: its games need --empties N", MISUSED)
@@ -253,7 +256,10 @@ def wrong_scores(game: Game, last: Position, discs: Optional[int]) -> Iterator[s
 def check(options: argparse.Namespace, messages: Messages) -> Iterator[bytes]:
     """Does what `compare` does, with scores that ffosolve-many finds. With --cut, lets it cut lists; yields nothing."""
     found, copies = scored_games(options, messages), new_paths(options)
-    folders = folders_of(found, options)
+    folders, most = folders_of(found, options), MOST_EMPTIES if options.max_empties is None else options.max_empties
+    more = [it.position.empties for it in found if it.position and it.position.empties > most]
+    if more and "--quiet" not in options.many:
+        say(f"{counted(len(more), 'position')} left out: --max-empties {max(more)} takes all")
     scores = exact_scores(folders, options.lines or 10, options.many) if folders else {}
     if "--cut" not in options.many:
         yield from compared(found, copies, scores, options, messages)
@@ -332,7 +338,9 @@ def exact_scores(folders: Dict[str, List[Position]], lines: int, words: List[str
                 ran = subprocess.run([*command, *options, "--", folder, "-"], input=text, encoding="utf-8",
                                      errors="surrogateescape", stdout=None if is_shown else subprocess.PIPE)
             if status := ran.returncode:
-                other = "; --folder names another folder" if status == MISUSED else ""
+                place = folder if os.path.exists(folder) else os.path.dirname(folder) or "."
+                is_other = status == MISUSED or not os.access(place, os.W_OK)
+                other = "; --folder names another folder" if is_other else ""
                 raise Refusal(f"{SOLVER} has not solved all, so no score is compared{other}",
                               status if status > 1 else UNREADABLE)
             for at, score in re.findall("(?m)^([0-9]+) ([+-][0-9]{2}) ", ran.stdout or ""):

@@ -44,7 +44,8 @@ def text_lines(file: BinaryIO, name: str, may_have_nul: bool = False) -> Iterato
     another kind, a line of more than MOST_BYTES bytes and, unless `may_have_nul`, one with a NUL byte."""
     number, line = 1, file.readline(MOST_BYTES + 1)
     if line.startswith(MARKS):
-        raise NotText(f"cannot read {name}: it begins with a byte-order mark")
+        remove = "tail -c +4 <OLD >NEW" if line.startswith(MARKS[0]) else "iconv -f utf-16 -t utf-8 <OLD >NEW"
+        raise NotText(f"cannot read {name}: it begins with a byte-order mark; `{remove}` writes a copy without")
     refuse_archive(line, name)
     if not line.endswith(b"\n") and b"\r" in line.rstrip() and b"\0" not in line:
         raise NotText(f"cannot read {name}: its lines end with CR alone")
