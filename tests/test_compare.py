@@ -554,12 +554,13 @@ def test_the_status_tells_how_ffosolve_many_failed_or_that_it_is_missing(folder,
 def test_the_commands_of_guide_and_help_check_and_fix_a_file():
     guide = blocks_of(stored("docs", "check-wthor.md").decode(), "sh")
     of_help = re.search(r"^examples:\n.*?\n\n(.*?)\n\nstatus:", run(PROGRAM, "--help").stdout.decode(), re.M | re.S)[1]
-    for place, commands, count in (("guide", guide, 2), ("help", of_help, 4)):
+    for place, commands, count, last in (("guide", guide, 3, counts(differ=0)), ("help", of_help, 4, "")):
         assert commands.count("ffosolve-") == count
         write(f"{place}/WTH_2001.wtb", WHOLE)
         os.symlink(ROOT / "bin", f"{place}/bin")
         path = {"PATH": f"{ROOT}/bin:{os.environ['PATH']}"}
         ran = run("sh", "-c", commands, timeout=300, cwd=place, env={**os.environ, **path}, text=True)
         out = both(name="WTH_2001.wtb") + counts()
-        assert (ran.returncode, ran.stdout) == (1, 2 * out), ran.stderr
+        assert (ran.returncode, ran.stdout) == (int(not last), 2 * out + last), ran.stderr
         assert Path(place, "WTH_2001.new.wtb").read_bytes() == RIGHT
+        assert not Path(place, "WTH_2001.new.wtb.check").exists()

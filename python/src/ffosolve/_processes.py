@@ -30,7 +30,7 @@ from ._text import BOOK_HEADER
 
 T = TypeVar("T")
 Seconds = Optional[float]  # None stands for any time
-Threads = Optional[int]  # None stands for as many as there are processors that this process may use
+Count = Optional[int]  # of threads; None stands for as many as there are processors that this process may use
 ALL_SQUARES = 2**64 - 1
 BRIEF, LIGHTEST = 4096, 8  # a call is brief for so many positions with up to so many empty squares: see `is_brief`
 # The weight of a position that alone is not brief (`slices_of` says what the others weigh), and of positions that may
@@ -54,7 +54,7 @@ class TimedOut(TimeoutError):
         self.done, self.found = done, found
 
 
-def threads_of(threads: Threads) -> int:
+def threads_of(threads: Count) -> int:
     """The number of threads that `threads` stands for. Raises TypeError and ValueError for a wrong one."""
     return len(os.sched_getaffinity(0)) if threads is None else checked_number("threads", threads, 1)
 
@@ -177,7 +177,7 @@ class SolverCall:
     cancelled, or it sets `is_left`. A program gets `threads`, and `each` seconds for a position. A call that `keeps`
     what it finds does not raise TimeoutError. Raises TypeError and ValueError for a wrong number."""
 
-    def __init__(self, library: ctypes.CDLL, timeout: Seconds = None, threads: Threads = 1, each: Seconds = None,
+    def __init__(self, library: ctypes.CDLL, timeout: Seconds = None, threads: Count = 1, each: Seconds = None,
                  keeps: bool = False) -> None:
         self.library, self.timeout, self.keeps = library, timeout, keeps
         self.threads, self.each = threads_of(threads), seconds_of("each", each)

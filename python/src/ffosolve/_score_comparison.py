@@ -15,7 +15,7 @@ from ._boards import GREEN, Board, checked_score
 from ._library import NO_SCORE
 from ._obf import OBF_LINE, MOVES, Source, lines_of, without_end
 from ._positions import Position, read_line
-from ._processes import Seconds, SolverCall, Threads, TimedOut
+from ._processes import Seconds, SolverCall, Count, TimedOut
 from ._refusals import LineRefused, NoPosition
 from ._solvers import Solver, as_position
 from ._squares import NAMES
@@ -183,7 +183,7 @@ class ScoreComparison:
 
 
 def compare_scores(listed: Evaluated, scored: Union[Source, Solver, None] = None, *, known: Optional[Known] = None,
-                   threads: Threads = 1, timeout: Seconds = None, each: Seconds = None) -> ScoreComparison:
+                   threads: Count = 1, timeout: Seconds = None, each: Seconds = None) -> ScoreComparison:
     """Compares the scores of an evaluation with the exact ones.
 
     `listed` is {position: its score}, {position: {move: its score}}, an iterable of such pairs, or a list in OBF: a
@@ -270,7 +270,7 @@ def as_scores(values: Values) -> Scores:
     return scores
 
 
-def solved(entries: List[ListEntry], solver: Solver, known: Optional[Known], threads: Threads, call: SolverCall,
+def solved(entries: List[ListEntry], solver: Solver, known: Optional[Known], threads: Count, call: SolverCall,
            each: Seconds) -> Iterator[Tuple[ListEntry, Union[Exact, str, None]]]:
     """Yields each entry that is a position or refused, with what `comparison` takes. Solves what is not known: all
     moves of a position if a square is listed, otherwise the position alone."""
@@ -288,7 +288,7 @@ def solved(entries: List[ListEntry], solver: Solver, known: Optional[Known], thr
             found = find(rest, threads=threads, timeout=left, each=each)
         except TimedOut as why:
             found, call.is_late = why.found, True
-        exact.update(exact_scores(zip(rest, found)))
+        exact.update(exact_of_all(zip(rest, found)))
     exact = {**dict.fromkeys((it.position for it in taken), {}), **exact}  # nothing is asked of those without scores
     for entry in entries:
         if isinstance(entry.position, Position):
@@ -310,10 +310,10 @@ def known_scores(known: Optional[Known], positions: List[Position]) -> Dict[Posi
         if len(known.score) != len(positions):
             raise ValueError(f"{len(known.score)} known scores are not those of {len(positions)} positions")
         known = dict(zip(positions, (None if score == NO_SCORE else score for score in known.score.tolist())))
-    return exact_scores((as_position(position), found) for position, found in (known or {}).items() if found != {})
+    return exact_of_all((as_position(position), found) for position, found in (known or {}).items() if found != {})
 
 
-def exact_scores(pairs: Iterable[Tuple[Position, Any]]) -> Dict[Position, Optional[Exact]]:
+def exact_of_all(pairs: Iterable[Tuple[Position, Any]]) -> Dict[Position, Optional[Exact]]:
     return {position: None if found is None else exact_of(position, found) for position, found in pairs}
 
 

@@ -4,7 +4,7 @@ import operator
 import os
 import reprlib
 import struct
-from typing import Any, Callable, Dict, Iterable, Iterator, List, Optional, Tuple, TypeVar, Union, overload
+from typing import Any, Callable, Dict, Iterable, Iterator, List, Optional, Tuple, Union, overload
 
 from ._answers import ENDS, Answer, Kind, Scoring
 from ._arrays import Answers, batches_in, rows_of
@@ -12,11 +12,10 @@ from ._bulk import Batch, BatchOrRefusal, batches_of, in_order
 from ._games import Game, positions_of
 from ._library import MOST_EMPTIES, MOST_ENTRIES, NO_SCORE, CAnswer, CMoveScores, load, version_of
 from ._positions import P, Position
-from ._processes import ALL_SQUARES, Seconds, SolverCall, Threads, threads_of
+from ._processes import ALL_SQUARES, Seconds, SolverCall, T, Count, threads_of
 from ._refusals import Refused, TooManyEntries, checked_number
 from ._squares import NAMES, accept, c_positions, checked_position, masks_and_empties, moves
 
-T = TypeVar("T")
 Positions = Iterable[Position]
 KINDS = tuple(Kind)
 ANSWER, MOVE_SCORES = struct.Struct("iiQ"), struct.Struct("64bQ")  # the layouts of CAnswer and CMoveScores
@@ -82,12 +81,12 @@ class Solver:
         """The version of the shared library, such as "1.2.3"."""
         return version_of(self._library)
 
-    def solve(self, position: Position, *, threads: Threads = 1, timeout: Seconds = None) -> Answer:
+    def solve(self, position: Position, *, threads: Count = 1, timeout: Seconds = None) -> Answer:
         """The answer for a position. From 16 empty squares on, several threads search it together. Raises SharedSquare,
         TooManyEmpties and NoMemory, ValueError for a mask outside 0 to 2**64 - 1, TypeError for what is no position."""
         return self._answers(self._call(timeout, threads), self._batch(position))[0]
 
-    def confirm(self, position: Position, claim: Answer, *, threads: Threads = 1, timeout: Seconds = None) -> Answer:
+    def confirm(self, position: Position, claim: Answer, *, threads: Count = 1, timeout: Seconds = None) -> Answer:
         """The answer for a position, found by testing the claimed score first; the answer is exact even if the claim is
         wrong. If most claimed scores are right, this is faster than `solve` from 6 empty squares on. Raises the same as
         `solve`, and TypeError for a claim that is not an Answer."""
@@ -95,7 +94,7 @@ class Solver:
             raise TypeError(f"a claim is an Answer(score, kind, best), not {reprlib.repr(claim)}")
         return self._answers(self._call(timeout, threads), self._batch(position), CAnswer(*claim))[0]
 
-    def best_line(self, position: Position, *, threads: Threads = 1, timeout: Seconds = None) -> List[Tuple[str, int]]:
+    def best_line(self, position: Position, *, threads: Count = 1, timeout: Seconds = None) -> List[Tuple[str, int]]:
         """Perfect play from a position to the end of the game: each move and its score for the side that makes it, such
         as [("H1", 62), ("PS", -62), ("A1", 62)]. Of best moves, it has the first. Raises the same as `solve`."""
         call, line = self._call(timeout, threads), []
@@ -107,12 +106,12 @@ class Solver:
             answer = self._answers(call, self._batch(position), CAnswer(-answer.score))[0]
         return line
 
-    def move_scores(self, position: Position, *, threads: Threads = 1, timeout: Seconds = None) -> Dict[str, int]:
+    def move_scores(self, position: Position, *, threads: Count = 1, timeout: Seconds = None) -> Dict[str, int]:
         """Returns {square's name: score for the side to move} for all legal moves, in the order A1, B1, .. H8. The dict
         is empty if there is no legal move. One table serves all moves. Raises the same as `solve`."""
         return self._scores(self._call(timeout, threads), self._batch(position))[0]
 
-    def scored_line(self, position: Position, *, threads: Threads = 1, timeout: Seconds = None) -> str:
+    def scored_line(self, position: Position, *, threads: Count = 1, timeout: Seconds = None) -> str:
         """The line that `ffoscores` prints for a position: an OBF line that lists all legal moves with their scores,
         the best ones first; or a pass, or the end of the game, with its score. Raises the same as `solve`."""
         call, batch = self._call(timeout, threads), self._batch(position)
@@ -123,13 +122,13 @@ class Solver:
         return as_position(position).to_obf(moves=moves)
 
     @overload
-    def solve_all(self, positions: Positions, *, threads: Threads = 1, timeout: Seconds = None) -> List[Answer]: ...
+    def solve_all(self, positions: Positions, *, threads: Count = 1, timeout: Seconds = None) -> List[Answer]: ...
 
     @overload
-    def solve_all(self, positions: Positions, *, threads: Threads = 1, timeout: Seconds = None, each: Seconds
+    def solve_all(self, positions: Positions, *, threads: Count = 1, timeout: Seconds = None, each: Seconds
                   ) -> List[Optional[Answer]]: ...
 
-    def solve_all(self, positions: Positions, *, threads: Threads = 1, timeout: Seconds = None, each: Seconds = None
+    def solve_all(self, positions: Positions, *, threads: Count = 1, timeout: Seconds = None, each: Seconds = None
                   ) -> List[Any]:
         """The answers for positions, in their order. The threads share a table for up to 15,000 positions; those with
         at most 14 empty squares may be solved in batches, each with its own table. With `each` or `timeout`, tables are
@@ -138,14 +137,14 @@ class Solver:
         return self._all(self._answers, positions, threads, timeout, each)
 
     @overload
-    def solve_iter(self, positions: Positions, *, threads: Threads = 1, timeout: Seconds = None
+    def solve_iter(self, positions: Positions, *, threads: Count = 1, timeout: Seconds = None
                    ) -> Iterator[Answer]: ...
 
     @overload
-    def solve_iter(self, positions: Positions, *, threads: Threads = 1, timeout: Seconds = None, each: Seconds
+    def solve_iter(self, positions: Positions, *, threads: Count = 1, timeout: Seconds = None, each: Seconds
                    ) -> Iterator[Optional[Answer]]: ...
 
-    def solve_iter(self, positions: Positions, *, threads: Threads = 1, timeout: Seconds = None, each: Seconds = None
+    def solve_iter(self, positions: Positions, *, threads: Count = 1, timeout: Seconds = None, each: Seconds = None
                    ) -> Iterator[Any]:
         """Yields the answers for positions, in their order, and reads only some positions ahead. Raises the same as
         `solve`. SharedSquare and TooManyEmpties have the `index` of the refused position, and come after the answers
@@ -153,39 +152,39 @@ class Solver:
         return self._iter(self._answers, positions, threads, timeout, each)
 
     @overload
-    def move_scores_all(self, positions: Positions, *, threads: Threads = 1, timeout: Seconds = None
+    def move_scores_all(self, positions: Positions, *, threads: Count = 1, timeout: Seconds = None
                         ) -> List[Dict[str, int]]: ...
 
     @overload
-    def move_scores_all(self, positions: Positions, *, threads: Threads = 1, timeout: Seconds = None, each: Seconds
+    def move_scores_all(self, positions: Positions, *, threads: Count = 1, timeout: Seconds = None, each: Seconds
                         ) -> List[Optional[Dict[str, int]]]: ...
 
-    def move_scores_all(self, positions: Positions, *, threads: Threads = 1, timeout: Seconds = None,
+    def move_scores_all(self, positions: Positions, *, threads: Count = 1, timeout: Seconds = None,
                         each: Seconds = None) -> List[Any]:
         """What `move_scores` returns for each position, in the same order; tables and errors are as for `solve_all`."""
         return self._all(self._scores, positions, threads, timeout, each)
 
     @overload
-    def move_scores_iter(self, positions: Positions, *, threads: Threads = 1, timeout: Seconds = None
+    def move_scores_iter(self, positions: Positions, *, threads: Count = 1, timeout: Seconds = None
                          ) -> Iterator[Dict[str, int]]: ...
 
     @overload
-    def move_scores_iter(self, positions: Positions, *, threads: Threads = 1, timeout: Seconds = None, each: Seconds
+    def move_scores_iter(self, positions: Positions, *, threads: Count = 1, timeout: Seconds = None, each: Seconds
                          ) -> Iterator[Optional[Dict[str, int]]]: ...
 
-    def move_scores_iter(self, positions: Positions, *, threads: Threads = 1, timeout: Seconds = None,
+    def move_scores_iter(self, positions: Positions, *, threads: Count = 1, timeout: Seconds = None,
                          each: Seconds = None) -> Iterator[Any]:
         """Yields what `move_scores` returns for each position, in the way that `solve_iter` yields answers."""
         return self._iter(self._scores, positions, threads, timeout, each)
 
-    def solve_arrays(self, own: Any, opp: Any, *, threads: Threads = 1, timeout: Seconds = None, each: Seconds = None
+    def solve_arrays(self, own: Any, opp: Any, *, threads: Count = 1, timeout: Seconds = None, each: Seconds = None
                      ) -> Answers:
         """The answers for positions in arrays of uint64, as `masks_of` returns them: `own`, the masks of the discs of
         the side to move, and `opp`, those of the other side. Returns three arrays of that length: `score` and `kind` of
         int32, `best` of uint64. Needs NumPy. Raises as `solve_all`, and TypeError and ValueError for other arrays."""
         return self._in_arrays("ffosolve_solve_all", CAnswer, own, opp, threads, timeout, each, Answers._make)
 
-    def move_scores_arrays(self, own: Any, opp: Any, *, threads: Threads = 1, timeout: Seconds = None,
+    def move_scores_arrays(self, own: Any, opp: Any, *, threads: Count = 1, timeout: Seconds = None,
                            each: Seconds = None) -> Any:
         """The scores of all moves: an array of int8 with a row of 64 scores for each position, in the order A1, B1, ..
         H8, with NO_SCORE for an illegal move. Takes, needs and raises the same as `solve_arrays`."""
@@ -208,7 +207,7 @@ class Solver:
             raise TypeError(f"a game is a Game or the text of a transcript, not {reprlib.repr(game)}")
         return positions_of(game)
 
-    def _call(self, timeout: Seconds, threads: Threads = 1, each: Seconds = None, keeps: bool = False) -> SolverCall:
+    def _call(self, timeout: Seconds, threads: Count = 1, each: Seconds = None, keeps: bool = False) -> SolverCall:
         return SolverCall(self._library, timeout, threads, each, keeps)
 
     def _batch(self, position: Iterable[int]) -> Batch:
@@ -216,7 +215,7 @@ class Solver:
         own, opp, empties = checked_position(position, self._max_empties)
         return Batch(c_positions([own, opp]), empties)
 
-    def _all(self, solve: Callable[[SolverCall, BatchOrRefusal], List[Any]], positions: Positions, threads: Threads,
+    def _all(self, solve: Callable[[SolverCall, BatchOrRefusal], List[Any]], positions: Positions, threads: Count,
              timeout: Seconds, each: Seconds) -> List[Any]:
         """What `solve` finds for positions. First reads all, and raises a Refused if one is. Raises TimedOut."""
         call = self._call(timeout, threads, each, keeps=True)
@@ -224,14 +223,14 @@ class Solver:
         found = list(in_order(call, lambda batch: solve(call, batch), batches, call.threads))
         return call.kept(found, len(found))
 
-    def _iter(self, solve: Callable[[SolverCall, BatchOrRefusal], List[Any]], positions: Positions, threads: Threads,
+    def _iter(self, solve: Callable[[SolverCall, BatchOrRefusal], List[Any]], positions: Positions, threads: Count,
               timeout: Seconds, each: Seconds) -> Iterator[Any]:
         """Yields what `solve` finds for positions."""
         call = self._call(timeout, 1, each)
         batches = batches_of(positions, self._max_empties, call, False)
         return in_order(call, lambda batch: solve(call, batch), batches, threads_of(threads))
 
-    def _in_arrays(self, name: str, record: Any, own: Any, opp: Any, threads: Threads, timeout: Seconds, each: Seconds,
+    def _in_arrays(self, name: str, record: Any, own: Any, opp: Any, threads: Count, timeout: Seconds, each: Seconds,
                    form: Callable[[List[Any]], T]) -> T:
         """Makes a call as `_found`, for arrays of positions. Returns the `form` of an array for each member of
         `record`. Raises TimedOut."""
