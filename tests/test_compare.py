@@ -158,7 +158,8 @@ def test_files_that_are_missing_or_have_no_theoretical_scores_are_refused():
     games("compare", "book", "none.wtb", status=3, err="cannot read none.wtb: No such file or directory")
     write("text", "f5d6c3")
     for words in ((), ("--empties=5",)):
-        games(*COMPARE, "text", *words, status=3, err="text is a text, which has no theoretical scores")
+        games(*COMPARE, "text", *words, status=3,
+              err="text is a text, but compare takes a BOOK of --book-out, and WTHOR files")
     write("no.wtb", wthor([], empties=EMPTIES))
     games("compare", "book", "no.wtb", status=3, err="no game has a position with a theoretical score")
     os.mkfifo("pipe")
@@ -310,6 +311,17 @@ def test_a_file_system_without_hard_links_gets_the_file(monkeypatch):
     assert everything() == {**before, Path("new.wtb"): (b"newfile", REGULAR)}
 
 
+def test_a_file_that_comes_while_games_are_compared_stays(start):
+    """The run waits for its book, which is a pipe, until the file is there."""
+    os.mkfifo("pipe")
+    ran = start(sys.executable, PROGRAM, "compare", "pipe", "it.wtb", "--fix", "new.wtb")
+    with open("pipe", "w") as book:
+        write("new.wtb", "of somebody else")
+        book.write(BOOK)
+    assert ran.communicate(timeout=SECONDS)[1] == b"ffosolve-games: cannot write new.wtb: File exists\n"
+    assert (ran.returncode, Path("new.wtb").read_text()) == (3, "of somebody else")
+
+
 def test_one_of_several_runs_writes_the_file(start):
     before = everything()
     runs = [start(sys.executable, PROGRAM, *COMPARE, "--fix", "new.wtb") for _ in range(6)]
@@ -365,7 +377,9 @@ def test_check_solves_compares_and_fixes():
     assert Path("new/other.wtb").read_bytes() == wthor([record(PLAYED[1], exact)], empties=6)
     for name, count in (("it.wtb", COUNT), ("other.wtb", 1)):  # each position once
         assert Path(f"{name}.check/list").read_bytes().count(b"\n") == count
-    reads("it.wtb", RIGHT, "check", "--quiet", "--max-empties=4", "--folder=other", status=1, out=counts(0, 0, COUNT))
+    for quiet, err in ((["--quiet"], ""), ([], f"{COUNT} positions left out: --max-empties 5 takes all")):
+        reads("it.wtb", RIGHT, "check", *quiet, "--max-empties=4", "--folder=other", status=1, err=err,
+              out=counts(0, 0, COUNT))
     assert not os.path.exists("other")
 
 
@@ -432,7 +446,8 @@ def test_a_second_check_in_one_folder_is_refused(start, slow_check):
     first = start(*slow_check, start_new_session=True)
     wait_until(results)
     os.killpg(first.pid, signal.SIGSTOP)
-    ends((3, "", f"ffosolve-many: another run works in it.wtb.check\n{FAILED}\n"), *slow_check)
+    ends((3, "", f"ffosolve-many: another run works in it.wtb.check: wait for its end, or name another folder\n"
+             f"{FAILED}\n"), *slow_check)
     os.killpg(first.pid, signal.SIGCONT)
     assert first.communicate(timeout=SECONDS)[0].decode() == counts(90, 0)
 
@@ -455,6 +470,9 @@ def test_check_refuses_before_it_solves():
     os.mkdir("closed", mode=0o555)
     games(*CHECK, "--fix=closed", status=3, **NOBODY,
           err="cannot write closed/it.wtb: its folder is missing, or may not be written")
+    said = "ffosolve-many: cannot write closed/it: Permission denied"
+    ends((3, "", f"{said}\n{FAILED}; --folder names another folder\n"), sys.executable, PROGRAM, *CHECK,
+         "--folder=closed/it", **NOBODY)
     why = "'book' is not a folder: name one FOLDER and one LIST. Try 'ffosolve-many --help'"
     refused("--folder=book", why=why)
     write("other.wtb", WHOLE)
@@ -501,11 +519,13 @@ def alone(folder):
     (("--folder", "a", "22.wtb"), "--max-empties=60 --lines=10", "a"),
     (("--max-empties=21", "22.wtb", "--lines=20", "--quiet"), "--max-empties=60 --lines=20 --quiet", "it.wtb.check"),
     (("./it.wtb",), "--max-empties=60 --lines=10", "./it.wtb.check"),  # two names of one folder
+    (("link/it.wtb",), "--max-empties=60 --lines=10", "it.wtb.check"),
     (("--max-empties=22", "22.wtb"), "--max-empties=60 --lines=10 --cut", "22.wtb.check"),  # two: each is first cut
 ))
 def test_ffosolve_many_gets_the_options(alone, words, given, folder_named):
     write("bin/ffosolve-many", '#!/bin/sh\necho "$*" >>words\necho output\nexit 3\n')
     write("tools/ffosolve-many", "#!/bin/sh\n")  # is not run, since one is next to ffosolve-games
+    os.symlink(".", "link")
     ran = alone("check", "it.wtb", *words)
     assert Path("words").read_text() == f"{given} -- {folder_named} -\n"
     assert "22.wtb.check" not in os.listdir()
@@ -534,12 +554,13 @@ def test_the_status_tells_how_ffosolve_many_failed_or_that_it_is_missing(folder,
 def test_the_commands_of_guide_and_help_check_and_fix_a_file():
     guide = blocks_of(stored("docs", "check-wthor.md").decode(), "sh")
     of_help = re.search(r"^examples:\n.*?\n\n(.*?)\n\nstatus:", run(PROGRAM, "--help").stdout.decode(), re.M | re.S)[1]
-    for place, commands, count in (("guide", guide, 2), ("help", of_help, 4)):
+    for place, commands, count, last in (("guide", guide, 3, counts(differ=0)), ("help", of_help, 4, "")):
         assert commands.count("ffosolve-") == count
         write(f"{place}/WTH_2001.wtb", WHOLE)
         os.symlink(ROOT / "bin", f"{place}/bin")
         path = {"PATH": f"{ROOT}/bin:{os.environ['PATH']}"}
         ran = run("sh", "-c", commands, timeout=300, cwd=place, env={**os.environ, **path}, text=True)
         out = both(name="WTH_2001.wtb") + counts()
-        assert (ran.returncode, ran.stdout) == (1, 2 * out), ran.stderr
+        assert (ran.returncode, ran.stdout) == (int(not last), 2 * out + last), ran.stderr
         assert Path(place, "WTH_2001.new.wtb").read_bytes() == RIGHT
+        assert not Path(place, "WTH_2001.new.wtb.check").exists()

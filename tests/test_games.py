@@ -7,14 +7,16 @@ import os
 import pickle
 import random
 import re
+import sys
 
 import pytest
 
 from bench import player
 from tests.games import (NAMES, PROGRAM, SQUARE_BYTES, discs_of_black, games, line_of, masks_after, positions_of,
                          random_games, reads, real_score, record, squares_of, transcript, transcript_rows, wthor)
-from tests.support import MOST_BYTES, cannot_write, ends, limited, run, write
-from ffosolve import Game, GameRefused, Solver, __version__, read_games
+from tests.support import MOST_BYTES, ROOT, cannot_write, ends, limited, run, stored, write
+from ffosolve import START, Game, GameRefused, Solver, __version__, read_games
+from ffosolve._transcripts import result_fits
 
 RANDOM = random_games(1000, seed=53)
 KNOWN = list(map(positions_of, RANDOM))
@@ -57,10 +59,11 @@ GGF = "(;GM[Othello]PC[GGS/os]DT[2003.12.15_13:24:03.MST]PB[\\]W[a1]PW[B[b]RB[21
 GGF_BOARD = "BO[8 --------  --------  --------  ---O*---  ---*O---  --------  --------  -------- *]"
 
 
-def ggf(game, first=GGF_BOARD, with_passes=True):
-    """Returns a random game in GGF, as https://skatgame.net/mburo/ggsa/ggf shows it, with a blank after some moves."""
+def ggf(game, first=GGF_BOARD, with_passes=True, begin=0):
+    """Returns a random game in GGF, as https://skatgame.net/mburo/ggsa/ggf shows it, with a blank after some moves. Its
+    moves are those from the number `begin` on."""
     moves = ""
-    for at, square in enumerate(game):
+    for at, square in [*enumerate(game)][begin:]:
         if square is not None or with_passes:
             name = "PA" if square is None else NAMES[square].lower() if at % 3 else NAMES[square]
             moves += f"{'BW'[at % 2]}[{name}{('', '/-1.00', ' /2.5/0.01', '//0.01')[at % 4]}]"
@@ -78,15 +81,22 @@ REFUSED = (  # transcript, move, reason
     *((text, move, f"'{word}' is not a square") for text, move, word in (
         ("F5 D6 C5 z9", 4, "z9"), ("f5d6i1c3", 3, "i1"), ("f5d6c3d3c4f4c5b3c2\ufffd", 10, "\ufffd"))),
     ("(;GM[Othello]B[f5]B[d6];)", 2, f"a pass is not a legal move for White in {player.line(*F5[59])}"),
-    (f"2 {ggf(GAME)}{ggf(GAME)}", None, "a line has one game, but this has several in GGF"),
+    (f"{ggf(GAME)}(;GM[Othello]", None, "it begins like a game in GGF, but does not end with `;)`"),
     ("(;GM[Othello]PC[GGS/os])", None, "it begins like a game in GGF, but does not end with `;)`"),
     *((text, None, "it is a game in SGF, or in GGF without GM[Othello]")
       for text in ("(;GM[2]B[f5]W[d6];)", "(;FF[4]GM[2]SZ[8];B[f5];W[d6])")),
     *((f"f5 {marked} c3", None, f"{marked} has a mark, but a transcript has only moves, as f5d6c3")
       for marked in ("d6!", "d6 ?")),
-    *((ggf(GAME, GGF_BOARD.replace(*other)), None, "it is in GGF, and does not begin from the usual position")
-      for other in (("O*", "OO"), (" *]", " O]"))),
+    *((ggf(GAME, board), None, "it is in GGF, and BO does not tell a board of 8 by 8 squares")
+      for board in (GGF_BOARD.replace("8 ", "10 "), GGF_BOARD.replace(" *]", "]"), "TY[s8r20]")),
 )
+
+
+def discs_at_end(game):
+    """How many discs Black and White have after the last move."""
+    found = positions_of(game)
+    own, opp, is_black = found[min(found)]
+    return [mask.bit_count() for mask in ((own, opp) if is_black else (opp, own))]
 
 
 def test_a_wrong_transcript_is_reported_and_the_others_are_printed():
@@ -96,7 +106,8 @@ def test_a_wrong_transcript_is_reported_and_the_others_are_printed():
     out = "".join(line_of(found[58], f"games, game {number}") for number, (_, found) in enumerate(right, 1) if found)
     err = "".join(f"games, game {number}{', move ' * bool(move)}{move or ''}: {why}\n"
                   for number, (_, move, why) in enumerate(REFUSED, 1 + len(right)))
-    text = "\n".join(text for text, *_ in right + REFUSED).encode()
+    right = [(text.replace("33-31", "{}-{}".format(*discs_at_end(GAME))), found) for text, found in right]
+    text = "\n".join(text for text, *_ in [*right, *REFUSED]).encode()
     reads("games", text.replace("\ufffd".encode(), b"\xff"), "--empties=58", out=out, err=err)
     game = next(game for game in random_games(200, seed=1) if len(squares_of(game)) == 59)
     for text, empties, where in (("f5", 58, "move 1: it ends here, with 59 empty squares"),
@@ -178,7 +189,68 @@ def test_a_file_of_another_kind_is_refused(content, why):
     games("none.wtb", "it.wtb", status=3, out=LINE, err=f"none.wtb is not a WTHOR file of games: {why}")
 
 
-@pytest.mark.parametrize("content", (b"PK\3\4\n\0\r\0", b"PK\3\4\24\0\r\0", gzip.compress(b"f5", mtime=0)))
+@pytest.mark.parametrize("form, nothing, fits, misfits", (
+    ("{} {}", "* 12", "13-0 64-0 64:0 (13-0) 1-0 +13 +64 [+64]", "33-31 0-64 0-13 0-1 1/2-1/2 +2 -13 -64 0"),
+    ("(;GM[Othello]{2}RE[{1}];)", "-64.00:t ? +2:r", "+13 +64.00", "-64 +2.0 0.00 +0"),
+), ids=("transcript", "ggf"))
+def test_a_result_that_is_not_that_of_the_board_or_cannot_be_checked_is_reported(form, nothing, fits, misfits):
+    """Black wins the game in nine moves by 13 discs to none, and 51 squares are empty."""
+    won, told = "e6 f4 e3 f6 g5 d6 e7 f5 c5".split(), f"{fits} {misfits}".split()
+    listed = [*nothing.split(), *told]
+    for moves, wrong, why in (
+        (won, misfits.split(), "its result is {}, but its moves give 13-0"),
+        (won[:8], told, "its moves stop before the end of the game, so its result {} is not checked"),
+    ):
+        of_ggf = "".join(f"{'BW'[at % 2]}[{move}]" for at, move in enumerate(moves))
+        write("it", "\n".join(form.format("".join(moves), it, of_ggf) for it in listed))
+        err = [f"it, game {at}: {why.format(it.strip('()[]'))}" for at, it in enumerate(listed, 1) if it in wrong]
+        games("it", "--empties=55", out=None, err="\n".join(err))
+    assert [Game.of_text(f"f5 {it}").result for it in ("33 - 31", "(*).", "[+4]", "")] == ["33 - 31", "*", "+4", None]
+    for result, fits in (("32-32", True), ("1/2-1/2", True), ("1-0", False), ("20-20", True), ("+0", True)):
+        assert result_fits(result, 20, 20) == fits
+
+
+def test_games_in_ggf_have_players_date_and_result_may_be_several_on_a_line_and_begin_anywhere():
+    """Both games of a line begin at a random position with 20 discs."""
+    begun = [game for game in PLAYED if None not in game[:16]][:2]
+    boards = [player.line(*positions_of(game)[44]).translate({ord("X"): "*", ord(";"): None}) for game in begun]
+    line = "2 " + "".join(ggf(game, f"BO[8 {board}]", begin=16) for game, board in zip(begun, boards))
+    write("it", f"{ggf(GAME, 'TY[8]')}\n{line}\n{transcript(GAME)}")
+    first, *both, plain = read_games("it")
+    about = (2003, ("]W[a1", "B[b"), "2003.12.15_13:24:03.MST", "+2")
+    assert [(it.year, it.players, it.date, it.result) for it in (first, *both, plain)] == [about] * 3 + [(None,) * 4]
+    assert [it.number for it in (first, *both, plain)] == [1, 2, 2, 3]
+    for game, found in zip(begun, both):
+        wanted = [player.line(*at) for empties, at in positions_of(game).items() if empties <= 44]
+        assert [it.to_obf() for it in Solver().positions(found)] == wanted
+        assert found.turns()[0][0] == found.start
+    out = "".join(line_of(positions_of(game)[44], "it, game 2") for game in begun)
+    assert out in run(PROGRAM, "it", "--empties=44", text=True).stdout
+    err = run(PROGRAM, "it", "--empties=45", text=True).stderr
+    assert err.count("it, game 2: it begins with 44 empty squares; 45 are asked for\n") == 2
+    several = "it has several games in GGF: read_games reads them"
+    assert (Game.of_text(line).fault, Game.of_text(line).moves) == (several, ())
+    for text in (line, line.split(";)")[0] + ";)"):
+        with pytest.raises(ValueError, match="several games or another first position: read_games reads it$"):
+            START.play_all(text)
+
+
+def test_a_gz_file_is_read_and_a_damaged_one_is_not():
+    """The content of the damaged ones is long enough to be read in several pieces."""
+    packed = gzip.compress(b"".join(b"%%%d\n" % number for number in range(99_999)))
+    reads("it.gz", gzip.compress(WTHOR), out=LISTED.format("it.gz").rstrip() + ", theoretical score 33\n")
+    reads("text.GZ", gzip.compress(TEXT.encode()), "--empties=20", out=LISTED.format("text.GZ"))
+    for content, why in ((packed[:-9], "Compressed file ended before the end-of-stream marker was reached"),
+                         (packed[:-8] + b"damaged!", "CRC check failed .*"),
+                         (packed[:99] + packed[200:], "Error -3 .*")):
+        write("it.gz", content)
+        ran = run(PROGRAM, "--empties=20", "it.gz", text=True)
+        assert re.fullmatch(f"ffosolve-games: cannot read it.gz: {why}\n", ran.stderr) and ran.returncode == 3
+    with pytest.raises(OSError, match="^Error -3"):
+        list(read_games("it.gz"))
+
+
+@pytest.mark.parametrize("content", (b"PK\3\4\n\0\r\0", b"PK\3\4\24\0\r\0"))
 def test_an_archive_is_reported_as_what_it_is(content):
     """Of the first archive, the first line has no NUL byte."""
     for words, name in (("check", "it"), ("check", "it.wtb"), ("compare book", "it.zip"), ("--empties=20", "it.gz")):
@@ -348,10 +420,13 @@ def test_the_status_is_the_highest_that_a_refused_file_causes():
     games("--empties=20", "none", ".", "text", status=3, out=LISTED.format("text"), err=err)
 
 
+MARKED = "it begins with a byte-order mark; `{}` writes a copy without"
+
+
 @pytest.mark.parametrize("content, why", (
-    (b"\xef\xbb\xbf" + TEXT.encode() + b"\n", "it begins with a byte-order mark"),
-    (("\ufeff" + TEXT).encode("utf-16-le"), "it begins with a byte-order mark"),
-    (("\ufeff" + TEXT).encode("utf-16-be"), "it begins with a byte-order mark"),
+    (b"\xef\xbb\xbf" + TEXT.encode() + b"\n", MARKED.format("tail -c +4 <OLD >NEW")),
+    *((("\ufeff" + TEXT).encode(f"utf-16-{end}e"), MARKED.format("iconv -f utf-16 -t utf-8 <OLD >NEW"))
+      for end in "lb"),
     (f"% games\r{TEXT}\r{TEXT}\r".encode(), "its lines end with CR alone"),
     (b"\r" + TEXT.encode(), "its lines end with CR alone"),
     (b"f5\0d6\n" + TEXT.encode(), "its line 1 has a NUL byte, so it is not a text"),
@@ -364,6 +439,9 @@ def test_files_that_are_not_texts_are_refused_and_the_next_is_read(content, why)
     games("compare", "bad", "it.wtb", status=3, err=err)
     for words in (["--empties=20"], ["compare", "-", "it.wtb"]):
         games(*words, input=content, status=3, err=f"cannot read -: {why}")
+    if "`" in why:
+        run("sh", "-c", why.split("`")[1].replace("OLD", "bad").replace("NEW", "good"), check=True)
+        games("--empties=20", "good", out=LISTED.format("good"))
 
 
 @pytest.mark.parametrize("content", (
@@ -411,6 +489,7 @@ def test_a_long_line_is_refused_without_reading_it_all(words, before, out):
     ("check it.wtb --max-empties=61", "--max-empties: takes a number from 0 to 60, not '61'"),
     *((f"check it.wtb --lines={it}", f"--lines: takes a number from 1 to 10000, not '{it}'") for it in ("0", "10001")),
     ("check", "check takes WTHOR files"),
+    ("fix it.wtb", "fix is now the option --fix PLACE of check and compare"),
     ("check it.wtb --cut --fix new.wtb", "--fix does not go with --cut"),
 ))
 def test_wrong_words_are_refused(words, why):
@@ -423,10 +502,36 @@ def test_help_has_all_uses_in_80_columns(monkeypatch):
     printed = run(PROGRAM, "--help", check=True, text=True).stdout
     for task in ("compare", "check"):
         games(task, "--help", out=printed)
-    assert re.search("Black's discs.*the winner gets the empty squares", " ".join(printed.split()))
+    assert re.search("Black's discs.*the winner gets the empty squares", words := " ".join(printed.split()))
+    assert "--folder FOLDER keeps what is solved of all FILEs [default: FILE.check for each FILE]" in words
     uses = "usage: ffosolve-games .*\n       ffosolve-games check .*\n       ffosolve-games compare "
     assert re.match(uses, printed)
     assert max(map(len, printed.splitlines())) <= 80
+
+
+@pytest.mark.parametrize("name", ("ffosolve-many", "ffosolve-games"))
+def test_an_entry_point_of_pip_starts_its_program_or_tells_which_python_that_needs(name):
+    entry = re.search(f'^{name} = "(.*):(.*)"$', stored("python/pyproject.toml").decode(), re.M)
+    needs = f"{name} needs Python 3.10 or later, and this is {sys.version.split()[0]}\n"
+    for version, wanted in (("sys.version_info", (0, f"{name} {__version__}\n", "")), ("(3, 9)", (1, "", needs))):
+        code = f"import sys; sys.version_info = {version}; from {entry[1]} import {entry[2]}; {entry[2]}()"
+        places = {**os.environ, "PYTHONPATH": str(ROOT / "python/src")}
+        ends(wanted, sys.executable, "-c", code, "--version", env=places)
+
+
+def test_a_checkout_builds_a_missing_library_and_ends_with_status_4_if_that_fails():
+    """Also if the variable that names another is empty. The last run builds nothing."""
+    for name in ("bin/ffosolve-games", "python/src", "VERSION"):
+        run("cp", "-r", "--parents", name, os.getcwd(), cwd=ROOT, check=True)
+    os.mkdir("crates")
+    places = {**os.environ}
+    copy = f"mkdir -p out/library; cp {places.pop('FFOSOLVE_LIBRARY')} out/library/libffosolve.so"
+    found = 0, LISTED.format("text")
+    for recipe, wanted in (("false", (4, "")), (copy, found), ("false", found)):
+        write("Makefile", f"library:\n\t@{recipe}\n")
+        for empty in ({}, {"FFOSOLVE_LIBRARY": ""}):
+            ran = run(sys.executable, "bin/ffosolve-games", "--empties=20", "text", env={**places, **empty}, text=True)
+            assert (ran.returncode, ran.stdout) == wanted, ran
 
 
 @pytest.mark.parametrize("words", (

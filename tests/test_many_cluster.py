@@ -19,7 +19,7 @@ import pytest
 from ffosolve._command_line import Refusal
 from ffosolve._many import solve
 from tests import many
-from tests.support import SECONDS, limited, processes_in, run, stored, unshared, wait_until, write
+from tests.support import ROOT, SECONDS, limited, processes_in, run, stored, unshared, wait_until, write
 
 WORDS = ("--lines=4", "--book-in=one.book", *many.WORDS[1:])  # 15 parts
 
@@ -573,6 +573,10 @@ def test_a_missing_or_malformed_dask_is_named(case, dask_python):
         os.symlink(dask_python, "python3")
         case.refused(3, "cannot read none: No such file or directory", "-S", case.MANY, "--scheduler=h1:8786", "none",
                      by="./python3")
+        write("entry", "import sys\nsys.flags.no_site or sys.exit('no package')\n"
+              f"sys.path[:1] = [{str(ROOT / 'python/src')!r}]\nfrom ffosolve._entry_points import many\nmany()\n")
+        case.refused(4, "--scheduler needs the package distributed, which ", "-S", "entry", "--scheduler=h1:8786",
+                     "other", "list.obf", by="./python3")  # since only this one has the package ffosolve
     write("dask/dask.yaml", "distributed: [")
     case.refused(3, "Dask cannot start: ", "--scheduler=h1:8786", "other", "list.obf",
                  places={"DASK_CONFIG": f"{case.folder}/dask"})

@@ -17,6 +17,7 @@ NAMES = "solve_all", "solve_iter", "move_scores_all", "move_scores_iter"
 ARRAYS = "solve_arrays", "move_scores_arrays"
 each_refusal = pytest.mark.parametrize("bad, error", [(SHARED, ffosolve.SharedSquare), (WIDE, ffosolve.TooManyEmpties)])
 on_threads = pytest.mark.parametrize("threads", [1, 2])
+pytestmark = pytest.mark.timeout(60)  # seconds for a test, also if threads wait for each other
 POSITIONS = random_positions(400, range(11))
 
 

@@ -26,7 +26,7 @@ from ffosolve import (
     START, Answer, Board, Game, GameRefused, Kind, NoMove, Position, Scoring, SharedSquare, Solver, Symmetry,
     TooManyEmpties, TooManyEntries, UnknownScoring, UnknownSymmetry, masks_of, parse_lines, read_lines, square_name,
     square_names, square_number)
-from ffosolve._library import libraries_to_try, load, loaded
+from ffosolve._library import libraries_to_try, load, loaded, version_of
 
 EIGHT = Position.from_obf("XOOOO-O-XOOO-OO-XOOOO-OXXXXXXXO-XXOXXXO-OOOOXOOOOXXXOOOOOX-XXXXO X;")  # 8 empty squares
 SHARED, WIDE, WIDER = Position(3, 2), Position(1, 2**31 - 2), Position(1, 2**30 - 2)  # 33 and 34 empty squares
@@ -175,6 +175,7 @@ def test_scorings_limits_and_versions_are_those_of_the_library_and_scorings_and_
     limit = Solver()._library.ffosolve_limit
     assert [limit(0), limit(1), limit(2)] == [ffosolve.MOST_ENTRIES, ffosolve.MOST_EMPTIES, len(Scoring)]
     assert Solver().library_version == re.split(r"\+|\.dev", ffosolve.__version__)[0]
+    assert version_of(mock.Mock(**{"ffosolve_version.return_value": 11_203})) == "1.12.3"
     assert Solver(entries=ffosolve.MOST_ENTRIES).solve(POSITION) == ANSWER
     assert [Solver(max_empties=most).max_empties for most in (0, 60)] == [0, 60]
 

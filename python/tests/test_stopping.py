@@ -5,6 +5,8 @@ import contextvars
 import gc
 import inspect
 import os
+import pickle
+import queue
 import resource
 import shutil
 import signal
@@ -19,9 +21,9 @@ from unittest import mock
 import psutil
 import pytest
 
-from calls import ANSWER, MANY, POSITION as EASY, SEARCHES, find
+from calls import ANSWER, LISTS, MANY, POSITION as EASY, SEARCHES, find
 import ffosolve
-from ffosolve import START, Answer, Kind, Position, Solver, _library, _processes, _solvers
+from ffosolve import START, Answer, Kind, Position, Solver, _bulk, _library, _processes, _solvers
 
 HOPELESS = START  # would take years
 HARD = Position.from_obf("XXX--OXOOXOOOOOO-XXXXXOO-XXXXOOO---XOXOO--OOOOOO---OOXOO----OOOO X;")  # 16 empty squares
@@ -31,7 +33,7 @@ LATE = 60  # seconds that a busy machine may take for what is done at once
 CALLS = [(name, threads) for threads in (1, 3) for name in SEARCHES + MANY]
 each_call, on_threads = pytest.mark.parametrize("name, threads", CALLS), pytest.mark.parametrize("threads", [1, 3])
 # Its mock, the test's first argument, counts how often a program is started for positions.
-START_ONE = _processes.SolverCall.started
+FIND, START_ONE = _processes.Process.find, _processes.SolverCall.started
 counts_starts = mock.patch.object(_processes.SolverCall, "started", autospec=True, side_effect=START_ONE)
 
 
@@ -91,7 +93,8 @@ def wait_until(holds, *why, most=LATE):
 
 
 def by_timeout(call):
-    with pytest.raises(TimeoutError, match="^not finished within 0.3 seconds$"):
+    solved = "; positions solved: [0-9]+( of [0-9]+)?"
+    with pytest.raises(TimeoutError, match=f"^not finished within 0.3 seconds({solved})?$"):
         call(timeout=0.3)
 
 
@@ -214,6 +217,43 @@ def test_a_failed_task_of_a_group_ends_the_calls_of_the_others(solver):
     assert [type(error) for error in caught.value.exceptions] == [ffosolve.SharedSquare]
 
 
+def rows(name, threads, solver, positions, **how):
+    """Makes a call for many positions. Returns a list with what it finds for each."""
+    found = find(name, threads, solver, positions, **how)
+    if name.endswith("arrays"):
+        found = [tuple(map(int, row)) for row in (zip(*found) if name == "solve_arrays" else found)]
+    return found
+
+
+TOO_LONG = {"solve_arrays": (ffosolve.NO_SCORE, 0, 0), "move_scores_arrays": (ffosolve.NO_SCORE,) * 64}
+
+
+@on_threads
+@pytest.mark.parametrize("name", MANY)
+def test_a_position_that_takes_longer_than_each_may_has_no_result_and_the_others_have_theirs(name, threads, solver):
+    """One with at most 14 empty squares is solved in any case."""
+    known = {it: rows(name, threads, solver, [it])[0] for it in (EASY, QUICK)}
+    for each, given in ((0.3, [EASY, HOPELESS, QUICK, HOPELESS, EASY]), (0, [QUICK, HARD, *[EASY] * 600])):
+        found = rows(name, threads, solver, given, each=each, timeout=LATE)
+        assert found == [known.get(it, TOO_LONG.get(name)) for it in given]
+
+
+@on_threads
+@pytest.mark.parametrize("name", LISTS)
+def test_a_list_keeps_what_is_solved_before_its_timeout(name, threads, solver):
+    """While some threads wait for a program, another one solves what needs none."""
+    with pytest.raises(ffosolve.TimedOut) as caught:
+        find(name, threads, solver, given := [HARD, HARD, HOPELESS, HOPELESS, EASY], timeout=2)
+    count = 2 if threads == 1 else 3
+    for error in (caught.value, pickle.loads(pickle.dumps(caught.value))):
+        assert str(error) == f"not finished within 2 seconds; positions solved: {count} of 5"
+        with mock.patch.object(Solver, name, lambda *_, **how: error.found):
+            found = rows(name, threads, solver, given)
+        assert (error.done, found[2:4]) == (count, [TOO_LONG.get(name)] * 2)
+    solved = rows(name, threads, solver, [HARD, HARD, EASY])
+    assert (found[:2], found[4:]) == (solved[:2], solved[2:] if threads > 1 else found[2:3])
+
+
 @counts_starts
 @pytest.mark.parametrize("count, empties, calls", [
     (1, 14, 1), (1, 15, 0), (2, 14, 2), (16, 12, 1), (17, 12, 2), (4096, 8, 16), (4097, 2, 17)])
@@ -237,10 +277,21 @@ def test_an_iterator_that_is_left_stops(threads, leave, solver):
 @on_threads
 def test_an_iterator_yields_what_is_finished_before_the_timeout(threads, solver):
     found, positions = [], [EASY, HARD, EASY, HARD, EASY, HOPELESS]
-    with pytest.raises(TimeoutError):
+    with pytest.raises(ffosolve.TimedOut, match="^not finished within 8 seconds; positions solved: 5$") as caught:
         for answer in solver.solve_iter(positions, threads=threads, timeout=8):
             found.append(answer)
-    assert found == solver.solve_all(positions[:5])
+    assert (found, caught.value.done, caught.value.found) == (solver.solve_all(positions[:5]), 5, None)
+
+
+def test_a_result_that_is_there_is_returned_whatever_the_time(solver):
+    results = queue.SimpleQueue()
+    results.put([ANSWER])
+    assert _bulk.result_of(results, solver._call(0)) == [ANSWER]
+
+
+def test_a_waiting_call_looks_whether_it_has_to_stop_as_often_as_the_help_says(solver):
+    assert "within half a second" in ffosolve.__doc__ and _processes.CHECK_SECONDS == _bulk.CHECK_SECONDS <= 0.5
+    assert solver._call(None).wait_seconds() <= 0.5
 
 
 @on_threads
@@ -262,8 +313,11 @@ def test_a_call_for_one_position_without_a_table_stops(leave):
 def test_a_wrong_timeout_is_refused(name, threads, solver):
     for it, error, why in ((-1, ValueError, "at least 0, not -1"), (float("nan"), ValueError, "at least 0, not nan"),
                            ("1", TypeError, "a number of seconds, not '1'")):
-        with pytest.raises(error, match=f"^timeout is {why}$"):
-            find(name, threads, solver, [EASY], timeout=it)
+        for limit in ["timeout", *["each"] * (name in MANY)]:
+            with pytest.raises(error, match=f"^{limit} is {why}$"):
+                find(name, threads, solver, [EASY], **{limit: it})
+    with pytest.raises(TimeoutError, match="^not finished within 0 seconds"):
+        find(name, threads, solver, [EASY], timeout=0)
 
 
 @counts_starts
@@ -296,18 +350,19 @@ print(end="solved\\n" * (name == "ffosolve"))
 """
 
 
-def with_programs(folder, version):
+def with_programs(folder, version, lib="lib"):
     """Returns the path of a copy of the library, in `lib`, beside which `bin` has stand-ins of a version for both
     programs. They write what they are asked to `log`, find the index of each position, and refuse 77 entries."""
-    (folder / "lib").mkdir()
+    (folder / lib).mkdir(parents=True)
     for name in ("bin/ffosolve", "bin/ffoscores"):
         (folder / name).parent.mkdir(exist_ok=True)
         (folder / name).write_text(STAND_IN.format(python=sys.executable, version=version, log=folder / "log"))
         (folder / name).chmod(0o755)
-    return shutil.copy(Solver()._library._name, folder / "lib" / "it.so")
+    return shutil.copy(Solver()._library._name, folder / lib / "it.so")
 
 
-def test_another_process_gets_each_argument_and_returns_each_status(tmp_path):
+def test_another_process_gets_each_argument_and_returns_each_status(tmp_path, monkeypatch):
+    monkeypatch.setattr(os, "sched_getaffinity", lambda _: {1, 3, 5})
     library = with_programs(tmp_path, Solver().library_version)
     solver, both = Solver(library, scoring=2, entries=5, max_empties=60), [Position(2**63 + 9, 6), Position(12, 3)]
     lines = [position.to_obf("X") + "\n" for position in both]
@@ -315,7 +370,7 @@ def test_another_process_gets_each_argument_and_returns_each_status(tmp_path):
     assert solver.confirm(both[0], Answer(65, Kind.PASS, 0)) == Answer(0, Kind.MOVES, 2**63 + 2)
     assert [answer.score for answer in solver.solve_all(both, threads=99)] == [0, 1]
     assert [answer.score for answer in solver.solve_iter(both)] == [0, 0]  # of a program for each
-    assert solver.move_scores_all(both, threads=2) == [{"A1": -64, "B1": 0}, {"A1": -64, "B1": 1}]
+    assert solver.move_scores_all(both, threads=None) == [{"A1": -64, "B1": 0}, {"A1": -64, "B1": 1}]
     asked = [eval(line) for line in (tmp_path / "log").read_text().splitlines()]
     book = f"% ffobook 2 sign\n{both[0].canonical().to_obf()} PS:-30;\n"
     options = ["--table=5", "--scoring=sign", "--max-empties=60"]
@@ -323,7 +378,7 @@ def test_another_process_gets_each_argument_and_returns_each_status(tmp_path):
         ["ffosolve", "--workers=2", *options, "--book-in", book, lines[0]],
         ["ffosolve", "--workers=0", *options, "", lines[0]], ["ffosolve", "--workers=64", *options, "", "".join(lines)],
         *(["ffosolve", "--workers=0", *options, "", line] for line in lines),
-        ["ffoscores", "--workers=1", *options, "", "".join(lines)]]
+        ["ffoscores", "--workers=2", *options, "", "".join(lines)]]
     for name, threads in CALLS:
         with pytest.raises(ffosolve.NoMemory):
             find(name, threads, Solver(library, entries=77, max_empties=60), both)
@@ -336,6 +391,30 @@ def test_a_program_is_found_beside_a_library_that_is_found_by_its_name_or_on_the
     monkeypatch.setenv("PATH", str(shutil.move(tmp_path / "bin", tmp_path / "elsewhere")))
     assert Solver().solve(HARD, timeout=LATE) == solver.solve(HARD)
     assert Solver(library).solve(HARD, timeout=LATE) == Answer(0, Kind.MOVES, 2**63 + 2)
+
+
+@pytest.mark.parametrize("lib", ["lib", "lib64", "lib/x86_64-linux-gnu", "lib64/glibc-hwcaps/x86-64-v3"])
+def test_a_program_is_found_in_bin_beside_each_folder_for_libraries(lib, solver, tmp_path, monkeypatch):
+    monkeypatch.setenv("PATH", "")
+    found = Solver(with_programs(tmp_path, solver.library_version, lib)).solve(HARD, timeout=LATE)
+    assert found == Answer(0, Kind.MOVES, 2**63 + 2)
+
+
+def test_the_threads_of_a_call_share_one_program_at_a_time_and_a_program_takes_as_long_a_list_as_it_may(solver):
+    """Each thread would give another program a table and all threads of the call."""
+    at_once, most = [], []
+
+    def find_slowly(*given):
+        at_once.append(0)
+        most.append(len(at_once))
+        time.sleep(0.1)
+        FIND(*given)
+        at_once.pop()
+
+    with mock.patch.object(_processes.Process, "find", autospec=True, side_effect=find_slowly):
+        assert len({*solver.solve_all([HARD] * 4, threads=3, each=LATE)}) == 1
+        assert solver.solve_all([HARD, *[EASY] * 15_420], threads=3)[1:] == [ANSWER] * 15_420
+    assert most == [1] * 5
 
 
 def test_calls_of_several_threads_do_not_stop_each_other(solver):
@@ -414,6 +493,7 @@ def test_a_forked_process_has_processes_of_its_own(solver):
         if not forked:
             with contextlib.suppress(BaseException):
                 assert not _processes.PROCESSES and solver.solve(HARD) == wanted
+                assert ThreadPoolExecutor(1).submit(solver.solve, HARD).result(LATE / 4) == wanted
                 os._exit(0)
             os._exit(1)
         assert os.waitpid(forked, 0)[1] == 0
@@ -459,7 +539,7 @@ def test_a_best_line_claims_the_score_that_is_known_and_has_one_timeout(monkeypa
     solver._library.ffosolve_confirm.side_effect = lambda *words: (claims.append(words[3].score), mock.DEFAULT)[1]
     assert solver.best_line(EASY, timeout=LATE) == [("H1", 62), ("PS", -62), ("A1", 62)]
     assert claims == [-62, 62, -62]
-    assert [call.args[1:] for call in calls.call_args_list] == [(LATE, 1)]
+    assert [call.args[1:3] for call in calls.call_args_list] == [(LATE, 1)]
 
 
 PROGRAM = f"""if True:
@@ -519,6 +599,13 @@ def test_an_object_that_is_deleted_while_python_ends_may_call_without_a_timeout(
     found, answer = ran(code), Solver().solve(HARD)
     assert (found.returncode, found.stdout) == (0, f"True {answer} {answer}\n")
     assert found.stderr.splitlines()[-1] == "OSError: Python is ending, so it can't start a process"
+
+
+def test_a_call_leaves_the_signals_of_its_thread_as_they_are(solver):
+    for blocked in ({signal.SIGINT}, set()):
+        before = signal.pthread_sigmask(signal.SIG_SETMASK, blocked)
+        solver.solve(HARD)
+        assert signal.pthread_sigmask(signal.SIG_SETMASK, before) == blocked
 
 
 def test_a_program_that_does_not_catch_ctrl_c_ends():

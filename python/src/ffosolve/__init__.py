@@ -37,18 +37,23 @@ A notebook shows a position as a picture. `position.show(solver.move_scores(posi
 
 These calls take `threads=N` and `timeout=SECONDS`: `compare_scores`, and of a Solver `solve`, `confirm`, `best_line`,
 `move_scores`, `scored_line`, and those whose names end with `_all`, `_iter` or `_arrays`. Threads solve several
-positions at once and, except for an iterator, a position with at least 16 empty squares together.
+positions at once and, except for an iterator, a position with at least 16 empty squares together. `threads=None` stands
+for all processors that Python may use; the default is 1.
+
+The calls for many positions also take `each=SECONDS`: one that takes longer gets None or, in arrays, the score NO_SCORE
+and otherwise 0, and the call goes on. After its `timeout`, it raises a TimedOut, which has what is solved.
 
 A call stops at once if it is interrupted: by Ctrl-C, or another signal whose handler raises an exception; after its
-`timeout` (TimeoutError); if its iterator is closed; or if asyncio cancels the task that awaits
+`timeout` (a TimeoutError); if its iterator is closed; or if asyncio cancels the task that awaits
 `ffosolve.to_thread(solver.solve, position)`. What awaits `asyncio.to_thread` or another pool of threads can be
 cancelled, too, but the call goes on in its thread until its `timeout`, and `asyncio.run` waits for it.
 
 Positions with more than 14 empty squares are solved by the programs `ffosolve` and `ffoscores`, which end when their
 call stops, or with this program. They are those in the wheel, beside the library (`lib` and `bin`) or on the path, if
 they have the library's version. If somebody else ends one, its call raises ChildProcessError. If there is none, or
-while Python is ending, a call with a `timeout` raises OSError, and one without is made in this process. Positions with
-fewer, unless they follow such a one in a list, are solved here; a call ends within half a second after its `timeout`.
+while Python is ending, a call with `timeout` or `each` raises OSError, and one without is made in this process. Others,
+unless they follow such a one in a list, are solved here, however small `each` is; a call ends within half a second
+after its `timeout`.
 
 The wheel that `make wheel` builds contains the shared library and the programs. Without that wheel, install ffosolve,
 or name the library: `Solver("FOLDER/libffosolve.so")` or FFOSOLVE_LIBRARY. Reading, writing and showing positions needs
@@ -62,7 +67,7 @@ The classes and functions have a help of their own, such as `help(ffosolve.Posit
     arrays       masks_of positions_from
     errors       Refused (of calls: NoMemory NoMove SharedSquare TooManyEmpties TooManyEntries UnequalLengths
                  UnknownScoring UnknownSymmetry OtherRefusal; of lines: LineRefused NoPosition ShortBoard BadSquare
-                 BadSide), whose `status` is a Status; GameRefused LibraryNotFound ReadingWarning"""
+                 BadSide), whose `status` is a Status; GameRefused LibraryNotFound ReadingWarning TimedOut"""
 from typing import TYPE_CHECKING
 
 from ._answers import Answer, Kind, Scoring
@@ -71,7 +76,7 @@ from ._boards import Board
 from ._games import Game, GameRefused, read_games
 from ._library import MOST_EMPTIES, MOST_ENTRIES, NO_SCORE, LibraryNotFound
 from ._positions import START, Discs, Position, parse_lines, read_lines
-from ._processes import to_thread
+from ._processes import TimedOut, to_thread
 from ._refusals import (
     BadSide, BadSquare, LineRefused, NoMemory, NoMove, NoPosition, OtherRefusal, Refused, SharedSquare, ShortBoard,
     Status, TooManyEmpties, TooManyEntries, UnequalLengths, UnknownScoring, UnknownSymmetry)
@@ -89,9 +94,9 @@ if TYPE_CHECKING:
         "MOST_EMPTIES", "MOST_ENTRIES", "NO_SCORE", "START", "Answer", "BadSide", "BadSquare", "Board", "Discs", "Game",
         "GameRefused", "Kind", "LibraryNotFound", "LineRefused", "NoMemory", "NoMove", "NoPosition", "OtherRefusal",
         "Position", "ReadingWarning", "Refused", "ScoreComparison", "Scoring", "SharedSquare", "ShortBoard", "Solver",
-        "Status", "Symmetry", "TooManyEmpties", "TooManyEntries", "UnequalLengths", "UnknownScoring", "UnknownSymmetry",
-        "WrongScore", "compare_scores", "masks_of", "parse_lines", "positions_from", "read_games", "read_lines",
-        "square_name", "square_names", "square_number", "table_entries", "to_thread",
+        "Status", "Symmetry", "TimedOut", "TooManyEmpties", "TooManyEntries", "UnequalLengths", "UnknownScoring",
+        "UnknownSymmetry", "WrongScore", "compare_scores", "masks_of", "parse_lines", "positions_from", "read_games",
+        "read_lines", "square_name", "square_names", "square_number", "table_entries", "to_thread",
     ]
 else:
     def __getattr__(name):

@@ -9,7 +9,8 @@ from ._squares import c_positions, checked_position, checked_positions, masks_an
 
 
 class Answers(NamedTuple):
-    """The answers for many positions: three arrays of the same length, of int32, int32 and uint64."""
+    """The answers for many positions: three arrays of the same length, of int32, int32 and uint64. A position that took
+    longer than `each` seconds has the score NO_SCORE, and otherwise 0."""
 
     score: Any
     kind: Any

@@ -34,11 +34,13 @@ class Board:
     `own`, `opp` and `side` are those of a Position: the masks of the discs of the side to move and of the other side,
     and the colour of the side to move, "X" or "O". Below the board, this colour and `state` follow, as "X is to move".
     `scores` is {name of an empty square: score}: each score is shown in its square, and the highest are marked. The
-    picture marks the disc on the square `last_move`, if that is given. Raises ValueError for another side, a score of
-    no empty square, or a `last_move` without a disc; TypeError for a score that is not a number."""
+    picture marks the disc on the square `last_move`, if that is given. Other scores, `listed`, are shown in parentheses
+    after the `scores` of the same squares. Raises ValueError for another side, a score of no empty square, or a
+    `last_move` without a disc; TypeError for a score that is not a number."""
 
     def __init__(self, own: int, opp: int, side: str, scores: Optional[Mapping[str, float]] = None,
-                 state: str = "is to move", last_move: Optional[str] = None) -> None:
+                 state: str = "is to move", last_move: Optional[str] = None,
+                 listed: Optional[Mapping[str, float]] = None) -> None:
         self.state = state
         self.side, other = checked_side(side), OTHER[side]
         self.letters = [side if own >> at & 1 else other if opp >> at & 1 else "-" for at in range(64)]
@@ -47,6 +49,7 @@ class Board:
             checked_score(square_name(at), score)
             if self.letters[at] != "-":
                 raise ValueError(f"{square_name(at)} has a score, but is not empty")
+        self.listed = {square_number(name): f"({round(score, 1):+g})" for name, score in (listed or {}).items()}
         self.best = max(self.scores.values(), default=None)
         self.last = None if last_move is None else square_number(last_move)
         if self.last is not None and self.letters[self.last] == "-":
@@ -57,10 +60,10 @@ class Board:
         return "".join(self.letters) + f" {self.side};"
 
     def __str__(self) -> str:
-        width = 4 if self.scores else 1
         texts = [*self.letters]
         for at, score in self.scores.items():
-            texts[at] = f"{score:+}" + "*" * (score == self.best)
+            texts[at] = f"{score:+}" + "*" * (score == self.best) + self.listed.get(at, "")
+        width = max(4, *map(len, texts)) if self.scores else 1
         rows = [texts[first:first + 8] for first in range(0, 64, 8)]
         lines = [" ".join(f"{text:>{width}}" for text in row) for row in ["ABCDEFGH", *rows]]
         return "\n".join([*map("{} {}".format, " 12345678", lines), f"{self.side} {self.state}"])
@@ -105,7 +108,9 @@ class Board:
             if is_best:
                 yield f'<rect x="{left}" y="{top}" width="{SQUARE}" height="{SQUARE}" fill="{MARK}"/>'
             how = f'fill="{INK}" font-weight="bold"' if is_best else 'fill="#ffffff"'
-            yield f'<text x="{x}" y="{y + 5}" {how}>{self.scores[at]:+}</text>'
+            yield f'<text x="{x}" y="{y - 4 if at in self.listed else y + 5}" {how}>{self.scores[at]:+}</text>'
+            if at in self.listed:
+                yield f'<text x="{x}" y="{y + 13}" {how} font-size="11">{self.listed[at]}</text>'
 
 
 def disc(side: str, x: int, y: int, radius: int) -> str:

@@ -7,7 +7,7 @@ import time
 from collections import deque
 from typing import Any, Callable, Deque, Iterable, Iterator, List, NamedTuple, Tuple, TypeVar, Union
 
-from ._processes import LIGHTEST, SolverCall, is_brief
+from ._processes import CHECK_SECONDS, LIGHTEST, SolverCall, is_brief
 from ._refusals import Refused
 from ._squares import c_positions, checked_position, checked_positions
 
@@ -31,14 +31,16 @@ class Batch(NamedTuple):
 def slices_of(empties: List[int], call: SolverCall, at_once: bool) -> Iterator[Tuple[slice, int]]:
     """Cuts positions, given by their numbers of empty squares, into slices; yields each with its greatest number. The
     library solves a slice in a brief call (see `is_brief`). If a slice's first position alone takes longer, a program
-    solves the slice and, if `at_once`, also the positions after it."""
+    solves the slice and, if `at_once`, also the positions after it, up to the `most_weight` of the call."""
     gets_all = at_once and not is_brief(1, max(empties, default=0)) and call.has_program()
     start = greatest = weight = 0
     for at, count in enumerate(empties):
         more = 1 << max(0, count - LIGHTEST)
         weight += more
-        fits = weight <= MOST_WEIGHT and is_brief(1, greatest) == is_brief(at + 1 - start, max(greatest, count))
-        if at > start and not (fits or gets_all and not is_brief(1, greatest) and at - start < MOST_IN_LIST):
+        fits = (weight <= min(MOST_WEIGHT, call.most_weight)
+                and is_brief(1, greatest) == is_brief(at + 1 - start, max(greatest, count)))
+        joins = gets_all and not is_brief(1, greatest) and at - start < MOST_IN_LIST and weight <= call.most_weight
+        if at > start and not (fits or joins):
             yield slice(start, at), greatest
             start, greatest, weight = at, 0, more
         greatest = max(greatest, count)
@@ -78,7 +80,8 @@ def batches_of(positions: Iterable[Iterable[int]], max_empties: int, call: Solve
 
 def in_order(call: SolverCall, solve: Callable[[A], Iterable[B]], batches: Iterable[A], threads: int) -> Iterator[B]:
     """Calls `solve` with each of `batches`, on up to `threads` new threads or, if that is 1 or none can be started, on
-    the caller's. Yields the items that it returns, in order. Stops `call`, of which this is a part, when closed."""
+    the caller's. Yields the items that it returns, in order. Stops `call`, of which this is a part, when closed. Raises
+    what `solve` does, but TimedOut for a TimeoutError."""
     # An exception of a signal's handler may leave a Future locked, but not a SimpleQueue.
     tasks: "queue.SimpleQueue[Any]" = queue.SimpleQueue()
     waiting: Deque["queue.SimpleQueue[Any]"] = deque()  # for each batch, a queue that gets its result
@@ -87,7 +90,6 @@ def in_order(call: SolverCall, solve: Callable[[A], Iterable[B]], batches: Itera
         taken: Iterator[Any] = iter(tasks.get, None)
         for results, batch in taken:
             try:
-                call.wait_seconds()
                 results.put(solve(batch))
             except BaseException as error:
                 results.put(error)
@@ -96,8 +98,7 @@ def in_order(call: SolverCall, solve: Callable[[A], Iterable[B]], batches: Itera
     try:
         if threads == 1 or not is_started(work):
             for batch in batches:
-                call.wait_seconds()
-                yield from solve(batch)
+                yield from call.counted(solve(batch))
             return
         for number, batch in enumerate(batches):
             if 0 < number < threads:
@@ -105,9 +106,11 @@ def in_order(call: SolverCall, solve: Callable[[A], Iterable[B]], batches: Itera
             waiting.append(queue.SimpleQueue())
             tasks.put((waiting[-1], batch))
             while waiting and (not waiting[0].empty() or len(waiting) >= BATCHES_AHEAD * threads):
-                yield from result_of(waiting.popleft(), call)
+                yield from call.counted(result_of(waiting.popleft(), call))
         while waiting:
-            yield from result_of(waiting.popleft(), call)
+            yield from call.counted(result_of(waiting.popleft(), call))
+    except TimeoutError:
+        raise call.timed_out(call.done) from None
     finally:
         call.is_left = True
         tasks.put(None)
@@ -123,11 +126,14 @@ def is_started(work: Callable[[], None]) -> bool:
 
 
 def result_of(results: "queue.SimpleQueue[Any]", call: SolverCall) -> Any:
-    """Returns the result in a queue or, if it is an exception, raises it. Waits for it while `call` goes on."""
+    """Returns the result in a queue or, if it is an exception, raises it. Waits for it until `call` is left: at the end
+    of its time, what solves it puts a result there."""
     result = None
     while result is None:
+        if results.empty():
+            call.check()
         with contextlib.suppress(queue.Empty):
-            result = results.get(timeout=call.wait_seconds() if results.empty() else 0)
+            result = results.get(timeout=CHECK_SECONDS)
     if isinstance(result, BaseException):
         raise result
     return result

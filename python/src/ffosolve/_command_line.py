@@ -161,7 +161,7 @@ def lock_file(file: int, folder: Union[str, "os.PathLike[str]"], what: str) -> N
         except OSError as why:
             return say(f"cannot lock {shown(folder)}, since its file system has no flock ({why.strerror}): let no other"
                        f" {what} work there, or name another folder")
-    raise Refusal(f"another {what} works in {shown(folder)}")
+    raise Refusal(f"another {what} works in {shown(folder)}: wait for its end, or name another folder")
 
 
 def print_all(pieces: Iterable[bytes]) -> None:

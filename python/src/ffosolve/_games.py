@@ -2,6 +2,7 @@
 import contextlib
 import io
 import os
+import re
 import struct
 import warnings
 from typing import Any, BinaryIO, Callable, Iterator, List, NamedTuple, Optional, Sequence, Tuple, Union
@@ -9,8 +10,8 @@ from typing import Any, BinaryIO, Callable, Iterator, List, NamedTuple, Optional
 from ._positions import NO_SQUARE, START, Position, played
 from ._refusals import NoMove
 from ._squares import NAMES
-from ._text import NotText, ReadingWarning, refuse_archive, shown, text_lines
-from ._transcripts import PASSES, SPREAD, transcript_words
+from ._text import NotText, ReadingWarning, refuse_archive, shown, text_lines, unpacked
+from ._transcripts import PASSES, SPREAD, Transcript, transcripts_in
 
 PASS = 64  # instead of a square's number
 WORDS = {**{name.lower(): number for number, name in enumerate(NAMES)}, **dict.fromkeys(PASSES, PASS)}
@@ -46,7 +47,9 @@ class Game(NamedTuple):
     how many. `real` is the score of the game as it was played.
 
     `year`, `players` (Black's and White's names) and `tournament` are None unless a WTHOR file or, for the names, the
-    files beside it say them: see `read_games`."""
+    files beside it say them: see `read_games`; or, except for the tournament, a game in GGF. That may have a `date`,
+    and another first position, `start`. `result` is what a transcript ends with, such as `33-31` or `*`, or that of a
+    game in GGF, such as `+2.00` (Black's discs minus White's) or `-64.00:t` (out of time)."""
 
     number: int
     moves: Sequence[int] = ()  # squares' numbers, PASS or NO_SQUARE
@@ -58,19 +61,19 @@ class Game(NamedTuple):
     year: Optional[int] = None
     players: Optional[Tuple[str, str]] = None
     tournament: Optional[str] = None
+    date: Optional[str] = None
+    result: Optional[str] = None
+    start: Position = START
 
     @classmethod
     def of_text(cls, text: str, number: int = 1) -> "Game":
         """The game of a transcript such as `f5d6c3` or `1. F5 2. D6`: squares with blanks, commas, hyphens or nothing
         between them, and with or without move numbers. A pass may be left out, or written `pass`, `ps`, `pa` or `--`. A
-        result at the end, such as `33-31` or, for an open one, `*`, is skipped, and so are headers in brackets before
-        the moves and everything from `%` on. A game in GGF, `(;GM[Othello] .. ;)`, is read, too; one of another kind or
-        position gets a `fault`, as does a game in SGF, or with marks such as `f5!`."""
-        try:
-            words = transcript_words(text)
-        except ValueError as why:
-            return cls(number, fault=str(why))
-        return cls(number, [WORDS.get(word, NO_SQUARE) for word in words], words)
+        result, such as `33-31`, may come last. Headers in brackets before the moves and everything from `%` on are
+        skipped. A game in GGF, `(;GM[Othello] .. ;)`, is read, too; one of another kind or board gets a `fault`, as do
+        several games, a game in SGF, or with marks such as `f5!`."""
+        first, *others = games_of(text, number)
+        return first if not others else cls(number, fault="it has several games in GGF: read_games reads them")
 
     @property
     def squares(self) -> List[str]:
@@ -97,12 +100,31 @@ class Game(NamedTuple):
         return self.words[at] if at < len(self.words) else self.moves[at]
 
 
+def games_of(text: str, number: int) -> List[Game]:
+    """The games on a line, of which only one in GGF may have several. One that can't be read has a `fault`."""
+    try:
+        return [game_of(transcript, number) for transcript in transcripts_in(text)]
+    except ValueError as why:
+        return [Game(number, fault=str(why))]
+
+
+def game_of(transcript: Transcript, number: int) -> Game:
+    words, result, board, headers = transcript
+    date, black, white = (headers.get(name) or None for name in ("DT", "PB", "PW"))
+    year = re.match(r"\d{4}(?!\d)", date or "")
+    return Game(
+        number, [WORDS.get(word, NO_SQUARE) for word in words], words, year=int(year[0]) if year else None,
+        players=(black, white) if black and white else None, date=date, result=result or None,
+        start=Position.from_obf(board[1:]))
+
+
 def read_games(source: "Union[str, os.PathLike[str], io.BufferedIOBase, io.RawIOBase]",
                refused: Optional[Callable[[GameRefused], object]] = None) -> Iterator[Game]:
     """Yields the games of a WTHOR file, or of a text with a game in each line, in their order. `source` is a path or a
-    file opened in binary mode. A line of a text may have any form that `Game.of_text` reads; lines without a move are
-    skipped. The names of players and tournaments come from the files WTHOR.JOU and WTHOR.TRN in the folder of a WTHOR
-    file, or from its only file .JOU and .TRN; a ReadingWarning says if there are several.
+    file opened in binary mode; it may be a .gz file. A line of a text may have any form that `Game.of_text` reads, and
+    several games in GGF; lines without a move are skipped. The names of players and tournaments come from the files
+    WTHOR.JOU and WTHOR.TRN in the folder of a WTHOR file, or from its only file .JOU and .TRN; a ReadingWarning says if
+    there are several.
 
     Raises GameRefused for a game with a `fault`, such as the last one of a WTHOR file of wrong length; if `refused` is
     given, it is called with the error instead. An illegal move is refused only by `Solver.positions`. Raises ValueError
@@ -138,13 +160,14 @@ def games_in(file: Any, name: str) -> Tuple[Iterator[Game], Optional[int]]:
     """Returns (games of a file, number of empty squares at their theoretical scores). The number is 0 if the header of
     a WTHOR file gives none, and None for a text. Raises NotText, with `name` in it, for other files, also for a WTHOR
     file without games on 8 by 8 squares. The lines of a text are tested only while the games are iterated over."""
+    file = unpacked(file)
     refuse_archive(file.peek(4), name)
-    if not name.lower().endswith(".wtb") and file.peek(1)[:1].strip(TEXT) == b"":
+    if not name.lower().endswith((".wtb", ".wtb.gz")) and file.peek(1)[:1].strip(TEXT) == b"":
         if SPREAD.search(file.peek(1)):
             why = "a game is on several lines, as in a PGN or SGF file, but a text has one game in each line"
             raise NotText(f"cannot read {name}: {why}")
         lines = enumerate(text_lines(file, name), 1)
-        games = (Game.of_text(line.decode("utf-8", "replace"), number) for number, line in lines)
+        games = (game for number, line in lines for game in games_of(line.decode("utf-8", "replace"), number))
         return (game for game in games if game.moves or game.fault), None
     head = file.read(HEADER.size)
     count, other, year, board, kind, empties = HEADER.unpack(head.ljust(HEADER.size, b"\0"))
@@ -164,7 +187,7 @@ def games_in(file: Any, name: str) -> Tuple[Iterator[Game], Optional[int]]:
 
 def records(file: Any, count: int, year: int, empties: int) -> Iterator[Game]:
     """Yields the games after a WTHOR file's header. If its length is wrong, the last one has a `fault` and no moves."""
-    path = getattr(file, "name", None)
+    path = getattr(file, "name", None) or None
     players, tournaments = (names_beside(path, it) if isinstance(path, str) else b"" for it in (".jou", ".trn"))
     counts = f"its header counts {count} game{'s' * (count != 1)}"
     for number in range(1, count + 1):
@@ -212,9 +235,9 @@ def positions_of(game: Game) -> List[Position]:
     """The positions of a game: the start, and the one after each move except passes. Raises GameRefused."""
     if game.fault is not None:
         raise GameRefused(game.fault, game.number)
-    found = [START]
+    found = [game.start]
     try:
-        for position in played(START, moves_of(game)):
+        for position in played(game.start, moves_of(game)):
             if position.last_move != "PS":
                 found.append(position)
     except NoMove as why:
@@ -232,8 +255,10 @@ def moves_of(game: Game) -> Iterator[Union[int, str]]:
 
 def position_with(empties: int, game: Game, found: List[Position]) -> Position:
     """The first of a game's positions `found` with `empties` empty squares. Raises GameRefused if there is none."""
+    if (first := found[0].empties) < empties:
+        raise GameRefused(f"it begins with {first} empty squares; {empties} are asked for", game.number)
     if (left := found[-1].empties) <= empties:
-        return found[START.empties - empties]
+        return found[first - empties]
     if not game.moves:
         raise GameRefused("it has no moves", game.number)
     why = f"it ends here, with {left} empty square{'s' * (left > 1)}; {empties} are asked for"

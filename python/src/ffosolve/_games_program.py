@@ -10,11 +10,12 @@ import warnings
 from typing import Any, Callable, Dict, Iterable, Iterator, List, NamedTuple, NoReturn, Optional
 
 from ._command_line import DONE, MISSING, MISUSED, MOST_LINES, REMARKED, UNREADABLE
-from ._command_line import Parser, Refusal, file_of, number, print_all, refusing, run, say, write_whole
+from ._command_line import Parser, Refusal, counted, file_of, number, print_all, refusing, run, say, write_whole
 from ._games import Game, GameRefused, corrected, discs_of_black, games_in, position_with, positions_of
 from ._library import MOST_EMPTIES, LibraryNotFound, load
 from ._positions import Position
-from ._text import BOOK_HEADER, ENTRY, NotText, ReadingWarning, shown, text_lines
+from ._text import BOOK_HEADER, ENTRY, NotText, ReadingWarning, shown, text_lines, unpacked
+from ._transcripts import TELLS, result_fits
 
 NAME = "ffosolve-games"
 SOLVER = "ffosolve-many"
@@ -30,8 +31,9 @@ the exact one.
 A FILE is a WTHOR file (.wtb) or a text with one game in each line. A line of a
 text has the squares of the moves, as f5d6c3 or `1. F5 2. D6`, with blanks,
 commas, hyphens or nothing between them. A pass is left out, or is written as
-`pass`, `ps`, `pa` or `--`. Headers in brackets before the moves are skipped, as
-is a result at the end, such as 33-31 or *. A line may also be a game in GGF.
+`pass`, `ps`, `pa` or `--`. A result, such as 33-31 or *, may come last. Headers
+in brackets before the moves are skipped. A line may also be a game in GGF, or
+several. A FILE or BOOK may be packed by gzip.
 
 The comment of a printed line names the file and the game: its line in a text,
 or its place in a WTHOR file. If the WTHOR file has a theoretical score for N
@@ -49,8 +51,8 @@ files, WTHOR.JOU and WTHOR.TRN, are in the folder of the WTHOR file.
 MORE = f"""\
 The side to move in a printed position may have to pass. A game is reported on
 standard error instead if it has an illegal move, or ends before the position.
-There is also a line if the real score of a WTHOR file's game does not fit its
-moves, or the moves stop before the end of the game.
+There is also a line if the real score of a WTHOR file's game or the result of
+another does not fit its moves, or the moves stop before the end of the game.
 
 --fix never overwrites a file. Scores that were not compared stay as they are,
 and a line on standard error counts them. A header that does not say how many
@@ -132,6 +134,7 @@ def read_options(words: List[str]) -> argparse.Namespace:
     of_check += [word.partition("=")[0] for word in options.many]
     fixes = options.fix is not None
     for is_wrong, why in (
+        (words[:1] == ["fix"] and not os.path.exists("fix"), "fix is now the option --fix PLACE of check and compare"),
         (not task and (fixes or options.real),
          "--fix and --real go with check or compare, which has to be the first word"),
         (task != "check" and of_check, f"{''.join(of_check[:1])} goes with check, which has to be the first word"),
@@ -206,7 +209,8 @@ def found_in(name: str, options: argparse.Namespace, messages: Messages) -> Iter
     with file_of(name) as file:
         games, of_scores = games_in(file, shown(name))
         if options.task and of_scores is None:
-            raise Refusal(f"{shown(name)} is a text, which has no theoretical scores")
+            book = "a BOOK of --book-out, and " * (options.task == "compare")
+            raise Refusal(f"{shown(name)} is a text, but {options.task} takes {book}WTHOR files")
         empties = of_scores if options.empties is None or options.task and of_scores else options.empties
         if empties is None:
             raise Refusal(f"{shown(name)} is a text: its games need --empties N", MISUSED)
@@ -214,7 +218,7 @@ def found_in(name: str, options: argparse.Namespace, messages: Messages) -> Iter
             raise Refusal(f"{shown(name)} does not say how many squares are empty at its theoretical scores; "
                           "try --empties 22 or 24, the usual numbers", MISUSED)
         for game in games:
-            position = real = exact = None
+            last = position = real = exact = None
             try:
                 *_, last = positions = positions_of(game)
                 real = discs_of_black(last.score(), last.side) if last.is_over else None
@@ -228,13 +232,13 @@ def found_in(name: str, options: argparse.Namespace, messages: Messages) -> Iter
                 game = game._replace(score=None)
             found = Found(name, game, position, real, exact)
             yield found
-            for wrong in wrong_scores(game, real) if position or exact is not None else ():
+            for wrong in wrong_scores(game, last, real) if last and (position or exact is not None) else ():
                 messages.report(f"{found.title}: {wrong}", REMARKED)
 
 
-def wrong_scores(game: Game, discs: Optional[int]) -> Iterator[str]:
-    """Yields a message for each score above 64 discs, and if the game's real score, which the file gives for its end,
-    is not `discs` or can't be checked. `discs` is how many Black has then, or None if the moves stop before that."""
+def wrong_scores(game: Game, last: Position, discs: Optional[int]) -> Iterator[str]:
+    """Yields a message for each score above 64 discs, and if the game's real score or result is not that of its `last`
+    position or can't be checked. `discs` is how many Black has then, or None if the moves stop before the end."""
     for kind, score in (("theoretical", game.score), ("real", game.real)):
         if score is not None and score > 64:
             yield f"its {kind} score is {score}, more than 64 discs"
@@ -242,12 +246,20 @@ def wrong_scores(game: Game, discs: Optional[int]) -> Iterator[str]:
             yield f"its moves stop before the end of the game, so its real score {score} is not checked"
         elif kind == "real" and score not in (None, discs):
             yield f"its real score is {score}, but its moves give {discs}"
+    result = game.result or ""
+    if discs is None and TELLS.fullmatch(result):
+        yield f"its moves stop before the end of the game, so its result {result} is not checked"
+    elif not result_fits(result, *last.discs):
+        yield f"its result is {result}, but its moves give {last.discs.black}-{last.discs.white}"
 
 
 def check(options: argparse.Namespace, messages: Messages) -> Iterator[bytes]:
     """Does what `compare` does, with scores that ffosolve-many finds. With --cut, lets it cut lists; yields nothing."""
     found, copies = scored_games(options, messages), new_paths(options)
-    folders = folders_of(found, options)
+    folders, most = folders_of(found, options), MOST_EMPTIES if options.max_empties is None else options.max_empties
+    more = [it.position.empties for it in found if it.position and it.position.empties > most]
+    if more and "--quiet" not in options.many:
+        say(f"{counted(len(more), 'position')} left out: --max-empties {max(more)} takes all")
     scores = exact_scores(folders, options.lines or 10, options.many) if folders else {}
     if "--cut" not in options.many:
         yield from compared(found, copies, scores, options, messages)
@@ -258,7 +270,7 @@ def compare(options: argparse.Namespace, messages: Messages) -> Iterator[bytes]:
     found, copies = scored_games(options, messages), new_paths(options)
     with file_of(*options.book) as file:
         name = shown(*options.book)
-        scores = scores_in(text_lines(file, name), name)
+        scores = scores_in(text_lines(unpacked(file), name), name)
     yield from compared(found, copies, scores, options, messages)
 
 
@@ -326,7 +338,9 @@ def exact_scores(folders: Dict[str, List[Position]], lines: int, words: List[str
                 ran = subprocess.run([*command, *options, "--", folder, "-"], input=text, encoding="utf-8",
                                      errors="surrogateescape", stdout=None if is_shown else subprocess.PIPE)
             if status := ran.returncode:
-                other = "; --folder names another folder" if status == MISUSED else ""
+                place = folder if os.path.exists(folder) else os.path.dirname(folder) or "."
+                is_other = status == MISUSED or not os.access(place, os.W_OK)
+                other = "; --folder names another folder" if is_other else ""
                 raise Refusal(f"{SOLVER} has not solved all, so no score is compared{other}",
                               status if status > 1 else UNREADABLE)
             for at, score in re.findall("(?m)^([0-9]+) ([+-][0-9]{2}) ", ran.stdout or ""):
@@ -351,7 +365,8 @@ def new_paths(options: argparse.Namespace) -> Dict[str, str]:
     if options.fix is None:
         return {}
     place, names = options.fix, options.files
-    paths = [os.path.join(place, os.path.basename(name)) for name in names] if os.path.isdir(place) else [place]
+    bases = [re.sub(r"(?i)\.gz$", "", os.path.basename(name)) for name in names]
+    paths = [os.path.join(place, base) for base in bases] if os.path.isdir(place) else [place]
     if len(paths) < len(names):
         raise Refusal(f"--fix takes a folder, since {len(names)} WTHOR files are named")
     if len(set(paths)) < len(names):
@@ -370,7 +385,7 @@ def fix(copies: Dict[str, str], found: List[Found], options: argparse.Namespace)
         raise Refusal("no theoretical score is compared, so --fix has none to write")
     games = {path: [it for it in found if it.file == name and it.game.fault is None] for path, name in copies.items()}
     with contextlib.ExitStack() as stack:
-        pieces = {path: corrected(stack.enter_context(file_of(name)), options.empties or 0,
+        pieces = {path: corrected(unpacked(stack.enter_context(file_of(name))), options.empties or 0,
                                   [(it.game, it.exact, it.real if options.real else None) for it in games[path]])
                   for path, name in copies.items()}
         try:

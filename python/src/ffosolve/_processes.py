@@ -18,24 +18,56 @@ import threading
 import time
 import weakref
 from concurrent.futures import CancelledError
-from typing import Any, Callable, Dict, List, Optional, Tuple, TypeVar
+from typing import Any, Callable, Dict, Iterable, Iterator, List, Optional, Tuple, TypeVar
 
 from ._answers import Kind, Scoring
-from ._library import MOST_EMPTIES, NO_SCORE, CMoveScores, folder_of, search, version_of
+from ._library import MOST_EMPTIES, NO_SCORE, CAnswer, CMoveScores, folder_of, search, version_of
 from ._obf import parsed
 from ._positions import Position
-from ._refusals import NoMemory, Status
+from ._refusals import NoMemory, Status, checked_number
 from ._squares import NAMES
 from ._text import BOOK_HEADER
 
 T = TypeVar("T")
 Seconds = Optional[float]  # None stands for any time
+Count = Optional[int]  # of threads; None stands for as many as there are processors that this process may use
+ALL_SQUARES = 2**64 - 1
 BRIEF, LIGHTEST = 4096, 8  # a call is brief for so many positions with up to so many empty squares: see `is_brief`
+# The weight of a position that alone is not brief (`slices_of` says what the others weigh), and of positions that may
+# get lost at a timeout.
+HEAVY, MOST_LOST = 128, 16_384
 CHECK_SECONDS = 0.2  # how often a waiting call finds out whether it has to stop, also by a signal to another thread
+# Stand for what is not found. No position has all squares as legal moves.
+UNSOLVED = {CAnswer: CAnswer(NO_SCORE), CMoveScores: CMoveScores((NO_SCORE,) * 64, ALL_SQUARES)}
 STARTS = threading.RLock()  # is held while this process has ends of pipes that a forked process must not have
 PATHS: Dict[Tuple[str, ctypes.CDLL], str] = {}  # what `program` has found
 PROCESSES: "weakref.WeakSet[Process]" = weakref.WeakSet()  # those that there are
 CANCELLED = contextvars.ContextVar("cancelled", default=threading.Event())  # is set once nobody awaits the result
+
+
+class TimedOut(TimeoutError):
+    """A call for many positions took more than `timeout` seconds. `done` positions are solved. `found` is what the call
+    returns, but as if each other position had taken too long: see `help(ffosolve)`. That of an iterator is None."""
+
+    def __init__(self, *text: str, done: int = 0, found: Any = None) -> None:
+        super().__init__(*text)
+        self.done, self.found = done, found
+
+
+def threads_of(threads: Count) -> int:
+    """The number of threads that `threads` stands for. Raises TypeError and ValueError for a wrong one."""
+    return len(os.sched_getaffinity(0)) if threads is None else checked_number("threads", threads, 1)
+
+
+def seconds_of(name: str, seconds: Seconds) -> float:
+    """How long the `seconds` of an argument are. Raises TypeError and ValueError for what is no time."""
+    if seconds is None:
+        return math.inf
+    if not isinstance(seconds, numbers.Real):
+        raise TypeError(f"{name} is a number of seconds, not {reprlib.repr(seconds)}")
+    if not seconds >= 0:
+        raise ValueError(f"{name} is at least 0, not {seconds}")
+    return float(seconds)
 
 
 def is_brief(count: int, empties: int) -> bool:
@@ -91,15 +123,16 @@ class Process:
         finally:
             signal.pthread_sigmask(signal.SIG_SETMASK, masked)
 
-    def output(self, lines: str, call: "SolverCall") -> Tuple[int, bytes, str]:
-        """Returns the program's status, output and errors for a list; or kills it, and raises what `call` raises."""
+    def output(self, lines: str, call: "SolverCall", end: float = math.inf) -> Tuple[int, bytes, str]:
+        """Returns the program's status, output and errors for a list; or kills it, and raises what `call` raises then,
+        or at the time `end`."""
         ready, printed, piece = select.poll(), b"", b"-"
         ready.register(self.process.stdout)
         try:
             with STARTS, contextlib.suppress(BrokenPipeError), self.process.stdin as to:
                 to.write(lines)
             while piece:
-                if ready.poll(1000 * call.wait_seconds()):
+                if ready.poll(1000 * call.wait_seconds(end)):
                     piece = os.read(self.process.stdout.fileno(), 1 << 16)
                     printed += piece
             return self.process.wait(), printed, self.errors.read().decode(errors="replace").strip()
@@ -108,10 +141,10 @@ class Process:
             with contextlib.suppress(BrokenPipeError), self.errors, self.process:
                 pass
 
-    def find(self, lines: str, call: "SolverCall", found: Any) -> None:
+    def find(self, lines: str, call: "SolverCall", end: float, found: Any) -> None:
         """Writes what the program prints for a list to the records of `found`, except for the `moves` of a CMoveScores.
         Raises what `output` raises, NoMemory, or ChildProcessError if the program was ended."""
-        status, printed, errors = self.output(lines, call)
+        status, printed, errors = self.output(lines, call, end)
         if errors.endswith("out of memory"):
             raise NoMemory()
         if status or printed.count(b"\n") - 2 * printed.startswith(b"[1]") != lines.count("\n"):
@@ -141,29 +174,49 @@ os.register_at_fork(before=STARTS.acquire, after_in_parent=STARTS.release, after
 
 class SolverCall:
     """Makes the calls of a library for one call of a Solver, until this has taken `timeout` seconds, its task is
-    cancelled, or it sets `is_left`. A program gets `threads`. Raises TypeError and ValueError for a wrong `timeout`."""
+    cancelled, or it sets `is_left`. A program gets `threads`, and `each` seconds for a position. A call that `keeps`
+    what it finds does not raise TimeoutError. Raises TypeError and ValueError for a wrong number."""
 
-    def __init__(self, library: ctypes.CDLL, timeout: Seconds = None, threads: int = 1) -> None:
-        self.library, self.timeout, self.is_left, self.end = library, timeout, False, math.inf
-        self.workers = min(threads - 1, 64)  # as many as a program takes
-        self.turn: Any = threading.Lock() if threads > 1 else contextlib.nullcontext()
-        if timeout is not None:
-            if not isinstance(timeout, numbers.Real):
-                raise TypeError(f"timeout is a number of seconds, not {reprlib.repr(timeout)}")
-            if not timeout >= 0:
-                raise ValueError(f"timeout is at least 0, not {timeout}")
-            self.end = time.monotonic() + timeout
+    def __init__(self, library: ctypes.CDLL, timeout: Seconds = None, threads: Count = 1, each: Seconds = None,
+                 keeps: bool = False) -> None:
+        self.library, self.timeout, self.keeps = library, timeout, keeps
+        self.threads, self.each = threads_of(threads), seconds_of("each", each)
+        self.end = time.monotonic() + seconds_of("timeout", timeout)
+        self.is_left = self.is_late = False
+        self.done = 0  # how many answers were yielded
+        self.unsolved: List[int] = []  # how many positions are not solved, of each batch with such ones
+        self.workers = min(self.threads - 1, 64)  # as many as a program takes
+        self.turn: Any = threading.Lock() if self.threads > 1 else contextlib.nullcontext()
+        # How much weight the positions of a program may have, unless it gets only one: they may be lost together.
+        self.most_weight = HEAVY - 1 if each is not None else MOST_LOST if timeout is not None else math.inf
 
-    def wait_seconds(self) -> float:
-        """For how long to wait before the next look. Raises TimeoutError and CancelledError if calls have to stop."""
-        if (left := self.end - time.monotonic()) <= 0:
-            raise TimeoutError(f"not finished within {self.timeout} seconds")
+    def wait_seconds(self, end: float = math.inf) -> float:
+        """For how long to wait before the next look. Raises TimeoutError and CancelledError if calls have to stop, and
+        TimeoutError also at the time `end`."""
         self.check()
+        if (left := min(self.end, end) - time.monotonic()) <= 0:
+            raise TimeoutError(f"not finished within {self.timeout} seconds")
         return min(left, CHECK_SECONDS)
 
     def check(self) -> None:
         if self.is_left or CANCELLED.get().is_set():
             raise CancelledError
+
+    def counted(self, found: Iterable[T]) -> Iterator[T]:
+        """Yields what is found for positions, and counts those that are solved."""
+        for it in found:
+            self.done += it is not None
+            yield it
+
+    def timed_out(self, done: int, of: str = "", found: Any = None) -> TimedOut:
+        text = f"not finished within {self.timeout} seconds; positions solved: {done}{of}"
+        return TimedOut(text, done=done, found=found)
+
+    def kept(self, found: T, count: int) -> T:
+        """Returns what was found for so many positions. If time was over before the last, raises TimedOut with it."""
+        if self.is_late:
+            raise self.timed_out(count - sum(self.unsolved), f" of {count}", found)
+        return found
 
     def has_program(self) -> bool:
         with contextlib.suppress(OSError):
@@ -172,22 +225,36 @@ class SolverCall:
 
     def search(self, empties: int, name: str, scoring: Scoring, entries: int, positions: Any, found: Any) -> int:
         """Makes the call that `_library.search` describes, for positions with at most `empties` empty squares; unless
-        it is brief, by a program. Raises TimeoutError, CancelledError, and what `Process.find` raises."""
-        self.check()
-        if not is_brief(len(positions), empties):
-            asked = [Position(it.own, it.opp) for it in positions]
-            lines = "".join(f"{position.to_obf()}\n" for position in asked)
-            with self.turn:
-                try:
-                    process = self.started(name, scoring, entries, asked[0], found[0])
-                except OSError as error:
-                    if self.timeout is not None or isinstance(error, ChildProcessError):
-                        raise
-                    self.check()
-                else:
-                    process.find(lines, self, found)
-                    return Status.DONE
-        return search(self.library, name, scoring, entries, positions, found)
+        it is brief, by a program. What is not found in time is UNSOLVED. Raises TimeoutError, CancelledError, and what
+        `Process.find` raises."""
+        try:
+            self.wait_seconds()
+            if is_brief(len(positions), empties) or not self.is_run(name, scoring, entries, positions, found):
+                return search(self.library, name, scoring, entries, positions, found)
+        except TimeoutError:
+            if time.monotonic() >= self.end:
+                if not self.keeps:
+                    raise
+                self.is_late = True
+            found[:] = [UNSOLVED[type(found[0])]] * len(found)
+            self.unsolved.append(len(found))
+        return Status.DONE
+
+    def is_run(self, name: str, scoring: Scoring, entries: int, positions: Any, found: Any) -> bool:
+        """Lets a program make a call. Returns False if none can be started, and the call has no limit of time."""
+        asked = [Position(it.own, it.opp) for it in positions]
+        lines = "".join(f"{position.to_obf()}\n" for position in asked)
+        with self.turn:
+            self.wait_seconds()
+            try:
+                process = self.started(name, scoring, entries, asked[0], found[0])
+            except OSError as error:
+                if min(self.end, self.each) < math.inf or isinstance(error, ChildProcessError):
+                    raise
+                self.check()
+                return False
+            process.find(lines, self, time.monotonic() + self.each, found)
+        return True
 
     def started(self, name: str, scoring: Scoring, entries: int, position: Position, claim: Any) -> Process:
         path, book = program("ffoscores" if "move_scores" in name else "ffosolve", self), ""

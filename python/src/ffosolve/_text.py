@@ -1,8 +1,11 @@
 """Reads lines of text, and shows the names of files in messages and commands."""
+import gzip
+import io
 import os
 import re
 import shlex
-from typing import BinaryIO, Iterator, Union
+import zlib
+from typing import Any, BinaryIO, Iterator, Optional, Union
 
 MOST_BYTES = 1_048_576  # in a line with its end; ffosolve takes as many in a whole list
 BOOK_HEADER = "% ffobook 2 "  # the first line of a book is this and the scoring
@@ -20,12 +23,29 @@ class ReadingWarning(UserWarning):
     """A line or a file is read, but maybe not as it was meant. The message says why."""
 
 
+class Unpacked(gzip.GzipFile):
+    """The content of a .gz file. Raises OSError if that is damaged."""
+
+    def read(self, size: Optional[int] = -1) -> bytes:
+        try:
+            return super().read(size)
+        except (EOFError, zlib.error) as why:
+            raise OSError(str(why)) from None
+
+
+def unpacked(file: Any) -> Any:
+    """The file itself or, of a .gz file, its content."""
+    content: Any = Unpacked(fileobj=file) if file.peek(2).startswith(ARCHIVES[1]) else None
+    return io.BufferedReader(content) if content else file
+
+
 def text_lines(file: BinaryIO, name: str, may_have_nul: bool = False) -> Iterator[bytes]:
     """Yields the lines of a text, with their line ends. Raises NotText, with `name` in the message, for a file of
     another kind, a line of more than MOST_BYTES bytes and, unless `may_have_nul`, one with a NUL byte."""
     number, line = 1, file.readline(MOST_BYTES + 1)
     if line.startswith(MARKS):
-        raise NotText(f"cannot read {name}: it begins with a byte-order mark")
+        remove = "tail -c +4 <OLD >NEW" if line.startswith(MARKS[0]) else "iconv -f utf-16 -t utf-8 <OLD >NEW"
+        raise NotText(f"cannot read {name}: it begins with a byte-order mark; `{remove}` writes a copy without")
     refuse_archive(line, name)
     if not line.endswith(b"\n") and b"\r" in line.rstrip() and b"\0" not in line:
         raise NotText(f"cannot read {name}: its lines end with CR alone")

@@ -5,6 +5,7 @@ import contextlib
 import json
 import logging
 import os
+import subprocess
 import sys
 import time
 import warnings
@@ -14,7 +15,7 @@ from pathlib import Path
 from typing import Any, Coroutine, DefaultDict, Dict, List, Optional, Sequence, Set, Tuple
 
 from .._command_line import MISSING, Refusal, say
-from .._text import shown
+from .._text import shown, typed
 from .engine import Engine, Outcome
 from .folder import Part, Run
 from .solve import content_of
@@ -26,10 +27,14 @@ try:
     import distributed
     import toolz
 except ImportError as fault:
-    if sys.executable != (other := "/usr/bin/python3") and os.path.exists(other):  # Debian's may have it
+    other = "/usr/bin/python3"  # Debian's may have it, and run this program
+    tests = [other, "-c", "import dask, distributed, toolz"], [other, sys.argv[0], "--version"]
+    if sys.executable != other and os.path.exists(other) and not any(
+            subprocess.run(words, capture_output=True).returncode for words in tests):
         os.execv(other, [other, *sys.argv])
-    raise Refusal(f"--scheduler needs the package distributed, which {sys.executable} lacks ({fault}): apt-get install "
-                  "python3-distributed, or python3 -m pip install distributed for another Python", MISSING) from None
+    raise Refusal(f"--scheduler needs the package distributed, which {sys.executable} lacks ({fault}): "
+                  f"{typed(sys.executable)} -m pip install distributed, or apt-get install python3-distributed for "
+                  f"{other}", MISSING) from None
 except Exception as fault:  # such as a malformed file of settings
     raise Refusal(f"Dask cannot start: {type(fault).__name__}: {' '.join(str(fault).split())}") from None
 
