@@ -28,7 +28,8 @@ try:
     import toolz
 except ImportError as fault:
     other = "/usr/bin/python3"  # Debian's may have it, and run this program
-    tests = [other, "-c", "import dask, distributed, toolz"], [other, sys.argv[0], "--version"]
+    find = "import importlib.util, sys; sys.exit(not importlib.util.find_spec('distributed'))"
+    tests = [other, "-c", find], [other, sys.argv[0], "--version"]
     if sys.executable != other and os.path.exists(other) and not any(
             subprocess.run(words, capture_output=True).returncode for words in tests):
         os.execv(other, [other, *sys.argv])
