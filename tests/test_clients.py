@@ -65,13 +65,16 @@ fn main() {
     }
 }
 """
-# Makes each call for the position in its first word, with threads and maybe a timeout in seconds, and prints what it
-# returns.
+# Makes each call for the position in its first word, with a number of threads or `all`, and maybe a timeout in seconds;
+# prints what it returns.
 CALLED_IN_RUST = """use ffosolve::*;
 fn main() {
     let words: Vec<_> = std::env::args().collect();
     let position = Position::from_obf(&words[1]).expect("a position");
-    let mut solver = Solver::new().max_empties(60).scoring(Scoring::Sign).threads(words[2].parse().expect("a number"));
+    let mut solver = Solver::new().max_empties(60).scoring(Scoring::Sign).threads_all();
+    if words[2] != "all" {
+        solver = solver.threads(words[2].parse().expect("a number"));
+    }
     for word in &words[3..] {
         solver = solver.timeout(std::time::Duration::from_secs_f64(word.parse().expect("a number")));
     }
@@ -316,6 +319,17 @@ def test_clippy_and_rustfmt_have_nothing_to_say():
     PREFIX.cargo("fmt", "--check")
 
 
+def test_a_missing_program_is_named_with_the_version_of_the_library():
+    source = """fn main() {
+    let position = ffosolve::Position::new(1, !1 << 20).expect("masks apart");
+    print!("{}", ffosolve::Solver::new().threads(2).solve(position).expect_err("no program"));
+}
+"""
+    calls = "".join(f"int {name}(void) {{ return 11203; }}\n" for name in PREFIX.calls)
+    printed = PREFIX.make(PREFIX.rust_client_of("later", source, calls), env={"PATH": "/usr/bin:/bin"}).stdout
+    assert printed.startswith("no process can be started: ffosolve 1.12.3 is neither beside "), printed
+
+
 def test_a_changed_library_is_linked_anew():
     for number in (1, 2):
         calls = "".join(f"int {name}(void) {{ return {number}; }}\n" for name in PREFIX.calls)
@@ -362,9 +376,11 @@ def called(installed):
     return call
 
 
-@pytest.mark.parametrize("words, workers", ((["3"], 2), (["1", "60"], 0), (["99"], 64)))
+@pytest.mark.parametrize("words, workers", ((["3"], 2), (["1", "60"], 0), (["99"], 64), (["all", "60"], 1)))
 def test_programs_get_the_options_the_claim_and_lists_for_several_threads_or_a_timeout(called, words, workers):
-    printed, notes = called(*words)
+    """The process may use two processors."""
+    two = sorted(os.sched_getaffinity(0))[:2]
+    printed, notes = called(*words, preexec_fn=lambda: os.sched_setaffinity(0, two))
     answer, line = "Answer { score: -1, best: Moves(Squares(D3,C4)) }", ffosolve.START.to_obf()
     assert printed == [answer, answer, "[(D3, -1), (C4, 1)]", "15001"]
     options = f"--workers={workers} --table=1000000 --scoring=sign --max-empties=60"
