@@ -22,6 +22,7 @@ from tests.prefix import CXX, PIP, PREFIX, VERSION, C
 from tests.support import ROOT, SECONDS, built, ends, limited, need, run, stored, wait_until, write
 
 pytestmark = pytest.mark.usefixtures("installed")
+PROCESSORS = sorted(os.sched_getaffinity(0))[:2]  # two that a process may use, if there are two
 PAGE = "docs/check-evaluation.md"  # its program reads a list of positions, and their scores
 CMAKE = f"""cmake_minimum_required(VERSION 3.16)
 project(clients C CXX)
@@ -376,11 +377,10 @@ def called(installed):
     return call
 
 
-@pytest.mark.parametrize("words, workers", ((["3"], 2), (["1", "60"], 0), (["99"], 64), (["all", "60"], 1)))
+@pytest.mark.parametrize("words, workers", (
+    (["3"], 2), (["1", "60"], 0), (["99"], 64), (["all", "60"], len(PROCESSORS) - 1)))
 def test_programs_get_the_options_the_claim_and_lists_for_several_threads_or_a_timeout(called, words, workers):
-    """The process may use two processors."""
-    two = sorted(os.sched_getaffinity(0))[:2]
-    printed, notes = called(*words, preexec_fn=lambda: os.sched_setaffinity(0, two))
+    printed, notes = called(*words, preexec_fn=lambda: os.sched_setaffinity(0, PROCESSORS))
     answer, line = "Answer { score: -1, best: Moves(Squares(D3,C4)) }", ffosolve.START.to_obf()
     assert printed == [answer, answer, "[(D3, -1), (C4, 1)]", "15001"]
     options = f"--workers={workers} --table=1000000 --scoring=sign --max-empties=60"
