@@ -1,6 +1,7 @@
 """`ffosolve-games compare` prints wrong theoretical scores; --fix writes corrected copies of WTHOR files.
 A theoretical score is what a WTHOR file claims for perfect play from a position of a game."""
 import contextlib
+import gzip
 import os
 import re
 import shutil
@@ -231,6 +232,14 @@ def test_the_scores_that_are_wrong_are_changed_and_no_other_byte():
     write("it.wtb", RIGHT)
     again = f"again.wtb: theoretical scores changed 0 of {COUNT}, not compared 0"
     fix(0, again, place="again.wtb", written={"again.wtb": RIGHT})
+
+
+def test_packed_files_are_compared_and_a_copy_is_not_packed():
+    write("it.wtb.gz", gzip.compress(WHOLE))
+    write("book", gzip.compress(BOOK.encode()))
+    os.mkdir("new")
+    fix(1, f"new/it.wtb{CHANGED[7:]}", place="new", files=["it.wtb.gz"], written={"new/it.wtb": RIGHT},
+        out=both(name="it.wtb.gz") + counts())
 
 
 def test_a_file_that_has_changed_since_its_games_were_read_is_not_copied():

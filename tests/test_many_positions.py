@@ -94,6 +94,17 @@ def test_answers_that_are_found_come_before_a_timeout(threads):
     assert found and found == Solver().solve_all(positions)[:len(found)]
 
 
+@on_threads
+def test_an_error_of_the_iterable_is_raised_as_it_is(threads):
+    def late():
+        yield POSITIONS[0]
+        raise TimeoutError("of the iterable")
+
+    for call in (Solver().solve_all, Solver().solve_iter):
+        with pytest.raises(TimeoutError, match="^of the iterable$"):
+            list(call(late(), threads=threads, timeout=SECONDS))
+
+
 @pytest.mark.parametrize("threads", [3, 6])
 @pytest.mark.parametrize("name", [*NAMES, *ARRAYS])
 def test_as_many_threads_as_asked_make_calls_at_once_with_the_scoring_and_table_of_the_solver(name, threads, mocked):

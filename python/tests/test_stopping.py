@@ -163,7 +163,7 @@ def by_asyncio(call, end=waited_for, to_thread=ffosolve.to_thread):
     # A call that goes on would keep asyncio from ending.
     with timer(LATE / 2, lambda: [os.kill(process, signal.SIGKILL) for process in children()]):
         asyncio.run(main())
-    assert raised == [CancelledError if to_thread is ffosolve.to_thread else TimeoutError]
+    assert raised == [CancelledError if to_thread is ffosolve.to_thread else ffosolve.TimedOut]
 
 
 @pytest.mark.parametrize("leave", [by_timeout, by_signal, by_ctrl_c, by_asyncio])

@@ -41,10 +41,10 @@ positions at once and, except for an iterator, a position with at least 16 empty
 for all processors that Python may use; the default is 1.
 
 The calls for many positions also take `each=SECONDS`: one that takes longer gets None or, in arrays, the score NO_SCORE
-and otherwise 0, and the call goes on. After its `timeout`, it raises a TimedOut, which has what is solved.
+and otherwise 0, and the call goes on. The TimedOut after its `timeout` has what is solved.
 
 A call stops at once if it is interrupted: by Ctrl-C, or another signal whose handler raises an exception; after its
-`timeout` (a TimeoutError); if its iterator is closed; or if asyncio cancels the task that awaits
+`timeout` (TimedOut, a TimeoutError); if its iterator is closed; or if asyncio cancels the task that awaits
 `ffosolve.to_thread(solver.solve, position)`. What awaits `asyncio.to_thread` or another pool of threads can be
 cancelled, too, but the call goes on in its thread until its `timeout`, and `asyncio.run` waits for it.
 

@@ -7,7 +7,7 @@ import time
 from collections import deque
 from typing import Any, Callable, Deque, Iterable, Iterator, List, NamedTuple, Tuple, TypeVar, Union
 
-from ._processes import CHECK_SECONDS, LIGHTEST, SolverCall, is_brief
+from ._processes import CHECK_SECONDS, LIGHTEST, SolverCall, TimedOut, is_brief
 from ._refusals import Refused
 from ._squares import c_positions, checked_position, checked_positions
 
@@ -81,7 +81,7 @@ def batches_of(positions: Iterable[Iterable[int]], max_empties: int, call: Solve
 def in_order(call: SolverCall, solve: Callable[[A], Iterable[B]], batches: Iterable[A], threads: int) -> Iterator[B]:
     """Calls `solve` with each of `batches`, on up to `threads` new threads or, if that is 1 or none can be started, on
     the caller's. Yields the items that it returns, in order. Stops `call`, of which this is a part, when closed. Raises
-    what `solve` does, but TimedOut for a TimeoutError."""
+    what `solve` and `batches` do; TimedOut with the number of positions."""
     # An exception of a signal's handler may leave a Future locked, but not a SimpleQueue.
     tasks: "queue.SimpleQueue[Any]" = queue.SimpleQueue()
     waiting: Deque["queue.SimpleQueue[Any]"] = deque()  # for each batch, a queue that gets its result
@@ -109,7 +109,7 @@ def in_order(call: SolverCall, solve: Callable[[A], Iterable[B]], batches: Itera
                 yield from call.counted(result_of(waiting.popleft(), call))
         while waiting:
             yield from call.counted(result_of(waiting.popleft(), call))
-    except TimeoutError:
+    except TimedOut:
         raise call.timed_out(call.done) from None
     finally:
         call.is_left = True

@@ -46,8 +46,8 @@ CANCELLED = contextvars.ContextVar("cancelled", default=threading.Event())  # is
 
 
 class TimedOut(TimeoutError):
-    """A call for many positions took more than `timeout` seconds. `done` positions are solved. `found` is what the call
-    returns, but as if each other position had taken too long: see `help(ffosolve)`. That of an iterator is None."""
+    """A call took more than `timeout` seconds. Of one for many positions, `done` are solved, and `found` is what the
+    call returns, but as if each other position had taken more than `each`; that of an iterator is None."""
 
     def __init__(self, *text: str, done: int = 0, found: Any = None) -> None:
         super().__init__(*text)
@@ -175,7 +175,7 @@ os.register_at_fork(before=STARTS.acquire, after_in_parent=STARTS.release, after
 class SolverCall:
     """Makes the calls of a library for one call of a Solver, until this has taken `timeout` seconds, its task is
     cancelled, or it sets `is_left`. A program gets `threads`, and `each` seconds for a position. A call that `keeps`
-    what it finds does not raise TimeoutError. Raises TypeError and ValueError for a wrong number."""
+    what it finds does not raise TimedOut. Raises TypeError and ValueError for a wrong number."""
 
     def __init__(self, library: ctypes.CDLL, timeout: Seconds = None, threads: Count = 1, each: Seconds = None,
                  keeps: bool = False) -> None:
@@ -191,11 +191,11 @@ class SolverCall:
         self.most_weight = HEAVY - 1 if each is not None else MOST_LOST if timeout is not None else math.inf
 
     def wait_seconds(self, end: float = math.inf) -> float:
-        """For how long to wait before the next look. Raises TimeoutError and CancelledError if calls have to stop, and
-        TimeoutError also at the time `end`."""
+        """For how long to wait before the next look. Raises TimedOut and CancelledError if calls have to stop, and
+        TimedOut also at the time `end`."""
         self.check()
         if (left := min(self.end, end) - time.monotonic()) <= 0:
-            raise TimeoutError(f"not finished within {self.timeout} seconds")
+            raise TimedOut(f"not finished within {self.timeout} seconds")
         return min(left, CHECK_SECONDS)
 
     def check(self) -> None:
@@ -225,13 +225,13 @@ class SolverCall:
 
     def search(self, empties: int, name: str, scoring: Scoring, entries: int, positions: Any, found: Any) -> int:
         """Makes the call that `_library.search` describes, for positions with at most `empties` empty squares; unless
-        it is brief, by a program. What is not found in time is UNSOLVED. Raises TimeoutError, CancelledError, and what
+        it is brief, by a program. What is not found in time is UNSOLVED. Raises TimedOut, CancelledError, and what
         `Process.find` raises."""
         try:
             self.wait_seconds()
             if is_brief(len(positions), empties) or not self.is_run(name, scoring, entries, positions, found):
                 return search(self.library, name, scoring, entries, positions, found)
-        except TimeoutError:
+        except TimedOut:
             if time.monotonic() >= self.end:
                 if not self.keeps:
                     raise

@@ -29,7 +29,7 @@ def table_entries(empties: int) -> int:
 
 class Solver:
     """Solves positions under a scoring. Keeps no results between calls. Several threads may use one Solver at once. It
-    can be pickled, as for a pool of processes. A call ends with TimeoutError if it takes more than `timeout` seconds;
+    can be pickled, as for a pool of processes. A call ends with TimedOut if it takes more than `timeout` seconds;
     `help(ffosolve)` says what else stops it, and what a call does that can't be stopped.
 
     `library` is the path of the shared library. By default, it is the path in the environment variable FFOSOLVE_LIBRARY
