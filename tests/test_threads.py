@@ -150,7 +150,7 @@ def test_a_line_is_shared_over_a_table_of_4096_entries(folder, entries, threads)
     assert (ran.stdout[:67], ran.stderr) == (HARD[:66] + b";", b"thread " * threads)
 
 
-def test_a_second_thread_for_a_line_is_not_asked_for_again_while_the_first_runs_if_it_cannot_be_started(folder):
+def test_a_second_thread_for_a_line_that_cannot_be_started_is_not_asked_for_again_at_once(folder):
     ran = run(built("ffoscores"), "--workers", 3, input=HARD, env=preload(folder, COUNTED="yes", UNSTARTED="2"))
     assert (ran.stdout[:67], ran.stderr) == (HARD[:66] + b";", b"thread ")
 
