@@ -21,22 +21,22 @@ levels = x86-64-v2 x86-64-v3
 programs = ffosolve ffoscores
 scripts = ffosolve-many ffosolve-games
 exported = ffosolve_*
-version := $(firstword $(subst +, ,$(file <VERSION)))# a copy of the sources that `make deb` packs has more in it
+version := $(firstword $(subst .dev, ,$(subst +, ,$(file <VERSION))))# VERSION has more in it before a release, and in what `make deb` packs
 major := $(firstword $(subst ., ,$(version)))
 
 $(if $(filter $(levels),$(CPU)),,$(error CPU is $(CPU), but has to be one of: $(levels)))
 $(if $(filter /%,$(PREFIX)),,$(error PREFIX is $(PREFIX), but has to begin with a slash))
 
-all: tools $(programs:%=out/%) library ## proves and builds the programs and the library for C
+all: tools $(programs:%=out/%) library ## proves and builds the programs and the library for C, and prints their SHA-256
+	sha256sum $(programs:%=out/%) $(library)
 	echo "built: $(programs:%=out/%), which bin/ runs; out/library; all of version $(package)"
 
-# What rt makes. Unlike make, find notices a removed file, and a change that keeps an old time, by its status time.
-changed = $(if $(shell find crates crates.txt -name out -prune -o -name must-fail -prune -o -cnewer $1.sum -print -quit 2>&1),always)
+# What rt makes. scripts/prove compares the sources with those that it was made from.
 level = $(notdir $(@D))
 objects := $(foreach level,$(levels),$(programs:%=out/$(level)/%.o))
 crate_tests = out/$(CPU)/crate_tests_tests
 
-$(objects) $(levels:%=out/%/libffosolve_c.a) $(crate_tests): $$(call changed,$$@)
+$(objects) $(levels:%=out/%/libffosolve_c.a) $(crate_tests): always
 	exec scripts/prove $@ $(tell)
 
 # What is linked from what rt makes. Each file is first written under a name of its own: another make may be running.
@@ -121,7 +121,7 @@ look: ## solves examples/first.obf in about a minute, with nothing proved; LIST=
 	exec 3>&1
 	said=$$(rt try --data "list.obf=$$list" -- list.obf </dev/null 2>&1 >&3) && status=0 || status=$$?
 	case $$said in
-	*'run=ended '*) echo 'nothing is proved yet: bin/ffosolve proves the program, and then runs it' ;;
+	*'run=ended '*) echo 'this proved nothing: bin/ffosolve proves the program before it first runs it' ;;
 	*) echo "$$said" | tail -n 3 >&2; exit 4 ;;
 	esac
 	exit "$$status"
@@ -218,4 +218,4 @@ include packaging/packages.mk
 help: ## lists the targets
 	sed -n 's/^\([a-z-]*\):.*## /make \1	/p' $(MAKEFILE_LIST) | expand -t 20
 
-.PHONY: all levels library constants look check tools install uninstall commit stage dist deb wheel help always
+.PHONY: all levels library constants look check tools install uninstall commit stage dist deb needs wheel help always

@@ -1,7 +1,8 @@
 # Makes packages from a clean checkout, with programs and libraries for both levels of processors. They are put together
 # in a temporary folder, since rt refuses a checkout with links.
 
-# The version of a package: VERSION and, if commits came after its last change, their number and the last commit.
+# The version of a package: VERSION and, if commits came after its last change, their number and the last commit. One
+# before a release has `.dev` in it, and for Debian `~dev`, so that it is older than the release.
 package = $(eval package := $(or $(shell $(python) python/src/ffosolve/_version.py 2>/dev/null),$(version)))$(package)
 archive = ffosolve-$(package)-linux-x86-64
 git = git --git-dir='$(CURDIR)/.git'# not the repository of a folder above
@@ -51,19 +52,24 @@ dist: commit levels ## makes out/ffosolve-VERSION-linux-x86-64.tar.gz, which run
 	(cd out && sha256sum $(archive).tar.gz >$(archive).tar.gz.sha256)
 
 # dpkg-buildpackage runs debian/rules in a copy of the checkout, with a changelog and a VERSION that only make knows.
-deb: commit levels ## makes packages for Debian: out/ffosolve_VERSION_amd64.deb, out/libffosolve1_VERSION_amd64.deb, ..
+deb: commands = dpkg-buildpackage:dpkg-dev
+deb: commit tools needs levels ## makes packages for Debian: out/ffosolve_VERSION_amd64.deb, out/libffosolve1_VERSION_amd64.deb, ..
 	$(begin)
 	copy="$$room/ffosolve"
 	mkdir "$$copy"
 	$(git) ls-files -z | xargs -0 cp -p --parents -t "$$copy"
 	cp -pr --parents $(levels:%=out/%) "$$copy"
 	$(call texts,$$copy)
-	printf '%s\n' 'ffosolve ($(package)) unstable; urgency=medium' '' '  * CHANGELOG.md, in the package ffosolve, says what is new.' '' \
+	printf '%s\n' 'ffosolve ($(subst .dev,~dev,$(package))) unstable; urgency=medium' '' '  * CHANGELOG.md, in the package ffosolve, says what is new.' '' \
 	    " -- Gimzolens <ffosolve@gimzolens.invalid>  $$(date -Rud "@$(seconds)")" >"$$copy/debian/changelog"
 	echo '$(package)' >"$$copy/VERSION"
 	touch -r LICENSE "$$copy/VERSION"
 	said=$$(cd "$$copy" && PATH=/usr/sbin:/usr/bin:/sbin:/bin dpkg-buildpackage --build=binary --unsigned-changes 2>&1) || { echo "$$said" | tail -n 20 >&2; exit 1; }
 	$(call finish,*.deb)
+
+# Names missing packages before anything is proved.
+needs:
+	dpkg-checkbuilddeps || { echo 'apt-get build-dep ./ installs them' >&2; exit 4; }
 
 wheel: modules = hatchling
 wheel: commit tools levels ## makes out/ffosolve-VERSION-py3-none-manylinux_2_34_x86_64.whl, the package for Python with programs and library

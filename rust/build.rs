@@ -23,6 +23,8 @@ fn main() {
     let file = folder.join(file);
     println!("cargo:rerun-if-changed={}", file.display());
     assert!(file.exists(), "{} is missing: install ffosolve, or set FFOSOLVE_LIB_DIR to its folder", file.display());
+    let folder = folder.canonicalize().expect("the folder of a file that is there");
+    println!("cargo:rustc-env=FFOSOLVE_FOLDER={}", folder.display()); // where src/programs.rs looks for programs
     println!("cargo:rustc-link-search=native={}", folder.display());
     println!("cargo:rustc-link-lib={kind}=ffosolve");
 }

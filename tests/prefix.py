@@ -12,7 +12,8 @@ import pytest
 
 from .support import ROOT, need, run, stored, write
 
-VERSION = stored("VERSION").decode().strip()
+WRITTEN = stored("VERSION").decode().strip()  # ends with .dev0 until the version is released
+VERSION = WRITTEN.removesuffix(".dev0")
 NUMBER = sum(int(part) * 100 ** place for place, part in enumerate(VERSION.split(".")[::-1]))
 LEVELS = ["x86-64-v2", "x86-64-v3"]
 FIRST_OBF, FIRST = ROOT / "examples/first.obf", stored("examples", "first.report").decode()  # a list, and its report

@@ -1,6 +1,7 @@
-// For LD_PRELOAD, with variables of the environment. REFUSED is a number n: the nth request for memory fails, and the
-// file `refused` appears in the current folder. WATCHED: each fsync or rename writes `sync ` or `rename ` to standard
-// error. NO_SYNC: each fsync fails. COUNTED: each thread that is started writes `thread ` to standard error.
+// For LD_PRELOAD, with variables of the environment. REFUSED is a number n: the nth request for memory fails, and
+// the file `refused` appears in the current folder. WATCHED: each fsync or rename writes `sync ` or `rename ` to
+// standard error. NO_SYNC: each fsync fails. COUNTED: each thread that is started writes `thread ` to standard
+// error. UNSTARTED is a number n: the nth thread can't be started.
 #define _GNU_SOURCE
 #include <dlfcn.h>
 #include <errno.h>
@@ -37,6 +38,9 @@ int rename(const char *from, const char *to) {
 }
 
 int pthread_create(pthread_t *made, const pthread_attr_t *how, void *(*call)(void *), void *with) {
+    static atomic_long count;
+    const char *number = getenv("UNSTARTED");
+    if (number && atomic_fetch_add(&count, 1) + 1 == atol(number)) return EAGAIN;
     int status = NEXT(pthread_create)(made, how, call, with);
     if (!status && getenv("COUNTED")) dprintf(STDERR_FILENO, "thread ");
     return status;

@@ -1,6 +1,7 @@
 """ffosolve --book-out: where it writes, that a book is written whole or not at all, and that no other file is lost."""
 import os
 import shutil
+import socket
 import stat
 from pathlib import Path
 
@@ -140,6 +141,19 @@ def test_what_is_there_stays_if_a_file_appears_or_the_folder_is_closed_during_th
     left({**before, **new})
 
 
+@pytest.mark.parametrize("linked, words", (("list", ("list",)), ("read", ("--book-in", "read", "long"))))
+def test_what_is_read_stays_if_a_link_to_it_appears_during_the_run_as_the_book(start, linked, words):
+    files = {"list": BOOK.splitlines(True)[0] + TEXT * 2000, "long": TEXT * 2000, "read": BOOK}
+    for name, text in files.items():
+        write(name, text)
+    program = start(PROGRAM, "--book-out", "it.book", *words)
+    program.stdout.read(1)
+    os.symlink(linked, "it.book")
+    error = program.communicate(timeout=SECONDS)[1]
+    assert (program.returncode, b"", error) == unwritten(IN_THE_WAY)
+    left({**files, "it.book": linked})
+
+
 def test_a_link_to_no_file_stays_and_its_target_is_made():
     keeps({"it.book": "no/there"}, unwritten(""))
     keeps({"it.book": "there"}, DONE, {"there": BOOK})
@@ -171,10 +185,19 @@ def test_a_list_that_is_read_is_not_overwritten_under_any_of_its_names():
         write(name, TEXT)
     os.link("list", "twin")
     os.symlink("list", "link")
-    for name in ("list", "./list", "twin", "link"):
-        for lists in (("list",), ("other", "list", "other")):
+    os.symlink("link", "far")
+    for name in ("list", "./list", "twin", "link", "far"):
+        for lists in (("list",), ("other", "list", "other"), ("far",)):
             solves(unwritten("it is in use", name), name, *lists)
-    left({"list": TEXT, "other": TEXT, "twin": TEXT, "link": "list"})
+    left({"list": TEXT, "other": TEXT, "twin": TEXT, "link": "list", "far": "link"})
+
+
+def test_a_list_is_not_overwritten_where_it_is_mounted():
+    write("list", TEXT)
+    script = """mkdir at; : >it.book; mount --bind . at; mount --bind list it.book
+        for name in it.book at/list; do "$0" --book-out $name list || echo $?; done; cat list"""
+    error = b"".join(unwritten("it is in use", name)[2] for name in ("it.book", "at/list"))
+    ends((0, b"3\n3\n" + TEXT, error), *unshared(), "sh", "-ec", script, PROGRAM)
 
 
 def test_files_with_one_inode_number_on_two_file_systems_are_two_files():
@@ -188,13 +211,18 @@ def test_files_with_one_inode_number_on_two_file_systems_are_two_files():
 @pytest.mark.parametrize("place, wanted", (
     ("", unwritten("", "")), ("no/it.book", unwritten("", "no/it.book")),
     ("notes/it.book", unwritten("a part of its name is not a folder", "notes/it.book")),
-    ("folder", unwritten("it is a folder", "folder")), ("b" * 251, unwritten("its name is too long", "b" * 251)),
+    ("folder", unwritten("it is a folder", "folder")), ("link", unwritten("it is a folder", "link")),
+    ("loop", unwritten("too many links lead to it", "loop")), ("socket", unwritten("", "socket")),
+    ("b" * 251, unwritten("its name is too long", "b" * 251)),
     ("notes", (3, b"", NO_BOOK[2].replace(b"it.book", b"notes"))),
 ))
 def test_files_are_counted_and_measured_then_the_place_of_the_book_is_tried_then_positions_are_solved(place, wanted):
     write("list", TEXT)
     write("notes", NOTES)
     os.mkdir("folder")
+    os.symlink("folder", "link")
+    os.symlink("loop", "loop")
+    socket.socket(socket.AF_UNIX).bind("socket")
     write("large", b" " * (MOST_BYTES + 1))
     write("long", b"-" * 27 + b"OX" + b"-" * 6 + b"XO" + b"-" * 27 + b" X\n")  # solving it would take too long
     os.mkfifo("pipe")  # reading it would never end
@@ -203,7 +231,7 @@ def test_files_are_counted_and_measured_then_the_place_of_the_book_is_tried_then
     os.close(writer)
     solves((1, b"", b"ffosolve: file 2 is larger than %d bytes\n" % MOST_BYTES), place, "list", "large")
     solves(wanted, place, "--max-empties", "60", "long")
-    assert (content("notes"), os.listdir("folder"), len(os.listdir())) == (NOTES, [], 6)
+    assert (content("notes"), os.listdir("folder"), len(os.listdir())) == (NOTES, [], 9)
 
 
 @pytest.mark.parametrize("before, place", ((OVER, "it.book"), (LINKED, "there")))

@@ -1,5 +1,6 @@
 """`bin/ffosolve` and make in a small checkout with a fake rt: what they build and when, and what they report."""
 import functools
+import hashlib
 import os
 import re
 import signal
@@ -47,7 +48,9 @@ SPOIL = "echo 'rt: the kept work of ffosolve cannot be used: remove it'; exit 1\
 # A fake linker and assembler: copies its first input to its output.
 COPY = '#!/bin/sh\nwhile [ "$1" != -o ]; do shift; done\ncp "$3" "$2" && chmod +x "$2"\n'
 LEVEL = LEVELS[is_v3()]
+MADE = ["out/ffosolve", "out/ffoscores", *(f"out/library/libffosolve.{end}" for end in ("a", "so", "so.1"))]
 HOW = {"text": True, "cwd": "/"}
+OLD = 2.1  # after so many seconds, sources are clearly older than what the next run of bin/ffosolve notes
 
 
 class Checkout:
@@ -129,6 +132,16 @@ def test_the_first_use_of_each_program_builds_it_and_later_ones_only_run_it(fold
     assert ran.stdout == f"made of 1\n<w>{checkout.root}/bin\n", ran
 
 
+def test_a_built_program_is_started_without_make(folder, checkout):
+    """Only the commands that bin/ffosolve still runs are on the path, and those of the fake program, ls and cat."""
+    for seconds in (OLD, 0):
+        checkout.use()
+        time.sleep(seconds)
+    for name in ("readlink", "find", "ls", "cat"):
+        write(folder / "few" / name, f'#!/bin/sh\nexec /usr/bin/{name} "$@"\n')
+    assert checkout.started(checkout.use(PATH=str(folder / "few")), 1, builds=1) == ""
+
+
 def test_closed_standard_error_does_no_harm_to_builds_and_runs(checkout):
     for text, builds in ((1, 1), (1, 1), (2, 2)):
         write(checkout.source, f"{text}\n")
@@ -163,7 +176,7 @@ def test_each_change_of_a_source_builds_again_and_a_new_time_does_not(checkout):
                "mkdir specs; touch specs/Lib.antt", "echo 2 >../othello_rules/src/main.rt")
     for builds, change in enumerate(changes, 3):
         checkout.after(change, 1, builds)
-    time.sleep(2.1)  # until the sources are clearly older than the build
+    time.sleep(OLD)
     checkout.use()
     write(checkout.tools / "sha256sum", "#!/bin/sh\nexit 9\n")
     checkout.after("touch out/two.rt must-fail/two.rt", 1, builds=8)
@@ -172,12 +185,15 @@ def test_each_change_of_a_source_builds_again_and_a_new_time_does_not(checkout):
     checkout.after("echo >>../../crates.txt", 1, builds=9)
 
 
-def test_a_change_during_a_build_and_one_within_the_same_second_build_again(checkout):
+def test_a_change_during_a_build_or_link_and_one_within_the_same_second_build_again(checkout):
     """A fake command `date` is a second ahead of file times, since these may be up to a second behind the clock."""
     checkout.started(checkout.use(ACTS="[ -e out ] || echo 2 >src/main.rt"), 2, builds=2)
     write(checkout.tools / "date", '#!/bin/sh\necho $(($(/usr/bin/date "$@") + 1))\n')
     checkout.after("echo 3 >src/main.rt", 3, builds=3)
     checkout.after("echo 4 >src/main.rt", 4, builds=4)
+    linker = COPY.replace("\n", f"\necho 6 >'{checkout.source}'\nsleep 0.1\n", 1)
+    checkout.after(f"cat >'{checkout.link}' <<'END'\n{linker}END\necho 5 >src/main.rt", 5, builds=5)
+    checkout.started(checkout.use(), 6, builds=6)
 
 
 def test_tests_run_what_is_built_and_refuse_at_once_what_would_have_to_be_proved(checkout):
@@ -188,9 +204,12 @@ def test_tests_run_what_is_built_and_refuse_at_once_what_would_have_to_be_proved
 
 
 def test_a_program_that_was_removed_is_built_again_and_kept_proofs_are_not(checkout):
-    checkout.use()
-    for lost, builds in (("crates/ffosolve/out", 1), ("out/ffosolve", 1), ("out", 2)):
+    for seconds in (OLD, 0):
+        checkout.use()
+        time.sleep(seconds)
+    for lost, builds in (("out/ffosolve", 1), ("crates/ffosolve/out", 1), ("out", 2)):
         checkout.after(f"rm -r ../../{lost}", 1, builds)
+        assert (checkout.root / "out/ffosolve").exists()
 
 
 def test_later_runs_say_that_they_wait_and_only_one_builds_if_the_first_fails(checkout):
@@ -256,12 +275,21 @@ def test_a_failed_build_reports_its_first_error_and_runs_no_older_program(checko
 
 
 def test_a_failed_link_reports_its_first_line_and_one_that_succeeds_is_silent(checkout):
-    write(checkout.link, "#!/bin/sh\necho 'ld.lld: error: no room' >&2\nexit 1\n")
-    ran = checkout.use()
-    last = ran.stderr.splitlines()[-1]
-    assert (ran.returncode, ran.stdout, last) == (4, "", "ld.lld: error: no room"), ran
-    write(checkout.link, COPY + "echo linked >&2\n")
-    assert checkout.started(checkout.use(), 1, builds=1) == ""
+    """The second time, there is a program of earlier sources. A change of level.s only links anew."""
+    for number in (1, 2):
+        write(checkout.source, f"{number}\n")
+        write(checkout.link, "#!/bin/sh\necho 'ld.lld: error: no room' >&2\nexit 1\n")
+        for seconds in (0, OLD, 0):
+            time.sleep(seconds)
+            ran = checkout.use()
+            last = ran.stderr.splitlines()[-1]
+            assert (ran.returncode, ran.stdout, last) == (4, "", "ld.lld: error: no room"), ran
+        write(checkout.link, COPY + "echo linked >&2\n")
+        assert checkout.started(checkout.use(), number, builds=number) == ""
+    program = checkout.log.with_name("ffosolve")
+    linked = program.stat().st_mtime_ns
+    assert checkout.after("touch ../../packaging/level.s", 2, builds=2) == ""
+    assert program.stat().st_mtime_ns > linked
 
 
 def test_kept_work_that_cannot_be_used_is_dropped_and_built_again(checkout):
@@ -353,7 +381,10 @@ def test_each_level_is_proved_once_and_a_new_version_only_links_the_library_agai
         run("cc", "-fPIC", "-c", "-o", "one.o", "-x", "c", "-", input=text.encode(), check=True)
         run("ar", "rcs", checkout.kit / name, "one.o", check=True)
     for level in LEVELS:
-        told = checkout.make(f"CPU={level}", check=True).stderr
+        ran = checkout.make(f"CPU={level}", check=True)
+        sums = {path: hashlib.sha256((checkout.root / path).read_bytes()).hexdigest() for path in MADE}
+        assert ran.stdout.startswith("".join(f"{sums[path]}  {path}\n" for path in MADE) + "built: "), ran
+        told = ran.stderr
         assert told.count(": 0 min, 0 of 2 crates proved, now othello_rules\n") == 3, told
         assert f"start run --cpu={level}\nstart lib --cpu={level}\n" in checkout.starts.read_text()
     python = write(checkout.tools / "python", '#!/bin/sh\n[ "$1" = -c ] || echo "$2" "<$MAKEFLAGS$MFLAGS$MAKELEVEL>"\n')
@@ -379,14 +410,14 @@ def test_each_level_is_proved_once_and_a_new_version_only_links_the_library_agai
     assert not shared.exists()
 
 
-def test_look_prints_the_report_and_that_nothing_is_proved_or_why_there_is_no_report(folder, checkout):
+def test_look_prints_the_report_and_that_it_proves_nothing_or_why_there_is_no_report(folder, checkout):
     ended = "echo 'checked: ended status=3' >&2\necho 'run=ended status=3' >&2\nexit 3\n"
     write(checkout.rt, f'#!/bin/sh\nshift\necho "$@" >"$STARTS"\necho report\n{ended}')
     positions = write(folder / "a list", "")
     first = write(checkout.root / "examples/first.obf", "")
     for words, list_ in ((), first), ((f"LIST={positions}",), positions):
         said = checkout.make("look", *words).stdout
-        assert said == "report\nnothing is proved yet: bin/ffosolve proves the program, and then runs it\n"
+        assert said == "report\nthis proved nothing: bin/ffosolve proves the program before it first runs it\n"
         assert checkout.starts.read_text() == f"--data list.obf={list_} -- list.obf\n"
     assert "no such list" in checkout.make("look", "LIST=no such list").stderr
     write(checkout.rt, "#!/bin/sh\necho 'rt: no answer' >&2\nexit 6\n")

@@ -1,23 +1,28 @@
 """Programs that use the library, built and run as documented, and the packages for Python and Rust."""
 import email
+import functools
 import inspect
 import os
 import random
 import re
 import shlex
 import shutil
+import signal
 import sys
 import tarfile
 import zipfile
+from pathlib import Path
 
+import psutil
 import pytest
 
 import ffosolve
-from tests.games import NAMES, masks_after, random_games, squares_of, transcript_rows
+from tests.games import NAMES, masks_after, random_games, random_positions, squares_of, transcript_rows
 from tests.prefix import CXX, PIP, PREFIX, VERSION, C
-from tests.support import ROOT, built, ends, need, preload, run, stored, write
+from tests.support import ROOT, SECONDS, built, ends, limited, need, run, stored, wait_until, write
 
 pytestmark = pytest.mark.usefixtures("installed")
+PROCESSORS = sorted(os.sched_getaffinity(0))[:2]  # two that a process may use, if there are two
 PAGE = "docs/check-evaluation.md"  # its program reads a list of positions, and their scores
 CMAKE = f"""cmake_minimum_required(VERSION 3.16)
 project(clients C CXX)
@@ -28,22 +33,23 @@ add_executable(in_cxx answers.cpp)
 target_link_libraries(shared ffosolve::ffosolve)
 target_link_libraries(in_cxx ffosolve::ffosolve)
 """
-# A made-up library: each function prints the numbers that it gets. There is no memory for a list of nine positions.
+# A made-up library: each function of these prints the numbers that it gets. The others are never called.
 PRINTED_IN_C = r"""#include <stdint.h>
 #include <stdio.h>
-#include <unistd.h>
 struct position { uint64_t own, opp; };
 struct answer { int32_t score, kind; uint64_t best; };
 int ffosolve_confirm(struct position position, uint32_t scoring, size_t entries, struct answer claim) {
     return printf("confirm %u %zu %d\n", scoring, entries, claim.score) < 0;
 }
 int ffosolve_solve_all(void *positions, size_t count, uint32_t scoring, size_t entries) {
-    if (count == 2) usleep(100000);
-    return printf("solve_all %zu %u %zu\n", count, scoring, entries) < 0 ? 1 : count == 9 ? 7 : 0;
+    return printf("solve_all %zu %u %zu\n", count, scoring, entries) < 0;
 }
 int ffosolve_move_scores_all(void *positions, size_t count, uint32_t scoring, size_t entries) {
     return printf("move_scores_all %zu %u %zu\n", count, scoring, entries) < 0;
 }
+void ffosolve_canonical(void) {}
+void ffosolve_read_line(void) {}
+void ffosolve_version(void) {}
 """
 ASKED_IN_RUST = """use ffosolve::*;
 fn main() {
@@ -56,11 +62,46 @@ fn main() {
         }
         solver.solve_all(&[some, many, few]).expect("answers");
         solver.move_scores_all(&[some, few]).expect("scores");
-        solver.threads(2).solve_all(&[many, few, few]).expect("answers");
-        let parts = [vec![few, many], vec![few; 8], vec![many; 3]].concat();
-        assert_eq!(solver.threads(2).solve_all(&parts), Err(Error::NoMemory));
+        solver.threads(2).solve_all(&[few; 4096]).expect("answers");
     }
 }
+"""
+# Makes each call for the position in its first word, with a number of threads or `all`, and maybe a timeout in seconds;
+# prints what it returns.
+CALLED_IN_RUST = """use ffosolve::*;
+fn main() {
+    let words: Vec<_> = std::env::args().collect();
+    let position = Position::from_obf(&words[1]).expect("a position");
+    let mut solver = Solver::new().max_empties(60).scoring(Scoring::Sign).threads_all();
+    if words[2] != "all" {
+        solver = solver.threads(words[2].parse().expect("a number"));
+    }
+    for word in &words[3..] {
+        solver = solver.timeout(std::time::Duration::from_secs_f64(word.parse().expect("a number")));
+    }
+    let print = |found: Result<String, Error>| println!("{}", found.unwrap_or_else(|error| error.to_string()));
+    print(solver.solve(position).map(|found| format!("{found:?}")));
+    print(solver.confirm(position, Answer { score: -7, best: Best::Pass }).map(|found| format!("{found:?}")));
+    print(solver.move_scores(position).map(|found| format!("{found:?}")));
+    print(solver.solve_all(&[position; 15_001]).map(|found| found.len().to_string()));
+}
+"""
+# A made-up ffosolve or ffoscores of the version $OF. After $ACTS, it notes its words, its book, and how often each line
+# is in its list.
+NOTING = r"""#!/bin/sh
+name=${0##*/}
+eval "$ACTS"
+[ "$1" != --version ] || { echo "$name $OF"; exit; }
+cat >"$NOTES.list"
+{
+    echo "$name $*" | sed 's,/fd/.*,/fd/N,'
+    case $* in *--book-in=*) cat "${5#*=}" ;; esac
+    sort "$NOTES.list" | uniq -c | tr -s ' '
+} >>"$NOTES"
+case $name in
+ffosolve) echo '[1]'; awk '{ print NR " -01 D3,C4 unlisted" } END { print "solved 1 refused 0" }' "$NOTES.list" ;;
+ffoscores) sed 's/$/ C4:+01; D3:-01;/' "$NOTES.list" ;;
+esac
 """
 
 # Reads transcripts, each before a NUL byte. Prints the masks of the last position, or the number and the word of the
@@ -84,8 +125,7 @@ def asked(scoring, few, some, many):
         yield from (f"solve_all 1 {scoring} {entries}", f"confirm {scoring} {entries} 7")
         yield f"move_scores_all 1 {scoring} {entries}"
     yield from (f"solve_all 3 {scoring} {many}", f"move_scores_all 2 {scoring} {some}")
-    yield from (f"solve_all 1 {scoring} {many}", f"solve_all 2 {scoring} {few}")  # a part for each thread
-    yield from (f"solve_all 2 {scoring} {many}", f"solve_all 9 {scoring} {many}")  # and no part after the refused one
+    yield f"solve_all 4096 {scoring} {few}"
 
 
 def shown(language, *names):
@@ -151,10 +191,24 @@ def test_the_example_with_a_limit_of_time_stops_a_call(compiler):
     program = PREFIX.compile(compiler, "limited", [PREFIX.shipped / "examples/c/limited.c"])
     for words, wanted in (
         ("60 fffffff7ffff7f7c 800008002", (0, "+62\n", "")), ("60 3 2", (1, "the masks share a square\n", "")),
+        ("60 800008002 fffffff7ffff7f7c", (0, "-40\n", "")),  # -39 if discs alone counted
         ("1 0000000810000000 0000001008000000", (1, "not solved in 1 s\n", "")),
         *((wrong, (2, "", "usage: limited SECONDS OWN OPP\n")) for wrong in ("0 1 2", "1 2", "1 2 x", "x 1 2")),
     ):
         ends(wanted, "timeout", "30", "env", "--ignore-signal=ALRM", program, *words.split())
+
+
+@pytest.mark.parametrize("compiler", [C, CXX], ids=["C", "C++"])
+def test_the_example_for_all_processors_runs_the_program_for_hard_positions(compiler):
+    """The first one has 2 empty squares, the third 20: FFO 40, whose score is published."""
+    program = PREFIX.compile(compiler, "all_processors", [PREFIX.shipped / "examples/c/all_processors.c"])
+    of_ffo, lacks = "8080c0c48c8080 10783f3b737e79", "setpriv: failed to execute ffosolve: No such file or directory\n"
+    for folder, masks, wanted in (
+        ("none", "fffffff7ffff7f7c 800008002", (0, "+62\n", "")), ("bin", "3 2", (1, "the masks share a square\n", "")),
+        ("bin", of_ffo, (0, "+38\n", "")), ("none", of_ffo, (3, "", lacks)),
+        ("none", "1", (2, "", "usage: all_processors OWN OPP\n")),
+    ):
+        ends(wanted, "env", f"PATH={PREFIX.folder}/{folder}:/usr/bin:/bin", program, *masks.split())
 
 
 def test_the_example_in_python_runs():
@@ -266,6 +320,17 @@ def test_clippy_and_rustfmt_have_nothing_to_say():
     PREFIX.cargo("fmt", "--check")
 
 
+def test_a_missing_program_is_named_with_the_version_of_the_library():
+    source = """fn main() {
+    let position = ffosolve::Position::new(1, !1 << 20).expect("masks apart");
+    print!("{}", ffosolve::Solver::new().threads(2).solve(position).expect_err("no program"));
+}
+"""
+    calls = "".join(f"int {name}(void) {{ return 11203; }}\n" for name in PREFIX.calls)
+    printed = PREFIX.make(PREFIX.rust_client_of("later", source, calls), env={"PATH": "/usr/bin:/bin"}).stdout
+    assert printed.startswith("no process can be started: ffosolve 1.12.3 is neither beside "), printed
+
+
 def test_a_changed_library_is_linked_anew():
     for number in (1, 2):
         calls = "".join(f"int {name}(void) {{ return {number}; }}\n" for name in PREFIX.calls)
@@ -284,12 +349,102 @@ def test_the_compiler_that_the_manifest_names_takes_all_of_a_copy_of_the_crate_a
 
 
 def test_the_library_gets_the_scoring_the_table_and_the_claim_that_were_asked_for():
-    """Builds ASKED_IN_RUST with a made-up library, PRINTED_IN_C, whose functions print what they get. Each of the four
-    calls on two threads starts one."""
+    """Builds ASKED_IN_RUST with a made-up library, PRINTED_IN_C, whose functions print what they get."""
     program = PREFIX.rust_client_of("asked", ASKED_IN_RUST, PRINTED_IN_C)
-    ran = PREFIX.make(program, env=preload(PREFIX.work, COUNTED="1"))
     wanted = [*asked(0, 0, 4096, 65536), *asked(2, 5, 5, 5)]  # by default the tables that ffosolve.h suggests
-    assert (sorted(ran.stdout.splitlines()), ran.stderr) == (sorted(wanted), "thread " * 4)
+    assert PREFIX.make(program).stdout.splitlines() == wanted
+
+
+@pytest.fixture(scope="module")
+def called(installed):
+    """A function that runs CALLED_IN_RUST, by default for a game's start, with made-up programs that do `acts` and are
+    of the version `of`. They are on the path, after files that can't be run, or elsewhere, in `folder`. The library is
+    in `place`. Returns the lines that it prints, and the programs' notes."""
+    @functools.cache
+    def client(place):
+        library = write(PREFIX.work / place / "libffosolve.a", PREFIX.archive.read_bytes()).parent
+        return PREFIX.rust_client(f"called-{len(place)}", CALLED_IN_RUST, FFOSOLVE_LIB_DIR=str(library))
+
+    def call(*words, acts="", of=VERSION, line=ffosolve.START.to_obf(), place="alone", folder="noting", **how):
+        notes, path = write(PREFIX.work / "notes", ""), f"{PREFIX.work}/wrong:{PREFIX.work}/noting:/usr/bin:/bin"
+        for name in ("ffosolve", "ffoscores"):
+            write(PREFIX.work / folder / name, NOTING)
+            write(PREFIX.work / "wrong" / name, "")
+        env = {"PATH": path if folder == "noting" else "/usr/bin:/bin", "ACTS": acts, "OF": of, "NOTES": str(notes)}
+        ran = PREFIX.make(client(place), line, *words, env=env, **how)
+        return ran.stdout.splitlines(), notes.read_text().splitlines()
+
+    return call
+
+
+@pytest.mark.parametrize("words, workers", (
+    (["3"], 2), (["1", "60"], 0), (["99"], 64), (["all", "60"], len(PROCESSORS) - 1)))
+def test_programs_get_the_options_the_claim_and_lists_for_several_threads_or_a_timeout(called, words, workers):
+    printed, notes = called(*words, preexec_fn=lambda: os.sched_setaffinity(0, PROCESSORS))
+    answer, line = "Answer { score: -1, best: Moves(Squares(D3,C4)) }", ffosolve.START.to_obf()
+    assert printed == [answer, answer, "[(D3, -1), (C4, 1)]", "15001"]
+    options = f"--workers={workers} --table=1000000 --scoring=sign --max-empties=60"
+    book = ["% ffobook 2 sign", ffosolve.START.canonical().to_obf(moves={"PS": -7})]
+    assert notes == [
+        f"ffosolve {options}", f" 1 {line}", f"ffosolve {options} --book-in=/dev/fd/N", *book, f" 1 {line}",
+        f"ffoscores {options}", f" 1 {line}", f"ffosolve {options}", f" 15000 {line}", f"ffosolve {options}",
+        f" 1 {line}"]
+
+
+@pytest.mark.parametrize("place, folder", (
+    ("a/lib64", "a/bin"), ("b/lib/x86_64-linux-gnu", "b/bin"), ("c/library", "c"), ("beside", "beside")))
+def test_programs_are_found_by_the_place_of_the_library(called, place, folder):
+    assert called("3", place=place, folder=folder)[0][-1] == "15001"
+
+
+@pytest.mark.parametrize("words, how, why", (
+    (["3"], {"of": "9.9.9"}, f"no process can be started: NAME {VERSION} is neither beside ALONE nor on the path"),
+    (["3"], {"acts": "kill -9 $$"}, "the process that solved ended with status -9"),
+    (["3"], {"acts": '[ "$1" = --version ] || exit 3'}, "the process that solved ended with status 3"),
+    (["3"], {"acts": '[ "$1" = --version ] || exit 0'}, "the process that solved ended with status 0"),
+    (["3"], {"acts": "[ $1 = --version ] || { NOTES=$NOTES.not; trap 'exit 3' EXIT; }"},
+     "the process that solved ended with status 3"),
+    (["3"], {"acts": '[ "$1" = --version ] || { echo "$name: out of memory" >&2; exit 1; }'}, "out of memory"),
+    (["3"], {"preexec_fn": limited(RLIMIT_NOFILE=5)}, "no process can be started: Too many open files (os error 24)"),
+    (["1", "0"], {}, "not finished within the timeout"),
+    (["1", "0.3"], {"acts": "exec sleep 60"}, "not finished within the timeout"),
+    (["3", "0.3"], {"acts": '[ "$1" = --version ] || exec sleep 60'}, "not finished within the timeout"),
+))
+def test_a_call_without_its_program_or_time_is_refused_with_the_reason(called, words, how, why):
+    why = why.replace("ALONE", str(PREFIX.work / "alone"))
+    names = ("ffosolve", "ffosolve", "ffoscores", "ffosolve")
+    assert called(*words, **how) == ([why.replace("NAME", name) for name in names], [])
+
+
+@pytest.mark.parametrize("words, empties, calls", (
+    (["3"], 14, 3), (["1", "60"], 14, 3), (["3"], 15, 0), (["1", "60"], 15, 0), (["1"], 15, 4)))
+def test_brief_calls_and_those_of_one_thread_without_a_timeout_need_no_program(called, words, empties, calls):
+    ((own, opp),) = random_positions(1, [empties])
+    line = ffosolve.Position(own, opp).to_obf()
+    refused = ["is neither beside" in text for text in called(*words, of="9.9.9", line=line)[0]]
+    assert refused == [False] * calls + [True] * (4 - calls)
+
+
+def solvers_of(process):
+    """Returns the processes of ffosolve that a process has started and that do not only tell their version."""
+    running = [it for it in psutil.process_iter(["ppid", "name", "cmdline"]) if it.info["ppid"] == process.pid]
+    return [it for it in running if it.info["name"] == "ffosolve" and "--version" not in it.info["cmdline"]]
+
+
+def test_the_program_of_a_call_ends_with_its_process_and_in_rust_not_by_ctrl_c(start):
+    """The position is the start of a game, which no program solves."""
+    start_line, masks = ffosolve.START.to_obf(), [f"{mask:x}" for mask in ffosolve.START]
+    rust = [PREFIX.rust_client("ended", CALLED_IN_RUST), start_line, 2]
+    in_c = [PREFIX.compile(C, "all_processors", [PREFIX.shipped / "examples/c/all_processors.c"]), *masks]
+    for words in (rust, in_c):
+        ran = start("env", f"PATH={PREFIX.folder}/bin:{os.environ['PATH']}", *words)
+        wait_until(lambda: solvers_of(ran))
+        (solver,) = solvers_of(ran)
+        if words == rust:
+            ignored = re.search(r"SigIgn:\t(\w+)", Path(f"/proc/{solver.pid}/status").read_text())[1]
+            assert int(ignored, 16) & 1 << signal.SIGINT - 1
+        ran.kill()
+        assert psutil.wait_procs([solver], timeout=SECONDS)[1] == []
 
 
 def test_rust_reads_transcripts_as_the_table_says_and_others_as_python():

@@ -4,7 +4,8 @@ import re
 
 import pytest
 
-from tests.support import MOST_BYTES, ROOT, SECONDS, built, ends, positions, run, stored, write
+from tests.prefix import VERSION
+from tests.support import MOST_BYTES, ROOT, SECONDS, built, ends, positions, run, write
 from ffosolve import MOST_ENTRIES
 
 PROGRAMS = ("ffosolve", "ffoscores")
@@ -49,7 +50,7 @@ def test_help_and_version_are_printed_whatever_follows_and_the_help_names_the_li
     for line in ("--help", "-h", "-hx", "--help --best", "none.obf -h"):
         ends((0, text, ""), built(name), *line.split(), stdin=pipe)
     for line in ("--version", "-V", "-Vx", "--table 5 --version", "--max-empties=60 --workers=64 --version"):
-        ends((0, f"{name} {stored('VERSION').decode()}", ""), built(name), *line.split(), stdin=pipe)
+        ends((0, f"{name} {VERSION}\n", ""), built(name), *line.split(), stdin=pipe)
     text = " ".join(text.split())
     assert re.findall(r"--(\S+) <N> [^<]*?\b0 to (\d+)", text) == [("max-empties", "60"), ("workers", "64")]
     assert set(re.findall(r"(?:files, at most|more than) (\d+)", text)) == {"64"}

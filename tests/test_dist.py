@@ -1,5 +1,6 @@
 """make dist, deb and wheel: packages are complete and work without rt; two checkouts make the same archive."""
 import hashlib
+import itertools
 import os
 import re
 import shutil
@@ -12,7 +13,7 @@ from types import SimpleNamespace
 import pytest
 
 from tests.prefix import (
-    FIRST, FIRST_OBF, LEVELS, VERSION, completed_by_zsh, copied_checkout, files_below, path_without,
+    FIRST, FIRST_OBF, LEVELS, VERSION, WRITTEN, completed_by_zsh, copied_checkout, files_below, path_without,
     print_what_is_shown)
 from tests.support import ROOT, ends, is_v3, need, run, stored, unshared, write
 
@@ -41,6 +42,15 @@ def made(target, folder, *names, **how):
     return paths
 
 
+def later(count, head):
+    """The version of a package that is made `count` commits after the last change of the file VERSION."""
+    return f"{VERSION}.dev{count}+g{head[:7]}" if WRITTEN != VERSION else f"{VERSION}+{count}.g{head[:7]}"
+
+
+def for_debian(version):
+    return version.replace(".dev", "~dev")
+
+
 @pytest.fixture(scope="module")
 def dist(shared_folder):
     """Archives of two checkouts that differ in path, times, umask, locale and time zone; the first archive, unpacked;
@@ -50,7 +60,7 @@ def dist(shared_folder):
     run("sh", "-euc", f"git init -q; git add VERSION; {COMMIT}; {COMMIT_ALL}", cwd=first, check=True)
     second = shutil.copytree(first, shared_folder / "another place")
     head = run("git", "rev-parse", "HEAD", cwd=first, text=True).stdout.strip()
-    version = f"{VERSION}+1.g{head[:7]}"
+    version = later(1, head)
     name = f"ffosolve-{version}-linux-x86-64"
     os.utime(second / "README.md", (0, 0))
     other = {"umask": 0o077, "env": {**os.environ, "LC_ALL": "C", "TZ": "UTC+9"}}
@@ -278,15 +288,34 @@ def test_an_empty_environment_needs_only_the_wheel(dist, wheel, folder):
 def test_at_the_release_the_version_is_plain_and_of_a_shallow_clone_it_names_the_commit(folder):
     pytest.importorskip("hatchling")
     checkout = copied_checkout(folder / "plain")
+    write(checkout / "VERSION", f"{VERSION}\n")
     run("sh", "-euc", COMMIT_ALL, cwd=checkout, check=True)
     made("wheel", checkout, f"ffosolve-{VERSION}-py3-none-manylinux_2_34_x86_64.whl")
-    run("git", "clone", "-q", "--depth=1", f"file://{checkout}", "shallow", check=True)
-    head = run("git", "rev-parse", "HEAD", cwd=checkout, text=True).stdout
-    ends((0, f"{VERSION}+g{head[:7]}\n", ""), sys.executable, "shallow/python/src/ffosolve/_version.py")
+
+
+@pytest.mark.parametrize("written, versions", (
+    ("1.2.3", ["1.2.3", "1.2.3+1.gHEAD", "1.2.3+gHEAD"]),
+    ("1.2.3.dev0", ["1.2.3.dev0+gHEAD", "1.2.3.dev1+gHEAD", "1.2.3.dev0+gHEAD"]),
+))
+def test_before_a_release_and_after_it_the_version_names_the_last_commit(folder, written, versions):
+    """The versions are those at the last change of the file VERSION; a commit later; and then of a clone of depth 1 and
+    of its `git archive`."""
+    def is_version(wanted, place):
+        head = run("git", "-C", "checkout", "rev-parse", "--short=7", "HEAD", text=True).stdout.strip()
+        ends((0, f"{wanted.replace('HEAD', head)}\n", ""), sys.executable, f"{place}/python/src/ffosolve/_version.py")
+
+    write("checkout/VERSION", f"{written}\n")
+    files = ".gitattributes", "python/src/ffosolve/_version.py"
+    run("cp", "--parents", *files, folder / "checkout", cwd=ROOT, check=True)
+    for wanted in versions[:2]:
+        run("sh", "-euc", f"date +%N >one; {COMMIT_ALL}", cwd="checkout", check=True)
+        is_version(wanted, "checkout")
+    run("git", "clone", "-q", "--depth=1", f"file://{folder}/checkout", "shallow", check=True)
     run("sh", "-c", "mkdir archive; git -C shallow archive HEAD | tar -xC archive", check=True)
-    ends((0, f"{VERSION}+g{head[:7]}\n", ""), sys.executable, "archive/python/src/ffosolve/_version.py")
+    for place in ("shallow", "archive"):
+        is_version(versions[2], place)
     write("archive/VERSION", "1.2.3+4.g0123456")  # as `make install` writes it
-    ends((0, "1.2.3+4.g0123456\n", ""), sys.executable, "archive/python/src/ffosolve/_version.py")
+    is_version("1.2.3+4.g0123456", "archive")
 
 
 @pytest.mark.parametrize("target", ("dist", "wheel", "deb"))
@@ -306,13 +335,25 @@ def test_without_a_commit_of_all_files_no_package_is_made(folder, target):
     assert not Path("copy/out").exists()
 
 
+def test_missing_packages_are_named_before_anything_is_proved(folder):
+    why = "dpkg-checkbuilddeps: error: unmet build dependencies: one"
+    run("cp", "-r", *(ROOT / name for name in ("Makefile", "packaging", "VERSION")), folder, check=True)
+    write("tools/dpkg-checkbuilddeps", f"#!/bin/sh\necho '{why}' >&2\nexit 1\n")
+    write("tools/rt", "#!/bin/sh\necho proves >&2\nexit 1\n")
+    run("sh", "-euc", COMMIT_ALL, check=True)
+    ran = run(*MAKE, "deb", env={**os.environ, "PATH": f"{folder}/tools:{os.environ['PATH']}"}, text=True)
+    assert (ran.returncode, ran.stdout) == (2, "")
+    assert ran.stderr.startswith(f"{why}\napt-get build-dep ./ installs them\nmake: "), ran
+
+
 @pytest.fixture(scope="module")
 def packages(dist):
     """Returns the paths of the packages for Debian, by their names."""
     missing = run("dpkg-checkbuilddeps", ROOT / "debian/control", text=True)
     if missing.returncode:
         pytest.skip(missing.stderr)
-    files = [f"{name}_{dist.version}_{'all' if name.startswith('python3') else 'amd64'}.deb" for name in PACKAGES]
+    version = for_debian(dist.version)
+    files = [f"{name}_{version}_{'all' if name.startswith('python3') else 'amd64'}.deb" for name in PACKAGES]
     return dict(zip(PACKAGES, made("deb", dist.first, *files)))
 
 
@@ -323,10 +364,19 @@ def test_lintian_finds_nothing_but_functions_that_gcc_would_guard(packages):
     assert (ran.returncode, tags) == (0, {"I: ffosolve: hardening-no-fortify-functions"}), ran
 
 
-def test_versions_are_later_than_the_release(dist, packages):
+def test_packages_have_the_programs_that_make_has_linked(dist, packages, folder):
+    run("dpkg-deb", "-x", packages["ffosolve"], "root", check=True)
+    for level, name in itertools.product(LEVELS, ("ffosolve", "ffoscores")):
+        linked = (dist.first / "out" / level / name).read_bytes()
+        for place in (dist.unpacked / "lib", Path("root/usr/lib")):
+            assert (place / f"ffosolve/{name}-{level}").read_bytes() == linked, (place, name, level)
+
+
+def test_versions_are_between_releases_in_the_order_of_commits(dist, packages):
     for package in packages.values():
-        ends((0, f"{dist.version}\n", ""), "dpkg-deb", "-f", package, "Version")
-    for less, greater in ((VERSION, dist.version), (f"{VERSION}+9.gfffffff", f"{VERSION}+10.g0000000")):
+        ends((0, f"{for_debian(dist.version)}\n", ""), "dpkg-deb", "-f", package, "Version")
+    of_commits = "1.1.0+9.gfffffff", "1.1.0+10.g0000000", "1.2.0~", "1.2.0~dev9+gfffffff", "1.2.0~dev10+g0000000"
+    for less, greater in itertools.pairwise(("1.1.0", *of_commits, "1.2.0")):
         assert run("dpkg", "--compare-versions", less, "lt", greater).returncode == 0
 
 
@@ -341,7 +391,7 @@ def test_they_have_what_the_archive_has_and_run_when_unpacked(dist, packages, fo
             wanted.add(re.sub("^lib/(?!ffosolve/)", "lib/x86_64-linux-gnu/", name))
     for name in files_below(dist.unpacked / "share/ffosolve/python/src"):
         wanted.add(f"lib/python3/dist-packages/{name}")
-    wanted |= {f"{documents}/{name}" for name in ("README.md", "PROVED")}
+    wanted |= {f"{documents}/{name}" for name in ("README.md", "PROVED")} | {"share/lintian/overrides/ffosolve"}
     wanted |= {f"share/doc/libffosolve-dev/{name}" for name in ("library.md", *(
         f"examples/{name}" for name in files_below(dist.first / "examples")))}
     wanted |= {f"share/doc/{name}/{file}" for name in PACKAGES for file in ("copyright", "changelog.gz")}

@@ -11,7 +11,7 @@ from unittest import mock
 import pytest
 
 from tests.prefix import (
-    FIRST, FIRST_OBF, LEVELS, LONGEST, NUMBER, PREFIX, VERSION, completed_by_zsh, copied_checkout, files_below,
+    FIRST, FIRST_OBF, LEVELS, LONGEST, NUMBER, PREFIX, VERSION, WRITTEN, completed_by_zsh, copied_checkout, files_below,
     names_of_files, path_without)
 from tests.support import NOBODY, ROOT, ends, is_v3, need, run, stored, write
 
@@ -223,17 +223,28 @@ def test_the_loader_picks_the_library_of_the_best_level(installed, monkeypatch):
         assert f"libffosolve.so.1 => {PREFIX.folder}/{lib}/libffosolve.so.1 " in ran.stdout, ran
 
 
+def test_the_version_rises_with_the_first_change_after_a_release():
+    """It ends with .dev0 as long as CHANGELOG.md has the heading Unreleased. Each call names a version that has it."""
+    def parts(version):
+        return [*map(int, version.split("."))]
+
+    first, *released = re.findall(r"^## \[(.*)\]", stored("CHANGELOG.md").decode(), re.M)
+    assert first == (VERSION if WRITTEN == VERSION else "Unreleased")
+    assert WRITTEN in (VERSION, f"{VERSION}.dev0")
+    assert parts(VERSION) > parts(released[0])
+    since = re.findall(r"^ ffosolve_\w+@\S+ (.*)$", stored("debian/libffosolve1.symbols").decode(), re.M)
+    assert {version.removesuffix("~") for version in since} <= {*released, VERSION}
+
+
 def test_programs_pages_library_and_texts_have_the_version_of_the_file_version(place):
-    assert re.search(r"\A\d+\.\d+\.\d+\Z", VERSION)
     place.install()
-    for name in COMMANDS:
-        ends((0, f"{name} {VERSION}\n", ""), place.root / "bin" / name, "--version")
+    for name, version in zip(COMMANDS, (VERSION, VERSION, WRITTEN, WRITTEN)):
+        ends((0, f"{name} {version}\n", ""), place.root / "bin" / name, "--version")
         page = (place.root / f"share/man/man1/{name}.1").read_text()
         assert page.startswith(f'.TH {name.upper()} 1 "" "ffosolve {VERSION}"'), page[:99]
     for path, text in (
         (place.root / "include/ffosolve.h", f'_VERSION_TEXT "{VERSION}"\n#define FFOSOLVE_VERSION {NUMBER}\n'),
         (place.root / "lib/cmake/ffosolve/ffosolve-config-version.cmake", f'set(PACKAGE_VERSION "{VERSION}")\n'),
-        (ROOT / "CHANGELOG.md", f"\n## [{VERSION}] - "),
     ):
         assert text in path.read_text(), path
 

@@ -156,6 +156,14 @@ def test_names_have_their_numbers_and_the_library_has_the_limits_and_the_version
     assert b", ".join(in_c).decode() == ", ".join(["unknown status", "done", *texts, "unknown status"])
 
 
+def test_the_header_and_the_packages_name_the_signs_of_a_win_a_draw_and_a_loss(call):
+    ended = {"win": position(2 ** 64 - 1, 0), "draw": position(0xffffffff, 0xffffffff << 32), "loss": EMPTY}
+    wanted = {name: call("solve", it, 2, 0)[1]["score"] for name, it in ended.items()}
+    for text in (PREFIX.text, stored("rust/src/solvers.rs").decode(), ffosolve.Scoring.__doc__):
+        (words,) = re.findall(r"(-?\d), (-?\d) or (-?\d)\s+for a (\w+), a (\w+) or a (\w+)", text)
+        assert dict(zip(words[3:], map(int, words[:3]))) == wanted
+
+
 def test_a_position_gets_its_answer_or_the_scores_of_its_moves(call):
     assert call("solve", PASSED, 0, 64) == [0, answer(-40, 0, 0x80)]
     assert call("solve", PASSED, 1, 64) == [0, answer(-39, 0, 0x80)]

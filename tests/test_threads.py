@@ -150,6 +150,11 @@ def test_a_line_is_shared_over_a_table_of_4096_entries(folder, entries, threads)
     assert (ran.stdout[:67], ran.stderr) == (HARD[:66] + b";", b"thread " * threads)
 
 
+def test_a_second_thread_for_a_line_that_cannot_be_started_is_not_asked_for_again_at_once(folder):
+    ran = run(built("ffoscores"), "--workers", 3, input=HARD, env=preload(folder, COUNTED="yes", UNSTARTED="2"))
+    assert (ran.stdout[:67], ran.stderr) == (HARD[:66] + b";", b"thread ")
+
+
 def test_hundreds_of_lines_behind_one_that_takes_hours_are_scored_before_more_threads_share_it(folder, start):
     with open("threads", "wb") as to:
         begin(start, HOURS + lines(12, 25) * 20, 3, stderr=to, env=preload(folder, COUNTED="yes"))

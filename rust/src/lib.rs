@@ -13,13 +13,14 @@
 //! The crate links the library `libffosolve.a`, or with the feature `shared` the library `libffosolve.so`. It looks in
 //! the folder that `FFOSOLVE_LIB_DIR` names when it is built; otherwise where pkg-config says, or in `/usr/local/lib`.
 //!
-//! Calls share nothing, so threads may call at the same time. A call can't be stopped, and two more empty squares take
-//! some 2 to 20 times as long. A program that has to be able to stop a call makes it in a process of its own. For 14
-//! empty squares a call needs up to 32 KiB of stack, and for 60 up to 128 KiB.
+//! Calls share nothing, so threads may call at the same time. Two more empty squares take some 2 to 20 times as long.
+//! `Solver::threads` gives a call several threads, and `Solver::timeout` ends it. For 14 empty squares a call needs up
+//! to 32 KiB of stack, and for 60 up to 128 KiB.
 
 mod errors;
 mod lines;
 mod positions;
+mod programs;
 pub mod raw;
 mod solvers;
 mod squares;

@@ -1,6 +1,8 @@
 //! Makes each call with good and with bad arguments.
 use ffosolve::*;
 use std::collections::HashSet;
+use std::time::{Duration, Instant};
+use std::{fs, thread};
 
 const LINE: &str = "-OXXXXX-XXXXXXXOXXXXXXXXXXXXXXXXXXXOXXXXXXXXXXXXXXXXXXXXXXXXXXXX X; H1:+62;";
 const ANSWER: Answer = Answer { score: 62, best: Best::Moves(Squares(0x80)) };
@@ -80,6 +82,40 @@ fn many_positions_have_the_answers_and_scores_of_each() {
         let scores: Result<Vec<_>, Error> = last.iter().map(|each| one.move_scores(*each)).collect();
         assert_eq!((many.solve_all(&last), many.move_scores_all(&last)), (answers, scores));
     }
+}
+
+/// These calls run the programs that are installed with the library.
+#[test]
+fn programs_find_what_the_library_finds_even_for_two_calls_at_once() {
+    let line = "XXX--OXOOXOOOOOO-XXXXXOO-XXXXOOO---XOXOO--OOOOOO---OOXOO----OOOO";
+    let hard: Position = format!("{line} O;").parse::<Line>().expect("16 empty squares").position;
+    let list = [hard.passed(), corners(), hard.passed(), at_pass(), hard];
+    for scoring in [Scoring::Winner, Scoring::Discs, Scoring::Sign] {
+        let one = Solver::new().scoring(scoring);
+        let (answers, scores) = (one.solve_all(&list).expect("answers"), one.move_scores_all(&list).expect("scores"));
+        let check = |many: Solver| {
+            assert_eq!((many.solve_all(&list), many.move_scores_all(&list)), (Ok(answers.clone()), Ok(scores.clone())));
+            for score in [answers[4].score, 1, -128] {
+                assert_eq!(many.confirm(hard, Answer { score, best: Best::Pass }), Ok(answers[4]));
+            }
+        };
+        let solvers = [one.threads(3), one.threads_all().timeout(Duration::MAX)];
+        thread::scope(|scope| solvers.map(|many| scope.spawn(move || check(many))).map(|it| it.join().expect("equal")));
+    }
+}
+
+#[test]
+fn a_call_ends_at_its_timeout() {
+    let (hopeless, begun) = (Position::start(), Instant::now());
+    for (solver, milliseconds) in [(Solver::new(), 0), (Solver::new().threads(2), 0), (Solver::new(), 200)] {
+        let solver = solver.max_empties(60).timeout(Duration::from_millis(milliseconds));
+        assert_eq!(solver.solve(hopeless), Err(Error::TimedOut));
+        assert_eq!(solver.confirm(hopeless, ANSWER), Err(Error::TimedOut));
+        assert_eq!(solver.move_scores(hopeless), Err(Error::TimedOut));
+        assert_eq!(solver.solve(corners()).is_ok(), milliseconds > 0);
+        assert_eq!(fs::read_to_string("/proc/thread-self/children").expect("processes"), "");
+    }
+    assert!(begun.elapsed() < Duration::from_secs(60));
 }
 
 #[test]

@@ -1,6 +1,7 @@
 -- What a book may be written over, and the text that is written.
-use Rattle.std.specs.Prelude.{◌≡◌, ℕ, List, [], ◌∷◌, map}
+use Rattle.std.specs.Prelude.{◌≡◌, ℕ, List, [], ◌∷◌, Option, String, map}
 use Rattle.std.specs.Borrow.{Bor}
+use Rattle.std.specs.declared.alloc.Global.{Global}
 use Rattle.std.specs.declared.io.ErrorKind.TheVariants as kind
 use Rattle.othello_rules.specs.declared.scoring.Scoring.{Scoring}
 use Rattle.solved_book.specs.Books.{BookView, book_text, header}
@@ -17,6 +18,14 @@ use Rattle.book_files.specs.declared.solve_error.SolveError.TheVariants.{BadPlac
 abbrev pub GivesWay : List (List ℕ) → Type 0
 GivesWay [] = Unit {0}
 GivesWay (line ∷ lines) = (g : Scoring) × (line ≡ header g)
+
+-- the place of a book: its name, those of the book and of the lists that the run reads, and what was
+-- found there
+pub record PlaceView : Type 0 where
+  pub name : Bor (List ℕ)
+  pub book_in : Bor (Option (String Global))
+  pub lists : Bor (List (String Global))
+  pub found : Found
 
 -- A book may be written over what was found: it is not a regular file, or one that is empty or a
 -- book, and neither a list nor the book that is read.

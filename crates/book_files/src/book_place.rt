@@ -13,6 +13,7 @@ use program_parts::read_error;
 use std::alloc::{AllocError, Global};
 use std::fs::OpenOptions;
 use std::io::ErrorKind;
+use std::marker::Model;
 use std::os::unix::fs::FileTypeExt;
 use std::rt::Files;
 use std::{fs, io};
@@ -93,46 +94,123 @@ fn check_found<'a>(found: Found, name: &'a str) -> Result<(), SolveError<'a>>
     }
 }
 
-/// The place of a book that is to be written, and what was found there.
-#[derive(Clone, Copy, PartialEq, Eq, Debug)]
+/// The place of a book that is to be written, and what was found there by a run that reads a book and
+/// lists. Only a look at the files makes one.
+#[derive(Drop)]
 pub struct BookPlace<'a> {
-    /// The name of the file, as the words have it.
-    pub name: &'a str,
-    pub found: Found,
+    // The names of the files, as the words have them.
+    name: &'a str,
+    book_in: &'a Option<String>,
+    lists: &'a [String],
+    found: Found,
 }
 
-/// Tests that a book can be written under this name, where this was found, and destroys nothing
-/// there. A file of that name, unless it is a pipe, has to open for writing. It must be possible to
-/// make a file next to it, if it is a regular file or doesn't exist. The errors are `BadPlace` with
-/// the name, even if it is empty or the file is read as a list; `OverwritesBookIn` if the file is
-/// the book that is read; `OverwritesFile` if it isn't empty and doesn't begin as a book;
-/// `CannotRead` if what is there can't be read; and out of memory.
-pub fn find_place<'a, T: Files>(
+impl<'a> Model for BookPlace<'a> {
+    ghost use Rattle.book_files.specs.BookPlace.{PlaceView};
+
+    ghost Value = { PlaceView };
+
+    ghost view = { λ p. record {
+      name = p.name;
+      book_in = p.book_in;
+      lists = p.lists;
+      found = p.found;
+    } };
+}
+
+impl<'a> BookPlace<'a> {
+    // Looks at what is under this name, for a run that reads this book and these lists. The error is
+    // that of a file that can't be read.
+    fn look<T: Files>(
+        rt: &T,
+        name: &'a str,
+        book_in: &'a Option<String>,
+        lists: &'a [String],
+    ) -> io::Result<BookPlace<'a>>
+        ensures name { IfOk result (λ place. place.name ≡ name.entry) }
+        ensures book_in { IfOk result (λ place. place.book_in ≡ book_in.entry) }
+        ensures lists { IfOk result (λ place. place.lists ≡ lists.entry) }
+    {
+        let found = Found::under(rt, name, book_in, lists)?;
+        Ok(BookPlace {
+            name,
+            book_in,
+            lists,
+            found,
+        })
+    }
+
+    /// The name of the file, as the words have it.
+    pub(crate) fn name(&self) -> &'a str
+        ensures { result ≡ self.now.name }
+    {
+        self.name
+    }
+
+    /// Looks again. `AlreadyExists` if a book would destroy what is there by now.
+    pub(crate) fn check_again<T: Files>(&self, rt: &T) -> io::Result<()> {
+        let place = BookPlace::look(rt, self.name, self.book_in, self.lists)?;
+        match check_found(place.found, place.name) {
+            Ok(()) => Ok(()),
+            Err(_) => Err(io::Error::from(ErrorKind::AlreadyExists)),
+        }
+    }
+}
+
+// Tests that a book can be written at the place with this name that was looked at, and destroys
+// nothing there.
+fn check_place<'a, T: Files>(
     rt: &T,
     alloc: Global,
     name: &'a str,
-    found: io::Result<Found>,
+    looked: io::Result<BookPlace<'a>>,
 ) -> Result<BookPlace<'a>, SolveError<'a>>
-    ensures name { IfOk result (λ place. place.name ≡ name.entry) }
-    ensures found { IfOk result (λ place. found ≡ Ok place.found) }
+    ensures found { IfOk result (λ place. looked.entry ≡ Ok place) }
     ensures free { IfOk result (λ place. IsFree place.found) }
-    ensures refused { IfOk found (λ f. (IsFree f → ⊥) → IfErr result (IsRefusalOf f name.entry)) }
-    ensures memory { IfErr found (λ fault. error_kind fault ≡ ErrorKind.OutOfMemory
+    ensures refused { IfOk looked.entry (λ place. (IsFree place.found → ⊥)
+        → IfErr result (IsRefusalOf place.found name.entry)) }
+    ensures memory { IfErr looked.entry (λ fault. error_kind fault ≡ ErrorKind.OutOfMemory
         → IsErrOf result (Program Memory)) }
-    ensures unread { IfErr found (λ fault. (error_kind fault ≡ ErrorKind.OutOfMemory → ⊥)
+    ensures unread { IfErr looked.entry (λ fault. (error_kind fault ≡ ErrorKind.OutOfMemory → ⊥)
         → IsErrOf result (Program (CannotRead name.entry (error_kind fault)))) }
     ensures named { IfErr result (IsPlaceErrorOf name.entry.now) }
     ensures silent { IfErr result IsSilent }
     ensures status { IfErr result
         (λ error. (solve_status_of error ≡ 1) ⊎ (solve_status_of error ≡ 3)) }
 {
-    let found = match found {
-        Ok(found) => found,
+    let place = match looked {
+        Ok(place) => place,
         Err(fault) => return Err(SolveError::Program(read_error(&fault, name))),
     };
-    check_found(found, name)?;
+    check_found(place.found, name)?;
     match try_place(rt, alloc, name) {
-        Ok(()) => Ok(BookPlace { name, found }),
+        Ok(()) => Ok(place),
         Err(fault) => Err(place_error(&fault, name)),
     }
+}
+
+/// Looks at what is under this name, for a run that reads this book and these lists, and tests that
+/// a book can be written there and destroys nothing. A file of that name, unless it is a pipe, has to
+/// open for writing. It must be possible to make a file next to it, if it is a regular file or
+/// doesn't exist. The errors are `BadPlace` with the name, even if it is empty or the file is read as
+/// a list; `OverwritesBookIn` if the file is the book that is read; `OverwritesFile` if it isn't
+/// empty and doesn't begin as a book; `CannotRead` if what is there can't be read; and out of memory.
+pub fn find_place<'a, T: Files>(
+    rt: &T,
+    alloc: Global,
+    name: &'a str,
+    book_in: &'a Option<String>,
+    lists: &'a [String],
+) -> Result<BookPlace<'a>, SolveError<'a>>
+    ensures name { IfOk result (λ place. place.name ≡ name.entry) }
+    ensures book_in { IfOk result (λ place. place.book_in ≡ book_in.entry) }
+    ensures lists { IfOk result (λ place. place.lists ≡ lists.entry) }
+    ensures free { IfOk result (λ place. IsFree place.found) }
+    ensures named { IfErr result (IsPlaceErrorOf name.entry.now) }
+    ensures silent { IfErr result IsSilent }
+    ensures status { IfErr result
+        (λ error. (solve_status_of error ≡ 1) ⊎ (solve_status_of error ≡ 3)) }
+{
+    let looked = BookPlace::look(rt, name, book_in, lists);
+    check_place(rt, alloc, name, looked)
 }

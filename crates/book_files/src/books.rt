@@ -202,13 +202,13 @@ fn text_of(alloc: Global, book: &Book) -> Result<Vec<u8>, AllocError>
 pub fn ready_book<'a, T: Files>(
     rt: &T,
     alloc: Global,
-    place: &Option<BookPlace<'a>>,
+    place: Option<BookPlace<'a>>,
     solved: &SolvedFiles,
 ) -> Result<Option<NewFile<'a>>, AllocError>
-    requires { IfSome place.now (λ p. IsFree p.found) }
-    ensures placed { IfOk result (λ file. file ≡ None ↔ place.now ≡ None) }
-    ensures name { IfOk result (λ file. IfSome file
-        (λ file. IfSome place.now (λ p. file.name ≡ p.name))) }
+    requires { IfSome place (λ p. IsFree p.found) }
+    ensures placed { IfOk result (λ file. file ≡ None ↔ place.entry ≡ None) }
+    ensures place { IfOk result (λ file. IfSome file
+        (λ file. IfSome place.entry (λ p. file.place ≡ p))) }
     ensures text { IfOk result (λ file. IfSome file
         (λ file. IsBookTextOf solved.now file.text.items)) }
 {
@@ -217,14 +217,14 @@ pub fn ready_book<'a, T: Files>(
     };
     let book = solved.book(alloc)?;
     let text = text_of(alloc, &book)?;
-    let file = NewFile::new(rt, alloc, place.name, text)?;
+    let file = NewFile::new(rt, alloc, place, text)?;
     Ok(Some(file))
 }
 
 /// Writes the book, if one is to be written. The error is `CannotWrite` with the book's name.
 pub fn write_book<'a, T: Files>(rt: &T, book: &Option<NewFile<'a>>) -> Result<(), SolveError<'a>>
     ensures named { IfErr result (λ error. IfSome book.now
-        (λ file. (kind : ErrorKind) × (error ≡ Program (CannotWrite file.name kind)))) }
+        (λ file. (kind : ErrorKind) × (error ≡ Program (CannotWrite file.place.name kind)))) }
     ensures none { IfErr result (λ error. IsSome book.now) }
     ensures late { IfErr result (λ error. IsSilent error → ⊥) }
     ensures status { IfErr result (λ error. solve_status_of error ≡ 3) }
@@ -235,7 +235,7 @@ pub fn write_book<'a, T: Files>(rt: &T, book: &Option<NewFile<'a>>) -> Result<()
     match file.write(rt) {
         Ok(()) => Ok(()),
         Err(fault) => {
-            let error = ProgramError::CannotWrite(file.name, fault.kind());
+            let error = ProgramError::CannotWrite(file.place.name(), fault.kind());
             Err(SolveError::Program(error))
         }
     }

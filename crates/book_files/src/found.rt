@@ -1,4 +1,5 @@
-//! What is found under the name of a book that is to be written.
+//! What is found under the name of a book that is to be written. No contract speaks of files: this
+//! file looks at them, and `BookPlace` keeps for which names it looked.
 
 ghost use Rattle.std.specs.Prelude.{◌≡◌, ◌⊎◌, ◌↔◌, ◌≤◌, ℕ, List, IfOk, IfSome, length, take};
 ghost use Rattle.obf_text.specs.LineText.{lines_of};
@@ -103,7 +104,7 @@ fn leads_to<T: Files>(rt: &T, name: &str, file: &Metadata) -> bool {
 impl Found {
     /// What is found under this name, where the program reads this book and these lists. The error
     /// is that of a file that can't be read.
-    pub fn under<T: Files>(
+    pub(crate) fn under<T: Files>(
         rt: &T,
         name: &str,
         book_in: &Option<String>,

@@ -1,11 +1,10 @@
 //! Books as files, which `ffosolve` reads and writes, and the errors that end it early.
 //!
 //! ```rust
-//! use book_files::{Found, find_place, read_claims};
+//! use book_files::{find_place, read_claims};
 //!
 //! let claims = read_claims(&rt, alloc, &book_in)?;
-//! let found = Found::under(&rt, "new.book", &book_in, &lists);
-//! let place = find_place(&rt, alloc, "new.book", found)?;
+//! let place = find_place(&rt, alloc, "new.book", &book_in, &lists)?;
 //! ```
 #![tactic(auto)]
 

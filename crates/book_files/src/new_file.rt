@@ -3,18 +3,17 @@
 
 ghost use Rattle.std.specs.Prelude.{◌≡◌, IfOk};
 
-use crate::book_place::name_beside;
-use crate::found::Found;
+use crate::book_place::{BookPlace, name_beside};
 use std::alloc::{AllocError, Global};
 use std::fs::{OpenFile, OpenOptions};
 use std::io::Write;
 use std::rt::Files;
 use std::{fs, io};
 
-/// A text to be written as the file `name`. Writing it takes no more memory.
+/// A text to be written as the file of a place. Writing it takes no more memory.
 #[derive(Drop)]
 pub struct NewFile<'a> {
-    pub name: &'a str,
+    pub place: BookPlace<'a>,
     // The name of a file next to it, which didn't exist when the name was chosen.
     beside: String,
     pub text: Vec<u8>,
@@ -25,29 +24,32 @@ impl<'a> NewFile<'a> {
     pub(crate) fn new<T: Files>(
         rt: &T,
         alloc: Global,
-        name: &'a str,
+        place: BookPlace<'a>,
         text: Vec<u8>,
     ) -> Result<NewFile<'a>, AllocError>
-        ensures name { IfOk result (λ file. file.name ≡ name.entry) }
+        ensures place { IfOk result (λ file. file.place ≡ place.entry) }
         ensures text { IfOk result (λ file. file.text.items ≡ text.items) }
     {
-        let beside = name_beside(rt, alloc, name)?;
-        Ok(NewFile { name, beside, text })
+        let beside = name_beside(rt, alloc, place.name())?;
+        Ok(NewFile {
+            place,
+            beside,
+            text,
+        })
     }
 
     /// Writes the text under the file's name. A regular file, or one that doesn't exist yet, is
     /// written next to it and renamed. Anything else, such as a device, a pipe or a link, is opened
-    /// and written. If the file is by now neither empty nor a book, it stays, and the write fails.
+    /// and written. If a book would by now destroy what is there, it stays, and the write fails.
     pub(crate) fn write<T: Files>(&self, rt: &T) -> io::Result<()> {
-        if Found::under(rt, self.name, &None, &[])? == Found::Other {
-            return Err(io::Error::from(io::ErrorKind::AlreadyExists));
-        }
-        match fs::symlink_metadata(rt, self.name) {
+        self.place.check_again(rt)?;
+        let name = self.place.name();
+        match fs::symlink_metadata(rt, name) {
             Ok(found) => {
                 if found.is_file() {
                     self.replace(rt, Some(found.permissions()))
                 } else {
-                    write_all(&mut fs::create(rt, self.name)?, &self.text)
+                    write_all(&mut fs::create(rt, name)?, &self.text)
                 }
             }
             Err(fault) => match fault.kind() {
@@ -62,7 +64,7 @@ impl<'a> NewFile<'a> {
     // made in the meantime is left alone.
     fn replace<T: Files>(&self, rt: &T, permissions: Option<fs::Permissions>) -> io::Result<()> {
         if permissions.is_some() {
-            OpenOptions::new().write(true).open(rt, self.name)?;
+            OpenOptions::new().write(true).open(rt, self.place.name())?;
         }
         let mut beside = fs::File::create_new(rt, self.beside.as_str())?;
         let placed = self.fill_and_rename(rt, &mut beside, permissions);
@@ -84,7 +86,7 @@ impl<'a> NewFile<'a> {
             file.set_permissions(permissions)?;
         }
         file.sync_all()?;
-        fs::rename(rt, self.beside.as_str(), self.name)
+        fs::rename(rt, self.beside.as_str(), self.place.name())
     }
 }
 

@@ -5,11 +5,13 @@ ghost use Rattle.bound_table.specs.Limits.{most_entries};
 ghost use Rattle.bound_table.specs.declared.table_fault.TableFault.TheVariants as fault;
 ghost use Rattle.bound_table.specs.Range.{IsTrueOf};
 
+use crate::advice::Advice;
 use crate::begun::Begun;
 use crate::bounds::Bounds;
 use crate::entry::{Entry, Slot, empty_slot, read, write};
 use crate::range::Range;
 use crate::table_fault::TableFault;
+use crate::tuning::{FEWEST_SHARED_ENTRIES, MOST_BEGUN, MOST_WORTHS, quarter_of};
 use crate::worths::{Foreseen, Worths};
 use othello_bits::Pos;
 use othello_rules::Scoring;
@@ -19,13 +21,6 @@ use std::sync::atomic::{AtomicU8, Ordering};
 
 // One more than the greatest number of empty squares.
 const ABOVE_ALL_EMPTIES: u8 = 65;
-
-// The most places for positions that threads are searching. A thread notes fewer than 64 at once,
-// so these are enough for 64 threads.
-const MOST_BEGUN: usize = 4096;
-
-// The most places for what threads foresee. With 4,096, four threads evaluate 3 to 6 % more.
-const MOST_WORTHS: usize = 16_384;
 
 // How many places there are for what threads foresee, beside this number of entries.
 fn worths_beside(entries: usize) -> usize
@@ -37,10 +32,6 @@ fn worths_beside(entries: usize) -> usize
         entries.min(MOST_WORTHS)
     }
 }
-
-// The fewest entries of a table over which threads share a position. With fewer, the table forgets
-// much of what they find, and one thread is as fast.
-const FEWEST_SHARED_ENTRIES: usize = 4096;
 
 /// A transposition table with a fixed number of entries, which threads share by reference. No call
 /// waits, and only `new` takes memory. An entry holds a canonical position and a range that is true
@@ -84,22 +75,6 @@ fn hash_of(position: Pos) -> u64 {
 #[inline]
 fn hash_in(position: Pos, respect: u16) -> u64 {
     (hash_of(position) ^ u64::from(respect)).wrapping_mul(0x9e37_79b9_7f4a_7c15)
-}
-
-// The quarter of the table that holds positions with this number of empty squares. A store replaces
-// what its entry holds, and most stores are of positions with few empty squares. In a quarter of
-// their own they can't replace the positions that took longest to search. The borders were chosen
-// by the time of the FFO endgame test.
-#[inline]
-fn quarter_of(empties: u8) -> u64
-    ensures { result < 4 }
-{
-    match empties {
-        0..=12 => 0,
-        13..=15 => 1,
-        16..=18 => 2,
-        _ => 3,
-    }
 }
 
 // The number of the entry of a position, counted from 0. The position's quarter, plus the upper half
@@ -215,7 +190,9 @@ impl Bounds for BoundTable {
         let entry = Entry::of(position, range);
         write(self.slot(entry.position), entry);
     }
+}
 
+impl Advice for BoundTable {
     #[inline]
     fn is_worth_sharing(&self) -> bool {
         self.slots.len() >= FEWEST_SHARED_ENTRIES

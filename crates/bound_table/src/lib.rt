@@ -17,14 +17,17 @@
 //! ```
 #![tactic(auto)]
 
+mod advice;
 mod begun;
 mod bound_table;
 mod bounds;
 mod entry;
 mod range;
 mod table_fault;
+mod tuning;
 mod worths;
 
+pub use advice::Advice;
 pub use bound_table::BoundTable;
 pub use bounds::{Bounds, NoTable};
 pub use range::Range;

@@ -11,14 +11,16 @@ ghost use Rattle.othello_rules.specs.Answer.{IsScore};
 ghost use Rattle.endgame_search.specs.Windows.{IsBound, IsWindow, IsFailSoft, IsNullWindowScore};
 ghost use Rattle.endgame_search.specs.Children.{AreChildrenOf, UnlistedAreAtMost};
 
-use crate::judged::{FEWEST_JUDGED, judge_children};
+use crate::judged::judge_children;
 use crate::move_order::{
     Child, ChildIndex, add_children, add_until_no_replies, indices_of, sort_children,
 };
-use crate::shallow::{MOST_SHALLOW_EMPTIES, search_shallow};
+use crate::shallow::search_shallow;
+use crate::stable_cutoff::stable_cutoff;
 use crate::table_cutoff::{
     BELOW_ALL_SCORES, enhanced_cutoff, possible_scores, probe_cutoff, store_always, store_if_deep,
 };
+use crate::tuning::{FEWEST_SHARED_OUT, MOST_SHALLOW_EMPTIES, eldest_children};
 use arrayvec::ArrayVec;
 use bound_table::Bounds;
 use othello_bits::{Pos, lowest, without};
@@ -111,8 +113,8 @@ fn search_pass<T: Bounds>(table: &T, position: Pos, bound: i8) -> i8
     score
 }
 
-// Searches a position in which the mover has a move. A score that the table does not show by the
-// first probe is passed to `store_if_deep`.
+// Searches a position in which the mover has a move. A score that neither the first probe nor stable
+// discs show is passed to `store_if_deep`.
 #[cycle(search)]
 fn search_moves<T: Bounds>(table: &T, position: Pos, moves: u64, bound: i8) -> i8
     requires moves { moves ≡ moves_of position }
@@ -121,6 +123,9 @@ fn search_moves<T: Bounds>(table: &T, position: Pos, moves: u64, bound: i8) -> i
     ensures { IsNullWindowScore bound (value_of (T.scoring table.now) position) result }
 {
     if let Some(score) = probe_cutoff(table, position, bound) {
+        return score;
+    }
+    if let Some(score) = stable_cutoff(position, bound) {
         return score;
     }
     let score = search_by_list(table, position, moves, bound);
@@ -137,7 +142,7 @@ fn search_by_list<T: Bounds>(table: &T, position: Pos, moves: u64, bound: i8) ->
     requires bound { IsBound bound }
     ensures { IsNullWindowScore bound (value_of (T.scoring table.now) position) result }
 {
-    if position.empties() < FEWEST_JUDGED {
+    if position.empties() < FEWEST_SHARED_OUT {
         search_by_mobility(table, position, moves, bound)
     } else {
         search_by_worth(table, position, moves, bound)
@@ -146,7 +151,7 @@ fn search_by_list<T: Bounds>(table: &T, position: Pos, moves: u64, bound: i8) ->
 
 // The room of a list of children by mobility: one for each empty square. The time to make a list is
 // in proportion to its room.
-const ROOM_BY_MOBILITY: usize = FEWEST_JUDGED as usize - 1;
+const ROOM_BY_MOBILITY: usize = FEWEST_SHARED_OUT as usize - 1;
 
 // Searches such a position in the order of the opponent's mobility. No child has less mobility than
 // one without replies, so the first such child is searched before the remaining children are made.
@@ -155,7 +160,7 @@ const ROOM_BY_MOBILITY: usize = FEWEST_JUDGED as usize - 1;
 fn search_by_mobility<T: Bounds>(table: &T, position: Pos, moves: u64, bound: i8) -> i8
     requires moves { moves ≡ moves_of position }
     requires some { moves ≢ 0 }
-    requires few { empties_of position < FEWEST_JUDGED }
+    requires few { empties_of position < FEWEST_SHARED_OUT }
     requires bound { IsBound bound }
     ensures { IsNullWindowScore bound (value_of (T.scoring table.now) position) result }
 {
@@ -196,18 +201,6 @@ fn search_by_worth<T: Bounds>(table: &T, position: Pos, moves: u64, bound: i8) -
         return search_children(table, position, &children, BELOW_ALL_SCORES, bound);
     }
     search_shared_children(table, position, &children, bound)
-}
-
-// How many children, the eldest ones, each thread searches in their order, by the empty squares of
-// their parent. If none of them is worth more than the bound, all others most likely have to be
-// searched ("young brothers wait": Feldmann, Mysliwietz, Monien and Vornberger, 1989). The more empty
-// squares, the more a child costs that need not be searched.
-fn eldest_children(empties: u8) -> u8 {
-    match empties {
-        0..=15 => 1,
-        16..=20 => 2,
-        _ => 3,
-    }
 }
 
 // The index of the child to search next, of those in the mask `unsearched`. After the eldest children

@@ -3,19 +3,11 @@
 
 ghost use Rattle.std.specs.Prelude.{◌<◌};
 
+use crate::move_order::CORNERS;
+use crate::tuning::{OWN_MOVE, THEIR_MOVE, corner_worth, turn_worth};
 use crate::weights::WEIGHTS;
-use bound_table::Bounds;
+use bound_table::Advice;
 use othello_bits::{Pos, Sym};
-
-// A disc in the units of an evaluation.
-pub(crate) const DISC: i32 = 8;
-
-// What a move of the mover is worth, and one of the opponent.
-const OWN_MOVE: i16 = 18;
-
-const THEIR_MOVE: i16 = 16;
-
-const CORNERS: u64 = 0x8100_0000_0000_0081;
 
 // What the mover's discs on four squares of a row add to the number of their state, by their mask:
 // the sum of 3^i for square i from the left, and from the right.
@@ -62,7 +54,7 @@ impl Row {
 // What the squares at a corner are worth, by the states of the four squares on an edge, and of the
 // four beside them.
 #[inline(always)]
-fn corner_worth(edge: u16, inner: u16) -> i16 {
+fn region_worth(edge: u16, inner: u16) -> i16 {
     let state = usize::from(edge) + 81 * usize::from(inner);
     i16::from(WEIGHTS[state.min(WEIGHTS.len() - 1)])
 }
@@ -70,8 +62,8 @@ fn corner_worth(edge: u16, inner: u16) -> i16 {
 // What the squares at both ends of an edge are worth, by the row on it and the one beside it.
 #[inline(always)]
 fn edge_worth(edge: Row, inner: Row) -> i32 {
-    let left = corner_worth(edge.left_state(), inner.left_state());
-    let right = corner_worth(edge.right_state(), inner.right_state());
+    let left = region_worth(edge.left_state(), inner.left_state());
+    let right = region_worth(edge.right_state(), inner.right_state());
     i32::from(left) + i32::from(right)
 }
 
@@ -88,10 +80,10 @@ fn number(mask: u64) -> u8 {
     mask.count_ones() as u8
 }
 
-// What this number of corners is worth: more while more squares are empty.
+// What this number of corners is worth.
 #[inline(always)]
 fn corners_worth(corners: u8, empties: u8) -> i32 {
-    ((17 * u32::from(empties) / 4 + 4) * u32::from(corners)) as i32
+    (u32::from(corner_worth(empties)) * u32::from(corners)) as i32
 }
 
 // What the two sides' moves are worth.
@@ -102,14 +94,14 @@ fn mobility_worth(moves: u64, replies: u64) -> i16 {
 
 // What a position is worth for the mover, whose moves are given. No sum wraps, but nothing depends
 // on that.
-pub(crate) fn evaluate<T: Bounds>(table: &T, position: Pos, moves: u64) -> i32 {
+pub(crate) fn evaluate<T: Advice>(table: &T, position: Pos, moves: u64) -> i32 {
     table.note_evaluation();
     let own = position.own();
     let opp = position.opp();
     let empties = position.empties();
     let mobility = mobility_worth(moves, position.pass().moves());
-    let turn = 9 * i32::from(empties) / 2 - 40;
-    turn.wrapping_add(i32::from(mobility))
+    turn_worth(empties)
+        .wrapping_add(i32::from(mobility))
         .wrapping_add(corners_worth(number(own & CORNERS), empties))
         .wrapping_sub(corners_worth(number(opp & CORNERS), empties))
         .wrapping_add(rows_worth(own, opp))

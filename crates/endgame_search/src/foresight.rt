@@ -6,10 +6,13 @@ ghost use Rattle.othello_rules.specs.Answer.{IsScore};
 ghost use Rattle.othello_bits.specs.Pos.{moves_of};
 ghost use Rattle.endgame_search.specs.Children.{IsChildOf};
 
-use crate::evaluation::{DISC, evaluate};
+use crate::evaluation::evaluate;
 use crate::move_order::{Child, add_children, next_child, sort_children};
+use crate::tuning::{
+    DISC, FEWEST_GUESSED, FEWEST_PLIES_TOGETHER, GUESS_LESS, LEFT_BY_GUESS, MOST_PLIES_OF_GUESS,
+};
 use arrayvec::ArrayVec;
-use bound_table::{Bounds, Foreseen};
+use bound_table::{Advice, Foreseen};
 use othello_bits::Pos;
 use othello_rules::{GREATEST_SCORE, Scoring};
 
@@ -22,7 +25,7 @@ pub(crate) const GREATEST_WORTH: i32 = DISC * GREATEST_SCORE as i32;
 // What a position is worth after some plies, if that is between `low` and `high`; otherwise a bound
 // of it. A pass is no ply.
 #[cycle(foresee)]
-pub(crate) fn foresee<T: Bounds>(
+pub(crate) fn foresee<T: Advice>(
     table: &T,
     position: Pos,
     moves: u64,
@@ -59,7 +62,7 @@ fn final_worth(position: Pos) -> i32 {
 // What a position is worth after some plies where the mover has a move.
 #[cycle(foresee)]
 #[inline(always)]
-fn foresee_moves<T: Bounds>(
+fn foresee_moves<T: Advice>(
     table: &T,
     position: Pos,
     moves: u64,
@@ -79,7 +82,7 @@ fn foresee_moves<T: Bounds>(
 // The same for two plies or more.
 #[cycle(foresee)]
 #[inline(never)]
-fn foresee_by_list<T: Bounds>(
+fn foresee_by_list<T: Advice>(
     table: &T,
     position: Pos,
     moves: u64,
@@ -99,7 +102,7 @@ fn foresee_by_list<T: Bounds>(
 // The same by the listed children.
 #[cycle(foresee)]
 #[inline(always)]
-fn foresee_children<T: Bounds>(
+fn foresee_children<T: Advice>(
     table: &T,
     position: Pos,
     children: &[Child],
@@ -132,7 +135,7 @@ fn foresee_children<T: Bounds>(
 
 // The same for one ply, which needs no list: the moves are tried in the order of their squares.
 #[inline(never)]
-fn foresee_one_ply<T: Bounds>(table: &T, position: Pos, moves: u64, high: i32) -> i32
+fn foresee_one_ply<T: Advice>(table: &T, position: Pos, moves: u64, high: i32) -> i32
     requires { moves ≡ moves_of position }
 {
     let mut best = BELOW_ALL_WORTHS;
@@ -152,7 +155,7 @@ fn foresee_one_ply<T: Bounds>(table: &T, position: Pos, moves: u64, high: i32) -
 
 // The same for no ply.
 #[inline(always)]
-fn foresee_no_ply<T: Bounds>(table: &T, position: Pos, moves: u64) -> i32 {
+fn foresee_no_ply<T: Advice>(table: &T, position: Pos, moves: u64) -> i32 {
     if moves != 0 {
         return evaluate(table, position, moves);
     }
@@ -164,18 +167,6 @@ fn foresee_no_ply<T: Bounds>(table: &T, position: Pos, moves: u64) -> i32 {
     evaluate(table, passed, replies).wrapping_neg()
 }
 
-// The fewest empty squares of a position whose value is guessed before it is searched.
-const FEWEST_GUESSED: u8 = 14;
-
-// How far a guess looks ahead at most, and how many empty squares it leaves at least.
-const MOST_PLIES_OF_GUESS: u8 = 6;
-
-const LEFT_BY_GUESS: u8 = 10;
-
-// By how many discs a guess is nearer to 0 than the value that is foreseen, since windows beyond
-// the value take longest.
-const GUESS_LESS: u8 = 8;
-
 // The guess by a worth, which is not negative here.
 fn guess_by(worth: u32) -> i8
     ensures least { pos 0 ≤ℤ result }
@@ -185,9 +176,6 @@ fn guess_by(worth: u32) -> i8
     (discs.saturating_sub(GUESS_LESS) / 2 * 2) as i8
 }
 
-// The fewest plies that threads foresee together. What takes fewer is not worth a note.
-const FEWEST_PLIES_TOGETHER: u8 = 2;
-
 // The number under which threads note what a move is worth for a guess; the plies from it on are
 // added. `judged` has lower ones.
 const GUESS: u16 = 1000;
@@ -195,7 +183,7 @@ const GUESS: u16 = 1000;
 // The same as `foresee`, by the work of all threads that guess the value of one position. They look
 // at the first move together, each at others that no other one has begun, and then at what is left.
 #[cycle(foresee_together)]
-fn foresee_together<T: Bounds>(
+fn foresee_together<T: Advice>(
     table: &T,
     position: Pos,
     moves: u64,
@@ -217,7 +205,7 @@ fn foresee_together<T: Bounds>(
 
 // The same by the listed children, but at least `low`.
 #[cycle(foresee_together)]
-fn foresee_shared_children<T: Bounds>(
+fn foresee_shared_children<T: Advice>(
     table: &T,
     position: Pos,
     children: &[Child],
@@ -239,7 +227,7 @@ fn foresee_shared_children<T: Bounds>(
 // The greatest worth of the moves to the listed children, or `low` if that is greater. Where
 // `is_left` is false, those that another thread has begun are left out.
 #[cycle(foresee_together)]
-fn best_noted<T: Bounds>(
+fn best_noted<T: Advice>(
     table: &T,
     position: Pos,
     children: &[Child],
@@ -265,7 +253,7 @@ fn best_noted<T: Bounds>(
 // false, and another thread has begun to look, a worth below all others. What is noted may be a bound
 // under another window, so a guess may depend on those before it.
 #[cycle(foresee_together)]
-fn noted_worth<T: Bounds>(
+fn noted_worth<T: Advice>(
     table: &T,
     child: Child,
     plies: u8,
@@ -286,7 +274,7 @@ fn noted_worth<T: Bounds>(
 // What a move is worth, which is noted for other threads: from -`GREATEST_WORTH` to
 // `GREATEST_WORTH`.
 #[cycle(foresee_together)]
-fn foresee_move<T: Bounds>(table: &T, child: Child, plies: u8, low: i32, high: i32) -> i32
+fn foresee_move<T: Advice>(table: &T, child: Child, plies: u8, low: i32, high: i32) -> i32
     requires replies { child.replies ≡ moves_of child.position }
     requires some { 0 < plies }
 {
@@ -308,7 +296,7 @@ fn foresee_move<T: Bounds>(table: &T, child: Child, plies: u8, low: i32, high: i
 }
 
 // A guess of a position's value.
-pub(crate) fn first_guess<T: Bounds>(table: &T, position: Pos) -> i8
+pub(crate) fn first_guess<T: Advice>(table: &T, position: Pos) -> i8
     ensures { IsScore result }
 {
     let empties = position.empties();

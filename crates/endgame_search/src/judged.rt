@@ -6,31 +6,11 @@ ghost use Rattle.std.specs.Prelude.{◌≡◌, ◌<◌, ◌≤ℤ◌, pos, negsu
 ghost use Rattle.othello_bits.specs.Pos.{moves_of};
 ghost use Rattle.endgame_search.specs.Children.{AreChildrenOf, IsChildOf};
 
-use crate::evaluation::DISC;
 use crate::foresight::{GREATEST_WORTH, foresee};
 use crate::move_order::Child;
-use bound_table::{Bounds, Foreseen};
+use crate::tuning::{DISC, ENOUGH, FEWEST_JUDGED, MOST_WORTH, plies_ahead};
+use bound_table::{Advice, Foreseen};
 use othello_bits::Pos;
-
-// The fewest empty squares of a position whose children are sorted by what they are worth, and shared
-// out among threads. With fewer, to foresee that takes more time than it saves.
-pub(crate) const FEWEST_JUDGED: u8 = 12;
-
-// How many plies are foreseen after a move, by the empty squares before it.
-fn plies_ahead(empties: u8) -> u8 {
-    match empties {
-        0..=15 => 0,
-        16..=17 => 1,
-        18..=19 => 2,
-        _ => 3,
-    }
-}
-
-// From this many discs above the bound on, only the opponent's mobility counts.
-const ENOUGH: i32 = 32;
-
-// From this worth for the opponent on, in eighths of a disc, all children count alike.
-const MOST_WORTH: i32 = 2000;
 
 // How children are judged: how many plies are foreseen; up to which worth for the opponent all
 // children count alike; and the number under which threads note what they find.
@@ -57,7 +37,7 @@ impl Look {
 
     // What the child is worth for the opponent after some plies, above what makes no difference.
     #[inline(always)]
-    fn foresee<T: Bounds>(self, table: &T, child: Child) -> u16
+    fn foresee<T: Advice>(self, table: &T, child: Child) -> u16
         requires replies { child.replies ≡ moves_of child.position }
         requires least { negsuc 1999 ≤ℤ self.enough }
         requires most { self.enough ≤ℤ pos 2000 }
@@ -76,7 +56,7 @@ impl Look {
 
     // The same, as a thread has noted it, otherwise as it is foreseen.
     #[inline(always)]
-    fn find<T: Bounds>(self, table: &T, child: Child) -> u16
+    fn find<T: Advice>(self, table: &T, child: Child) -> u16
         requires replies { child.replies ≡ moves_of child.position }
         requires least { negsuc 1999 ≤ℤ self.enough }
         requires most { self.enough ≤ℤ pos 2000 }
@@ -89,7 +69,7 @@ impl Look {
     }
 
     // Notes what each child is worth, but for those that another thread notes.
-    fn note<T: Bounds>(self, table: &T, position: Pos, children: &[Child])
+    fn note<T: Advice>(self, table: &T, position: Pos, children: &[Child])
         requires children { All (IsChildOf position) children.now }
         requires least { negsuc 1999 ≤ℤ self.enough }
         requires most { self.enough ≤ℤ pos 2000 }
@@ -106,7 +86,7 @@ impl Look {
 
 // Gives each child of a position its place in the order of a search for moves that are worth more
 // than the bound, if many squares are empty; with fewer it stays that by mobility. Nothing is sorted.
-pub(crate) fn judge_children<T: Bounds>(table: &T, position: Pos, bound: i8, children: &mut [Child])
+pub(crate) fn judge_children<T: Advice>(table: &T, position: Pos, bound: i8, children: &mut [Child])
     requires { AreChildrenOf position children.old }
     ensures { AreChildrenOf position children.new }
 {

@@ -1,7 +1,5 @@
 //! Null windows (`alpha_beta` says what they are) of positions with at most 7 empty squares.
-//! Nothing is stored, and a child is not probed until its own search begins. The limit is 7 since
-//! the compiler makes a list of 7 children in place, and one of 8 by a function call. With at most
-//! 4 empty squares a list takes more time than its order saves.
+//! Nothing is stored, and a child is not probed until its own search begins.
 
 ghost use Rattle.std.specs.Prelude.{◌≡◌, ◌≢◌, ◌≤◌, ◌≤ℤ◌, negsuc, length};
 ghost use Rattle.othello_bits.specs.Pos.{moves_of, empties_of, value_of, HasNoMove};
@@ -10,17 +8,12 @@ ghost use Rattle.endgame_search.specs.Children.{UnlistedAreAtMost};
 
 use crate::last_four::search_in_order;
 use crate::move_order::{Child, add_children, add_until_no_replies, indices_of, next_of};
+use crate::stable_cutoff::stable_cutoff;
 use crate::table_cutoff::{BELOW_ALL_SCORES, probe_cutoff};
+use crate::tuning::{MOST_EMPTIES_IN_ORDER, MOST_SHALLOW_EMPTIES};
 use arrayvec::ArrayVec;
 use bound_table::Bounds;
 use othello_bits::{Pos, without};
-
-// The greatest number of empty squares of a position that this module searches.
-pub(crate) const MOST_SHALLOW_EMPTIES: u8 = 7;
-
-// The greatest number of empty squares of a position whose moves are tried in the order of their
-// squares.
-const MOST_EMPTIES_IN_ORDER: u8 = 4;
 
 // The room of a list of children: one for each empty square.
 const SHALLOW_ROOM: usize = MOST_SHALLOW_EMPTIES as usize;
@@ -105,6 +98,9 @@ fn search_shallow_by_list<T: Bounds>(table: &T, position: Pos, moves: u64, bound
 {
     let mut children = ArrayVec::<Child, SHALLOW_ROOM>::new();
     if let Some(score) = probe_cutoff(table, position, bound) {
+        return score;
+    }
+    if let Some(score) = stable_cutoff(position, bound) {
         return score;
     }
     let Some(split) = add_until_no_replies(position, moves, &mut children) else {

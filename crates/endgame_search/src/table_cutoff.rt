@@ -10,6 +10,7 @@ ghost use Rattle.endgame_search.specs.Windows.{IsBound, IsWindow, IsWithin};
 ghost use Rattle.endgame_search.specs.Windows.{IsFailSoft, IsNullWindowScore};
 
 use crate::move_order::Child;
+use crate::tuning::{FEWEST_PROBED_AHEAD, FEWEST_STORED};
 use bound_table::{Bounds, Range};
 use othello_bits::Pos;
 use othello_rules::{GREATEST_SCORE, Scoring};
@@ -84,10 +85,6 @@ fn proved_range(low: i8, high: i8, score: i8) -> Range
     Range::new(score, score).unwrap()
 }
 
-// The fewest empty squares of a position that `store_if_deep` stores. To search a position with
-// fewer again takes less time than to find it in the table.
-const FEWEST_STORED: u8 = 10;
-
 // Stores the range that a search of the window proves by its score, unless too few squares are
 // empty.
 #[inline(always)]
@@ -108,10 +105,6 @@ pub(crate) fn store_always<T: Bounds>(table: &T, position: Pos, low: i8, high: i
 {
     table.store(&position, proved_range(low, high, score));
 }
-
-// The fewest empty squares of a position whose listed children are probed before one of them is
-// searched. With fewer, to find them in a large table takes more time than the cutoffs save.
-const FEWEST_PROBED_AHEAD: u8 = 13;
 
 // Probes the children for an enhanced transposition cutoff (Plaat, Schaeffer, Pijls and de Bruin,
 // 1996): a move that is worth more than the bound, by the table's range of its child. Returns a

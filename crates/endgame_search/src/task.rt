@@ -5,6 +5,7 @@ ghost use Rattle.othello_bits.specs.Pos.{empties_of};
 ghost use Rattle.endgame_search.specs.Limits.{fewest_shared_empties, most_empties};
 ghost use Rattle.endgame_search.specs.Task.{TaskView};
 
+use crate::tuning::FEWEST_SHARED_EMPTIES;
 use othello_bits::Pos;
 use othello_rules::Scoring;
 use std::marker::Model;
@@ -41,7 +42,7 @@ impl Task {
 
     /// The fewest empty squares of a task that threads solve together. One thread solves a task with
     /// fewer in less time than others take to join it.
-    pub const FEWEST_SHARED_EMPTIES: u8 = 16;
+    pub const FEWEST_SHARED_EMPTIES: u8 = FEWEST_SHARED_EMPTIES;
 
     /// The task of a position under a scoring. `TooMany` if the position has more than `limit`
     /// empty squares, or more than 60.

@@ -3,7 +3,7 @@ use Rattle.std.specs.Prelude.{◌≡◌, ◌⊎◌, ℕ, ◌≤◌, Bool, true, 
 use Rattle.std.specs.Prelude.{Option, None}
 use Rattle.std.specs.Io.KnownBytes.{Appends}
 use Rattle.scored_lines.specs.Lines.{lists_right, lists_text}
-use Rattle.list_printer.specs.Output.{AppendsFront}
+use Rattle.written_bytes.specs.WrittenBytes.{AppendsFront}
 use Rattle.list_printer.specs.declared.lists.ListFault.{ListFault}
 use Rattle.list_printer.specs.declared.lists.ListFault.TheVariants as list
 use Rattle.program_settings.specs.InputFault.{first_large}
@@ -12,9 +12,9 @@ use Rattle.program_settings.specs.Settings.{criteria_of}
 use Rattle.program_parts.specs.CommandLine.{AsksForText}
 use Rattle.program_parts.specs.Endings.{EndsProgram}
 use Rattle.program_parts.specs.Inputs.{AreTextsOf}
-use Rattle.program_parts.specs.ProgramError.{error_text}
+use Rattle.program_parts.specs.ProgramError.{IsInputError, error_text}
 use Rattle.program_parts.specs.declared.program_error.ProgramError.{ProgramError}
-use Rattle.program_parts.specs.declared.program_error.ProgramError.TheVariants.{BadWords, CannotWriteOutput, Memory}
+use Rattle.program_parts.specs.declared.program_error.ProgramError.TheVariants.{BadWords, CannotRead, CannotReadInput, CannotWrite, CannotWriteOutput, Memory}
 use Rattle.ffoscores_program.specs.Options.{AsksLists, ListRequest, ffoscores}
 
 -- These are the texts of the files of these names, or of standard input, and they are within the
@@ -69,6 +69,19 @@ pub record EndsFfoscores (words : List (List ℕ)) (given old new : Option (List
   pub stopped : status ≡ 3
       → AsksForText ffoscores words ⊎ ((new ≡ old) ⊎ AreListsBegun words given old new)
 
+-- a list that the error names is one of these, and standard input is read only without names
+abbrev pub NamesListOf : List (List ℕ) → ProgramError → Type 0
+NamesListOf names (CannotRead name kind) = IsInputError names (CannotRead name kind)
+NamesListOf names CannotReadInput = IsInputError names CannotReadInput
+NamesListOf names (CannotWrite name kind) = ⊥
+NamesListOf names _ = Unit {0}
+
+-- the error is neither out of memory nor that of standard output
+abbrev pub IsSilent : ProgramError → Type 0
+IsSilent Memory = ⊥
+IsSilent CannotWriteOutput = ⊥
+IsSilent _ = Unit {0}
+
 -- the error of the program for a fault of printing
 abbrev pub IsListError : ListFault → ProgramError → Type 0
 IsListError list.Memory error = error ≡ Memory
@@ -86,8 +99,27 @@ pub record ShowsError (old new : Option (List ℕ)) (status : ℕ) : Type 0 wher
   pub ended : list_status_of error ≡ status
   pub shown : Appends old new (error_text (codes "ffoscores") error)
 
--- What standard error got from a call, by its status: nothing with 0 or 1, and the lines of an error
--- with 3.
-pub record ShowsEnding (old new : Option (List ℕ)) (status : ℕ) : Type 0 where
+-- the error is out of memory or that of standard output, or the words ask for a request, and a list
+-- that the error names is one of it
+abbrev pub NamesListOfWords : List (List ℕ) → ProgramError → Type 0
+NamesListOfWords words Memory = Unit {0}
+NamesListOfWords words CannotWriteOutput = Unit {0}
+NamesListOfWords words error = (r : ListRequest) × (AsksLists words r × NamesListOf r.files error)
+
+-- An error with this status ended a call for these words. Standard error, which held `old` before and
+-- holds `new` now, has the lines of the error, and nothing else is new. Standard output held `given`
+-- before and holds `made` now, the same unless the error is out of memory or that of standard output.
+pub record EndsEarly (words : List (List ℕ)) (old new given made : Option (List ℕ)) (status : ℕ)
+    : Type 0 where
+  pub error : ProgramError
+  pub ended : list_status_of error ≡ status
+  pub named : NamesListOfWords words error
+  pub shown : Appends old new (error_text (codes "ffoscores") error)
+  pub unwritten : IsSilent error → made ≡ given
+
+-- What standard error got from a call for these words, by its status: nothing with 0 or 1, and the
+-- lines of an error with 3.
+pub record ShowsEnding (words : List (List ℕ)) (old new given made : Option (List ℕ)) (status : ℕ)
+    : Type 0 where
   pub quiet : (status ≡ 0) ⊎ (status ≡ 1) → new ≡ old
-  pub failed : status ≡ 3 → ShowsError old new status
+  pub failed : status ≡ 3 → EndsEarly words old new given made status

@@ -68,8 +68,9 @@ pub fn list_program_of<T: Files + Threads + Wait, R: Read, W: Write, E: ErrorStr
 ) -> ExitStatus
     ensures read { IfOk words (λ all. EndsFfoscores (names_of all.items)
         (R.remaining input.old) (W.contents output.old) (W.contents output.new) result.status) }
-    ensures shown { IfOk words
-        (λ all. ShowsEnding (E.contents errors.old) (E.contents errors.new) result.status) }
+    ensures shown { IfOk words (λ all. ShowsEnding (names_of all.items)
+        (E.contents errors.old) (E.contents errors.new)
+        (W.contents output.old) (W.contents output.new) result.status) }
     ensures unread { IsErr words
         → EndsUnread 3 (W.contents output.old) (W.contents output.new) result.status }
     ensures unread_shown { IsErr words

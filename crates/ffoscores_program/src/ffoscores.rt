@@ -1,13 +1,16 @@
 //! The program `ffoscores`.
 
-ghost use Rattle.std.specs.Prelude.{◌≡◌, map, IfErr, IfOk, OnErr, OnOk};
+ghost use Rattle.std.specs.Prelude.{◌≡◌, ◌⊎◌, map, IfErr, IfOk, OnErr, OnOk};
 ghost use Rattle.std.specs.Io.KnownBytes.{Appends};
 ghost use Rattle.obf_text.specs.LineText.{texts_of};
 ghost use Rattle.scored_lines.specs.Lines.{lists_right, lists_text};
-ghost use Rattle.list_printer.specs.Output.{AppendsFront};
+ghost use Rattle.written_bytes.specs.WrittenBytes.{AppendsFront};
 ghost use Rattle.program_settings.specs.Settings.{criteria_of};
+ghost use Rattle.program_parts.specs.Inputs.{names_of};
+ghost use Rattle.program_parts.specs.declared.program_error.ProgramError.TheVariants.{Memory, CannotWriteOutput};
 ghost use Rattle.ffoscores_program.specs.Options.{list_request_of};
-ghost use Rattle.ffoscores_program.specs.Lists.{EndsFfoscores, IsListError, PrintsLists, ShowsEnding, StopsLists, list_status_of};
+ghost use Rattle.ffoscores_program.specs.Lists.{EndsFfoscores, IsListError, IsSilent, NamesListOf};
+ghost use Rattle.ffoscores_program.specs.Lists.{PrintsLists, ShowsEnding, StopsLists, list_status_of};
 
 use crate::exit_status::print_error;
 use crate::ffoscores_options::{ListOptions, read_list_options};
@@ -26,6 +29,7 @@ use std::thread::Threads;
 fn list_error(fault: ListFault) -> ProgramError<'static>
     ensures reason { IsListError fault result }
     ensures status { list_status_of result ≡ 3 }
+    ensures kind { (result ≡ Memory) ⊎ (result ≡ CannotWriteOutput) }
 {
     match fault {
         ListFault::Memory => ProgramError::Memory,
@@ -49,6 +53,7 @@ fn print_lists<T: Threads + Wait, W: Write>(
         (lists_text settings.now.scoring (criteria_of settings.now) (texts_of texts.now))) }
     ensures right { IfOk result (λ right. right
         ≡ lists_right settings.now.scoring (criteria_of settings.now) (texts_of texts.now)) }
+    ensures kind { IfErr result (λ error. (error ≡ Memory) ⊎ (error ≡ CannotWriteOutput)) }
     ensures status { IfErr result (λ error. list_status_of error ≡ 3) }
 {
     let entries = settings.table() as usize;
@@ -79,6 +84,9 @@ fn carry_out<'a, T: Files + Threads + Wait, R: Read, W: Write>(
         (StopsLists (list_request_of asked.now)
         (R.remaining input.old) (W.contents output.old) (W.contents output.new)) }
     ensures status { IfErr result (λ error. list_status_of error ≡ 3) }
+    ensures named { IfErr result (NamesListOf (names_of asked.now.files.items)) }
+    ensures silent { IfErr result
+        (λ error. IsSilent error → W.contents output.new ≡ W.contents output.old) }
 {
     let texts = read_files(rt, alloc, &asked.files, input)?;
     check_files(&texts)?;
@@ -106,7 +114,9 @@ pub fn list_program<T: Files + Threads + Wait, R: Read, W: Write, E: ErrorStream
 ) -> u8
     ensures ends { EndsFfoscores (map (λ word. word.now) words.now)
         (R.remaining input.old) (W.contents output.old) (W.contents output.new) result }
-    ensures shown { ShowsEnding (E.contents errors.old) (E.contents errors.new) result }
+    ensures shown { ShowsEnding (map (λ word. word.now) words.now)
+        (E.contents errors.old) (E.contents errors.new)
+        (W.contents output.old) (W.contents output.new) result }
 {
     match read_list_options(alloc, words) {
         Ok(asked) => match carry_out(rt, alloc, &asked, input, output) {

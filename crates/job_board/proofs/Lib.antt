@@ -6,5 +6,6 @@ pub mod HistoryFacts
 pub mod HistoryCalls
 pub mod HistoryAppends
 pub mod ServiceFacts
+pub mod SharedFacts
 pub mod StateSteps
 pub mod TraceFacts

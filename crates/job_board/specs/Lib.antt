@@ -6,6 +6,7 @@ pub mod Limits
 pub mod Queues
 pub mod Replies
 pub mod Services
+pub mod SharedJobs
 pub mod Steps
 pub mod Traces
 pub mod Turns

@@ -33,7 +33,7 @@ abbrev pub ErrandGives : ClientView → ClientView → Errand Turn → Type 0
 ErrandGives old new (Own turn) = TurnGives old new turn
 ErrandGives old new (Help shared) = new ≡ old
 
--- a job to help with is one that was taken after the shared job of place n
+-- a job to help with has a higher place in the list of shared jobs than n
 abbrev pub IsLater : {T : Type 0} → ℕ → Errand T → Type 0
 IsLater n (Own own) = ⊤
 IsLater n (Help shared) = n < shared.place

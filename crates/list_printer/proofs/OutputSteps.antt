@@ -8,12 +8,13 @@ use Rattle.obf_text.specs.LineText.{lines_of}
 use Rattle.program_settings.specs.declared.criteria.Criteria.{Criteria}
 use Rattle.scored_lines.specs.Lines.{are_right, lists_right, lists_text, lines_text}
 use Rattle.list_printer.specs.Chunks.{all_lines}
-use Rattle.list_printer.specs.Output.{AppendsFront, Output, PrintsPart, both, chunks_output}
+use Rattle.written_bytes.specs.WrittenBytes.{AppendsFront}
+use Rattle.list_printer.specs.Output.{Output, PrintsPart, both, chunks_output}
 use Rattle.list_printer.specs.Output.{lines_output, lists_output, queue_output}
 use Rattle.scored_lines.proofs.LineSteps.{and_assoc, and_true, lines_both, lines_none}
 use Rattle.scored_lines.proofs.LineSteps.{right_both, right_none}
-use Rattle.list_printer.proofs.WrittenParts.{front_both, front_part, prints_both, prints_end}
-use Rattle.list_printer.proofs.WrittenParts.{prints_part, prints_start}
+use Rattle.written_bytes.proofs.WrittenParts.{front_both, front_part, prints_both, prints_end}
+use Rattle.written_bytes.proofs.WrittenParts.{prints_part, prints_start}
 
 abbrev nothing : Output
 nothing = record { text = []; right = true }

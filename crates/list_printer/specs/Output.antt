@@ -1,12 +1,12 @@
 -- The output for lines, which the threads of chunks give, and how much of it is printed.
 use Rattle.std.specs.Prelude.{◌≡◌, ◌&&◌, ◌++◌, ◌∷◌, [], ℕ, List, Bool, true, Option, Result, IfOk}
-use Rattle.std.specs.Io.KnownBytes.{Appends}
 use Rattle.std.specs.declared.alloc.AllocError.{AllocError}
 use Rattle.othello_rules.specs.declared.scoring.Scoring.{Scoring}
 use Rattle.obf_text.specs.LineText.{lines_of}
 use Rattle.scored_lines.specs.Lines.{are_right, lines_text, lists_right, lists_text}
 use Rattle.program_settings.specs.declared.criteria.Criteria.{Criteria}
 use Rattle.scored_lines.specs.declared.lines.LinesText.{LinesText}
+use Rattle.written_bytes.specs.WrittenBytes.{WritesBefore}
 use Rattle.list_printer.specs.declared.chunk_threads.ChunkPromise.{ChunkPromise}
 
 -- the text that is printed for some lines, and whether these lines are right
@@ -46,19 +46,6 @@ HasOutput output r = IfOk r (λ found. (found.bytes.items ≡ output.text) × (f
 -- the output that a chunk's thread promises
 abbrev pub promised_output : ChunkPromise → Output
 promised_output promise = text_output promise.scoring promise.criteria promise.text.now
-
--- a writer's known bytes grow by a front of `all`, of which `rest` is left
-pub record WritesBefore (old now : Option (List ℕ)) (rest all : List ℕ) : Type 0 where
-  pub done : List ℕ
-  pub whole : all ≡ done ++ rest
-  pub written : Appends old now done
-
--- a writer's known bytes grow by a front of `bytes`
-pub record AppendsFront (old new : Option (List ℕ)) (bytes : List ℕ) : Type 0 where
-  pub front : List ℕ
-  pub rest : List ℕ
-  pub whole : bytes ≡ front ++ rest
-  pub written : Appends old new front
 
 -- Of the output `before`, a front is printed, and `after` is left to print.
 pub record PrintsPart (old new : Option (List ℕ)) (before after : Output) : Type 0 where

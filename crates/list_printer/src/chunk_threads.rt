@@ -6,7 +6,7 @@ ghost use Rattle.endgame_search.specs.Limits.{most_empties};
 ghost use Rattle.list_printer.specs.Output.{HasOutput, promised_output, text_output};
 
 use crate::chunks::Chunk;
-use bound_table::{BoundTable, Bounds};
+use bound_table::{Advice, BoundTable, Bounds};
 use othello_rules::Scoring;
 use program_settings::Criteria;
 use scored_lines::{LinesText, lines_text};

@@ -7,7 +7,8 @@ ghost use Rattle.std.specs.IoError.{error_kind};
 ghost use Rattle.endgame_search.specs.Limits.{most_empties};
 ghost use Rattle.obf_text.specs.LineText.{texts_of};
 ghost use Rattle.scored_lines.specs.Lines.{lists_right, lists_text};
-ghost use Rattle.list_printer.specs.Output.{AppendsFront, PrintsPart, WritesBefore, chunks_output};
+ghost use Rattle.written_bytes.specs.WrittenBytes.{AppendsFront};
+ghost use Rattle.list_printer.specs.Output.{PrintsPart, chunks_output};
 ghost use Rattle.list_printer.specs.Output.{lists_output, queue_output};
 ghost use Rattle.list_printer.specs.declared.lists.ListFault.TheVariants.{CannotWrite, Memory};
 
@@ -23,6 +24,7 @@ use std::sync::atomic::{AtomicU64, Ordering};
 use std::sync::{Arc, Wait};
 use std::thread::Threads;
 use thiserror::Error;
+use written_bytes::send;
 
 /// Why lists were not printed to their end.
 #[derive(Clone, Copy, PartialEq, Eq, Debug, Error)]
@@ -57,44 +59,6 @@ impl From<io::Error> for ListFault {
     fn from(error: io::Error) -> ListFault {
         ListFault::CannotWrite(error.kind())
     }
-}
-
-// Writes bytes by one call of the writer. Returns the bytes that the writer did not take: all of
-// them if it was interrupted.
-fn send_some<'a, W: Write>(writer: &mut W, bytes: &'a [u8]) -> io::Result<&'a [u8]>
-    ensures taken { IfOk result (λ rest.
-        WritesBefore (W.contents writer.old) (W.contents writer.new) rest.now bytes.now) }
-    ensures front { OnErr result
-        (AppendsFront (W.contents writer.old) (W.contents writer.new) bytes.now) }
-{
-    match writer.write(bytes) {
-        Ok(0) => Err(io::Error::from(ErrorKind::WriteZero)),
-        Ok(count) => Ok(&bytes[count..]),
-        Err(error) => {
-            if error.kind() == ErrorKind::Interrupted {
-                return Ok(bytes);
-            }
-            Err(error)
-        }
-    }
-}
-
-// Writes all bytes and flushes the writer. If it fails, a prefix of the bytes is written, which
-// `write_all` does not promise.
-fn send<W: Write>(writer: &mut W, bytes: &[u8]) -> io::Result<()>
-    ensures written { OnOk result
-        (Appends (W.contents writer.old) (W.contents writer.new) bytes.now) }
-    ensures front { OnErr result
-        (AppendsFront (W.contents writer.old) (W.contents writer.new) bytes.now) }
-{
-    let mut rest = bytes;
-    for _ in 0..u64::MAX {
-        if rest.is_empty() {
-            return writer.flush();
-        }
-        rest = send_some(writer, rest)?;
-    }
-    Err(io::Error::from(ErrorKind::WriteZero))
 }
 
 // The started chunks that are not yet printed, in their order.

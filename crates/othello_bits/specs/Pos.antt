@@ -5,7 +5,7 @@ use Rattle.std.specs.Ordering.{int_eq}
 use Rattle.othello_rules.specs.declared.answer.Best.{Best}
 use Rattle.othello_rules.specs.declared.answer.Best.TheVariants.{Moves, Pass, Over}
 use Rattle.othello_rules.specs.declared.discs.Side.{Side}
-use Rattle.othello_rules.specs.declared.discs.Side.TheVariants.{Black}
+use Rattle.othello_rules.specs.declared.discs.Side.TheVariants.{Black, White}
 use Rattle.othello_rules.specs.declared.discs.Cell.{Cell}
 use Rattle.othello_rules.specs.declared.discs.Cell.TheVariants.{Empty}
 use Rattle.othello_rules.specs.Board.{squares}
@@ -16,6 +16,7 @@ use Rattle.othello_rules.specs.Value as worth
 use Rattle.othello_rules.specs.Scores.{final}
 use Rattle.othello_rules.specs.declared.scoring.Scoring.{Scoring}
 use Rattle.othello_rules.specs.Masks.{mask_of, in_mask}
+use Rattle.othello_rules.specs.Stable.{IsStable}
 
 -- the mover's discs and the other side's, as masks
 pub record PosView : Type 0 where
@@ -83,6 +84,10 @@ HasNoMove p = moves_of p ≡ 0
 -- neither side has a move
 abbrev pub NeitherHasMove : PosView → Type 0
 NeitherHasMove p = HasNoMove p × HasNoMove (pass_of p)
+
+-- the mask holds none but stable discs of the opponent
+abbrev pub AreStable : PosView → ℕ → Type 0
+AreStable p mask = (q : ℕ) → in_mask mask q ≡ true → IsStable (position_of Black p) White q
 
 -- the number of empty squares
 unfoldable pub empties_of : PosView → ℕ

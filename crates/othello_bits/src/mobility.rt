@@ -1,7 +1,8 @@
 //! Runs of discs in one direction, from all squares at once, by shifts of masks.
 
-ghost use Rattle.std.specs.Prelude.{◌≡◌, ℕ, ◌<◌, ◌&&◌, bit_and};
+ghost use Rattle.std.specs.Prelude.{◌≡◌, ℕ, ◌<◌, ◌&&◌, ◌||◌, false, true, bit_and};
 ghost use Rattle.othello_rules.specs.Rules.{turned_on, is_nonempty};
+ghost use Rattle.othello_rules.specs.Stable.{IsSafe};
 ghost use Rattle.othello_rules.specs.Masks.{in_mask};
 ghost use Rattle.othello_bits.specs.Shifts.{back, can, chain, inside, line, opposite};
 
@@ -89,5 +90,31 @@ impl Direction {
     {
         let back = self.opposite();
         back.shifted(back.fill(own, back.inner(opp)))
+    }
+
+    // The squares on which no disc can be turned along this line, in this direction and the opposite
+    // one, whatever is beside it: the line ends there, or has no other free square.
+    #[inline(always)]
+    pub fn safe_alone(self, free: u64) -> u64
+        ensures { (i : ℕ) → i < 64 → in_mask result i ≡ true
+            → IsSafe (in_mask free) (λ q. false) (line self i) (line (opposite self) i) }
+    {
+        let back = self.opposite();
+        let beside = self.shifted(free) | back.shifted(free);
+        let taken = !free;
+        let beyond = self.reached(free, taken) | back.reached(free, taken);
+        let on_both_sides = self.shifted(!0) & back.shifted(!0);
+        !self.inner(on_both_sides & (beside | beyond))
+    }
+
+    // The squares of `alone`, and those beside a square of `found` on this line. A shift over the edge
+    // adds only squares where the line ends, which are safe alone.
+    #[inline(always)]
+    pub fn held(self, alone: u64, found: u64) -> u64
+        ensures { (i : ℕ) → in_mask result i ≡ (in_mask alone i
+            || ((can self i && in_mask found (back self i))
+            || (can (opposite self) i && in_mask found (back (opposite self) i)))) }
+    {
+        alone | (self.shifted(found) | self.opposite().shifted(found))
     }
 }

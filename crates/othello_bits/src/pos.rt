@@ -1,7 +1,9 @@
 //! A position as two masks.
 
-ghost use Rattle.std.specs.Prelude.{◌≡◌, ◌<◌, ◌≤◌, ◌↔◌, ◌||◌, ℕ, bit_and, true, count_ones};
+ghost use Rattle.std.specs.Prelude.{◌≡◌, ◌<◌, ◌≤◌, ◌↔◌, ◌||◌, ◌+◌, ◌*◌, ℕ, bit_and, true, count_ones};
+ghost use Rattle.std.specs.Prelude.{◌≤ℤ◌, pos};
 ghost use Rattle.std.specs.Prelude.{IsSome, IfSome, IsTrue};
+ghost use Rattle.othello_rules.specs.declared.scoring.Scoring.{Scoring};
 ghost use Rattle.othello_rules.specs.declared.discs.Side.{Side};
 ghost use Rattle.othello_rules.specs.declared.discs.Side.TheVariants.{Black};
 ghost use Rattle.othello_rules.specs.declared.discs.Cell.TheVariants as cell;
@@ -11,15 +13,15 @@ ghost use Rattle.othello_rules.specs.Answer.{IsScore};
 ghost use Rattle.othello_rules.specs.Masks.{in_mask};
 ghost use Rattle.othello_bits.specs.Pos.{IsMove, NeitherHasMove, mem, discs, position_of, discs_of};
 ghost use Rattle.othello_bits.specs.Pos.{moves_of, flips_of, play_of, pass_of};
-ghost use Rattle.othello_bits.specs.Pos.{empties_of, final_of};
+ghost use Rattle.othello_bits.specs.Pos.{empties_of, final_of, value_of, AreStable};
 ghost use Rattle.othello_bits.specs.Symmetries.{image, image_of};
 ghost use Rattle.othello_bits.specs.Symmetries.{first_symmetry, canonical, canonical_of};
 
 use crate::canonical::Image;
 use crate::cells::{cells_of_masks, mask_of_cell};
 use crate::last_flip::count_flips;
-use crate::moves;
 use crate::sym::Sym;
+use crate::{moves, stability};
 use othello_rules::{Grid, Scoring, Side, Square};
 use std::marker::Model;
 
@@ -213,6 +215,19 @@ impl Pos {
         ensures value { result ≡ canonical_of self }
     {
         self.canonical().0
+    }
+
+    /// Stable discs of the opponent, which no move can turn, now or later, as a mask: A1 is bit 0.
+    /// Found are those whose four lines are each full, or end there, or have a disc beside them that
+    /// was found before; others are left out. With n discs found the value under each scoring is at
+    /// most 64 - 2n, or at most 1 if that is less.
+    #[inline(always)]
+    pub fn stable_opp(self) -> u64
+        ensures stable { AreStable self result }
+        ensures at_most { (g : Scoring) (z : ℕ) → 1 ≤ z → 64 ≤ z + 2 * count_ones result
+            → value_of g self ≤ℤ pos z }
+    {
+        stability::stable_opp(self.own, self.opp)
     }
 
     /// The number of empty squares, from 0 to 64.

@@ -42,13 +42,13 @@ has_get_or P c q e h =
     let s : (d : Cell) × (slice_get P.cells q ≡ Some d) × (same_cell c d ≡ true) = some_cell c (slice_get P.cells q) h in
     rw (get_or_from_slice_get P.cells q s.0 e s.1) s.2
 
-same_disc-not_empty : (s : Side) (c : Cell) → same_cell (disc s) c ≡ true → same_cell cell.Empty c ≡ false
+pub same_disc-not_empty : (s : Side) (c : Cell) → same_cell (disc s) c ≡ true → same_cell cell.Empty c ≡ false
 same_disc-not_empty s cell.Black h = refl
 same_disc-not_empty s cell.White h = refl
 same_disc-not_empty side.Black cell.Empty h = cc
 same_disc-not_empty side.White cell.Empty h = cc
 
-disc-not_empty : (s : Side) → same_cell cell.Empty (disc s) ≡ false
+pub disc-not_empty : (s : Side) → same_cell cell.Empty (disc s) ≡ false
 disc-not_empty side.Black = refl
 disc-not_empty side.White = refl
 

@@ -20,3 +20,5 @@ pub mod Reorder
 pub mod Renaming
 pub mod ImageMoves
 pub mod ImageValue
+pub mod StableLaws
+pub mod StableValue

@@ -122,7 +122,7 @@ has-sent r P c q full h =
     let home : r.back (r.to q) ≡ q = r.there.comes_back q h in
     has-image_by r.back P c (r.to q) full (r.there.on_board q h) (rw home h) ∙ ap (has P c) home
 
-all_cells : (cells : List Cell) → length cells ≡ 64 → cells ≡ map (λ k. get_or cells k Empty) squares
+pub all_cells : (cells : List Cell) → length cells ≡ 64 → cells ≡ map (λ k. get_or cells k Empty) squares
 unfolding squares
 all_cells cells full = fill_by_all (λ k. get_or cells k Empty) cells 64 Empty full (λ k h. refl)
 

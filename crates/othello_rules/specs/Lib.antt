@@ -2,6 +2,7 @@ pub mod Board
 pub mod Neighbours
 pub mod Rules
 pub mod Scores
+pub mod Stable
 pub mod Masks
 pub mod Limits
 pub mod Answer

@@ -82,7 +82,8 @@ pub fn program_of<T: Files + Clock + Threads + Wait + Sync, R: Read, W: Write, E
     ensures read { IfOk words (λ all. EndsFfosolve (names_of all.items)
         (R.remaining input.old) (W.contents output.old) (W.contents output.new) result.status) }
     ensures shown { IfOk words (λ all. ShowsEnding (names_of all.items)
-        ((stream : E) → IsSome (E.contents stream)) (E.contents errors.old) (E.contents errors.new)
+        ((stream : E) → IsSome (E.contents stream)) (R.remaining input.old)
+        (E.contents errors.old) (E.contents errors.new)
         (W.contents output.old) (W.contents output.new) result.status) }
     ensures unread { IsErr words
         → EndsUnread 1 (W.contents output.old) (W.contents output.new) result.status }

@@ -1,6 +1,6 @@
 //! The program `ffosolve`.
 
-ghost use Rattle.std.specs.Prelude.{◌≡◌, ◌⊎◌, ◌↔◌, map, option_map, string_bytes, false, None, Some, OnOk, IfOk, IfErr, IfSome, IsErrOf, IsSome};
+ghost use Rattle.std.specs.Prelude.{◌≡◌, ◌⊎◌, ◌↔◌, map, option_map, string_bytes, false, None, Some, OnOk, IfOk, IfErr, IfSome, IsErrOf, IsSome, OnErr};
 ghost use Rattle.std.specs.List.{concat};
 ghost use Rattle.std.specs.Io.KnownBytes.{Appends};
 ghost use Rattle.program_parts.specs.Inputs.{names_of};
@@ -10,7 +10,10 @@ ghost use Rattle.suite_runs.specs.Runs.{AreFilesOf};
 ghost use Rattle.book_files.specs.SolveError.{IsSilent, solve_status_of};
 ghost use Rattle.program_parts.specs.declared.program_error.ProgramError.TheVariants.{BadInput};
 ghost use Rattle.book_files.specs.declared.solve_error.SolveError.TheVariants.{Program};
-ghost use Rattle.suite_solver.specs.Programs.{EndsFfosolve, NamesFileOf, PrintsReportsOf, PrintsReports, ShowsEnding};
+ghost use Rattle.written_bytes.specs.WrittenBytes.{AppendsFront};
+ghost use Rattle.suite_solver.specs.Programs.{EndsFfosolve, IfLimit, IsBookUnwritten, NamesFileOf};
+ghost use Rattle.suite_solver.specs.Programs.{PassesLimit, PrintsFront, PrintsReports};
+ghost use Rattle.suite_solver.specs.Programs.{PrintsReportsOf, ShowsEnding, StopsReports};
 ghost use Rattle.suite_solver.specs.Options.{request_of};
 ghost use Rattle.obf_text.specs.LineText.{texts_of};
 ghost use Rattle.program_settings.specs.InputFault.{refusal_of};
@@ -19,9 +22,7 @@ ghost use Rattle.program_settings.specs.declared.input_fault.InputFault.{InputFa
 use crate::exit_status::print_error;
 use crate::ffosolve_options::{Options, read_options};
 use crate::progress::solve_with_progress;
-use book_files::{
-    BookPlace, Found, NewFile, SolveError, find_place, read_claims, ready_book, write_book,
-};
+use book_files::{BookPlace, NewFile, SolveError, find_place, read_claims, ready_book, write_book};
 use program_parts::{ErrorStream, OptionFault, ProgramError, end_without_options, read_files};
 use program_settings::check_files;
 use solved_book::Claims;
@@ -32,32 +33,37 @@ use std::marker::{Send, Sync};
 use std::rt::{Clock, Files};
 use std::sync::Wait;
 use std::thread::Threads;
+use written_bytes::send;
 
-// Writes the reports one after the other.
+// Writes the reports one after the other, and flushes the output. If it fails, a prefix of them is
+// written.
 fn write_reports<W: Write>(output: &mut W, reports: &[Vec<u8>]) -> io::Result<()>
-    ensures { OnOk result
+    ensures written { OnOk result
         (Appends (W.contents output.old) (W.contents output.new) (concat (texts_of reports.now))) }
+    ensures front { OnErr result (AppendsFront
+        (W.contents output.old) (W.contents output.new) (concat (texts_of reports.now))) }
 {
     for report in reports {
-        output.write_all(report)?;
+        send(output, report)?;
     }
-    output.flush()
+    Ok(())
 }
 
 // Solves the positions of the files, whose texts these are, and prints the reports. The text of the
 // book to be written is made before the reports are printed, so that memory can't run out once
 // anything was printed.
+#[tactic(auto, using(crate::proofs::LimitLemmas::run_limited))]
 fn solve_and_print<'a, T: Files + Clock + Threads + Wait + Sync, W: Write, E: Write + Send>(
     rt: &T,
     alloc: Global,
     asked: &Options,
     texts: &[Vec<u8>],
     claims: Option<&Claims>,
-    place: &Option<BookPlace<'a>>,
+    place: Option<BookPlace<'a>>,
     output: &mut W,
     errors: &mut E,
 ) -> Result<Option<NewFile<'a>>, SolveError<'a>>
-    requires { IfSome place.now (λ p. IsFree p.found) }
+    requires { IfSome place (λ p. IsFree p.found) }
     ensures reported { OnOk result (PrintsReports asked.now.settings (texts_of texts.now)
         (W.contents output.old) (W.contents output.new)) }
     ensures silent { IfErr result
@@ -70,10 +76,16 @@ fn solve_and_print<'a, T: Files + Clock + Threads + Wait + Sync, W: Write, E: Wr
     ensures book { IfOk result (λ book. IfSome book (λ file. (files : SolvedFiles)
         × (AreFilesOf asked.now.settings (texts_of texts.now) files)
         × (IsBookTextOf files file.text.items))) }
-    ensures placed { IfOk result (λ book. book ≡ None ↔ place.now ≡ None) }
-    ensures name { IfOk result (λ book. IfSome book
-        (λ file. IfSome place.now (λ p. file.name ≡ p.name))) }
+    ensures placed { IfOk result (λ book. book ≡ None ↔ place.entry ≡ None) }
+    ensures place { IfOk result (λ book. IfSome book
+        (λ file. IfSome place.entry (λ p. file.place ≡ p))) }
     ensures error { IfErr result (NamesFileOf (request_of asked.now)) }
+    ensures unbooked { IfErr result (λ error. IsBookUnwritten error → ⊥) }
+    ensures limits { IfErr result
+        (IfLimit (λ fault. refusal_of (texts_of texts.now) ≡ Some fault)) }
+    ensures front { OnErr result ((W.contents output.new ≡ W.contents output.old)
+        ⊎ PrintsFront asked.now.settings (texts_of texts.now)
+        (W.contents output.old) (W.contents output.new)) }
 {
     let solved = solve_with_progress(
         rt,
@@ -95,6 +107,7 @@ fn solve_and_print<'a, T: Files + Clock + Threads + Wait + Sync, W: Write, E: Wr
 // The place of the book that is to be written. Files that are too many or too large are refused
 // first, and then a place where the book can't be put or would destroy what is there. `solve_files`
 // checks the files again, since its callers may pass any.
+#[tactic(auto, using(crate::proofs::LimitLemmas::place_unlimited))]
 fn place_of_run<'a, T: Files>(
     rt: &T,
     alloc: Global,
@@ -103,9 +116,15 @@ fn place_of_run<'a, T: Files>(
 ) -> Result<Option<BookPlace<'a>>, SolveError<'a>>
     ensures named { IfOk result (λ place. option_map (λ p. p.name.now) place
         ≡ option_map string_bytes asked.now.book_out) }
+    ensures book_in { IfOk result (λ place. IfSome place
+        (λ p. p.book_in.now ≡ asked.now.book_in)) }
+    ensures lists { IfOk result (λ place. IfSome place
+        (λ p. p.lists.now ≡ asked.now.files.items)) }
     ensures free { IfOk result (λ place. IfSome place (λ p. IsFree p.found)) }
     ensures files { (fault : InputFault) → refusal_of (texts_of texts.now) ≡ Some fault
         → IsErrOf result (Program (BadInput fault)) }
+    ensures limits { IfErr result
+        (IfLimit (λ fault. refusal_of (texts_of texts.now) ≡ Some fault)) }
     ensures error { IfErr result (NamesFileOf (request_of asked.now)) }
     ensures silent { IfErr result IsSilent }
     ensures status { IfErr result
@@ -116,12 +135,13 @@ fn place_of_run<'a, T: Files>(
         return Ok(None);
     };
     let name = name.as_str();
-    let found = Found::under(rt, name, &asked.book_in, &asked.files);
-    Ok(Some(find_place(rt, alloc, name, found)?))
+    let place = find_place(rt, alloc, name, &asked.book_in, &asked.files)?;
+    Ok(Some(place))
 }
 
 // Reads the book and then the files, tests them and the place of the book to be written, solves,
 // prints the reports, and writes the book.
+#[tactic(auto, using(crate::proofs::ProgramLemmas::silent_not_book, crate::proofs::ProgramLemmas::of_none, crate::proofs::LimitLemmas::limit_of_files))]
 fn carry_out<'a, T: Files + Clock + Threads + Wait + Sync, R: Read, W: Write, E: Write + Send>(
     rt: &T,
     alloc: Global,
@@ -134,6 +154,14 @@ fn carry_out<'a, T: Files + Clock + Threads + Wait + Sync, R: Read, W: Write, E:
         (names_of asked.now.files.items)
         (R.remaining input.old) (W.contents output.old) (W.contents output.new)) }
     ensures error { IfErr result (NamesFileOf (request_of asked.now)) }
+    ensures stopped { OnErr result (StopsReports asked.now.settings
+        (names_of asked.now.files.items)
+        (R.remaining input.old) (W.contents output.old) (W.contents output.new)) }
+    ensures booked { IfErr result (λ error. IsBookUnwritten error
+        → PrintsReportsOf asked.now.settings (names_of asked.now.files.items)
+        (R.remaining input.old) (W.contents output.old) (W.contents output.new)) }
+    ensures limits { IfErr result (IfLimit
+        (PassesLimit (names_of asked.now.files.items) (R.remaining input.old))) }
     ensures silent { IfErr result
         (λ error. IsSilent error → W.contents output.new ≡ W.contents output.old) }
     ensures unwritten { IfErr result
@@ -151,7 +179,7 @@ fn carry_out<'a, T: Files + Clock + Threads + Wait + Sync, R: Read, W: Write, E:
         asked,
         &texts,
         claims.as_ref(),
-        &place,
+        place,
         output,
         errors,
     )?;
@@ -182,7 +210,8 @@ pub fn program<T: Files + Clock + Threads + Wait + Sync, R: Read, W: Write, E: E
     ensures ends { EndsFfosolve (map (λ word. word.now) words.now)
         (R.remaining input.old) (W.contents output.old) (W.contents output.new) result }
     ensures shown { ShowsEnding (map (λ word. word.now) words.now)
-        ((stream : E) → IsSome (E.contents stream)) (E.contents errors.old) (E.contents errors.new)
+        ((stream : E) → IsSome (E.contents stream)) (R.remaining input.old)
+        (E.contents errors.old) (E.contents errors.new)
         (W.contents output.old) (W.contents output.new) result }
 {
     match read_options(alloc, words) {

@@ -14,7 +14,7 @@ use super::worked::{
     BLACK_BOARD, Discs, EQUAL_CORNERS, LAST_CORNER, TWENTY_EMPTY_SQUARES, UNEQUAL_CORNERS, WORKED,
     pos_of, task_of,
 };
-use bound_table::{BoundTable, Bounds, Range};
+use bound_table::{Advice, BoundTable, Bounds, Range};
 use endgame_search::value_in;
 use othello_bits::Pos;
 use othello_rules::{Scoring, Side, Square};
@@ -44,6 +44,8 @@ pub(super) struct ProbeCounter {
     stored: Cell<u32>,
     seen: [Cell<bool>; 2],
 }
+
+impl Advice for ProbeCounter {}
 
 impl Bounds for ProbeCounter {
     ghost scoring = { λ counter. counter.table.scoring };

@@ -8,7 +8,7 @@ ghost use Rattle.othello_rules.specs.declared.scoring.Scoring.TheVariants.{Winne
 ghost use Rattle.bound_table.specs.Range.{IsTrueOf};
 
 use super::published::MOST_ENTRIES;
-use bound_table::{BoundTable, Bounds, Foreseen, NoTable, Range, TableFault};
+use bound_table::{Advice, BoundTable, Bounds, Foreseen, NoTable, Range, TableFault};
 use othello_bits::{Pos, Sym};
 use othello_rules::{Scoring, Side};
 use std::process::Abort;
@@ -142,5 +142,25 @@ fn notes_are_found(rt: HostRuntime) -> Result<(), Fail> {
     let small = BoundTable::new(rt.alloc(), 4_095, Scoring::Winner)?;
     assert!(rt; found_after(&small, &position, Foreseen::Worth(1)) == Foreseen::Unkept);
     assert!(rt; NoTable::new(Scoring::Winner).foreseen(&position, 5) == Foreseen::Unkept);
+    Ok(())
+}
+
+// The position where the opponent has some of the squares from A2 on, A1 and H1 are empty, and the
+// mover has all other squares.
+fn with_discs(rt: &impl Abort, discs: u64) -> Pos {
+    let opp = discs << 8;
+    Pos::new(!(opp | 0x81), opp).expect(rt, "no square is taken twice")
+}
+
+// After notes of 20,000 positions, beside a table of 4,096 entries, nothing is noted of others.
+#[test]
+fn a_note_is_of_its_position_alone(rt: HostRuntime) -> Result<(), Fail> {
+    let table = BoundTable::new(rt.alloc(), 4_096, Scoring::Winner)?;
+    for discs in 0..20_000u64 {
+        table.note_foreseen(&with_discs(&rt, discs), 5, Foreseen::Worth(7));
+    }
+    for discs in 20_000..21_000u64 {
+        assert!(rt; table.foreseen(&with_discs(&rt, discs), 5) == Foreseen::Unknown);
+    }
     Ok(())
 }

@@ -129,7 +129,8 @@ fn next_of(number: u32, task: Task) -> Turn {
     Turn::Next(Delivery { number, solved })
 }
 
-// Whether the call has its answer. `other` is the task of no job.
+// Makes a call about this job. Returns whether its answer is the one that the call names. `other` is
+// a task that no client sends.
 fn is_answered<R: Wait>(
     rt: &R,
     desk: &Desk,

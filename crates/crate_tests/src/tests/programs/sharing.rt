@@ -3,7 +3,7 @@
 ghost use Rattle.std.specs.Prelude.{◌≡◌};
 
 use super::runs::{files_of, settings_of, texts_of};
-use bound_table::{BoundTable, Bounds, Foreseen, Range};
+use bound_table::{Advice, BoundTable, Bounds, Foreseen, Range};
 use job_board::Desk;
 use othello_bits::Pos;
 use othello_rules::Scoring;
@@ -56,7 +56,9 @@ impl Bounds for Counter {
         self.stores.fetch_add(1, Ordering::SeqCst);
         self.table.store(position, range);
     }
+}
 
+impl Advice for Counter {
     fn is_worth_sharing(&self) -> bool {
         self.visits.fetch_add(1, Ordering::SeqCst);
         self.table.is_worth_sharing()
@@ -91,29 +93,56 @@ impl Bounds for Counter {
     }
 }
 
-// A gate that holds each thread that begins a job until the gate is opened.
+// Whether a thread came, so that others go on.
 #[derive(Drop)]
-struct Holding {
-    open: Mutex<bool>,
-    opened: Condvar,
+struct Signal {
+    came: Mutex<bool>,
+    changed: Condvar,
 }
 
-impl Holding {
-    fn open<R: Wait>(&self, rt: &R) {
-        *self.open.lock(rt) = true;
-        self.opened.notify_all();
+impl Signal {
+    fn new() -> Signal {
+        Signal {
+            came: Mutex::new(false),
+            changed: Condvar::new(),
+        }
+    }
+
+    fn send<R: Wait>(&self, rt: &R) {
+        *self.came.lock(rt) = true;
+        self.changed.notify_all();
+    }
+
+    fn wait<R: Wait>(&self, rt: &R) {
+        let mut came = self.came.lock(rt);
+        for _ in rt.forever() {
+            if *came {
+                return;
+            }
+            came = self.changed.wait(rt, came);
+        }
     }
 }
 
+// A gate that holds each thread that begins a job until the gate is opened.
+#[derive(Drop)]
+struct Holding {
+    opened: Signal,
+    begun: Signal,
+    // Whether the client takes no job before another thread has begun one.
+    is_client_late: bool,
+}
+
 impl Gate for Holding {
-    fn enter<R: Wait>(&self, rt: &R, _sender: u32, _number: u32) {
-        let mut open = self.open.lock(rt);
-        for _ in rt.forever() {
-            if *open {
-                return;
-            }
-            open = self.opened.wait(rt, open);
+    fn submitted<R: Wait>(&self, rt: &R, _sender: u32, _count: usize) {
+        if self.is_client_late {
+            self.begun.wait(rt);
         }
+    }
+
+    fn enter<R: Wait>(&self, rt: &R, _sender: u32, _number: u32) {
+        self.begun.send(rt);
+        self.opened.wait(rt);
     }
 
     fn leave<R: Wait>(&self, _rt: &R, _sender: u32, _number: u32) {}
@@ -171,7 +200,7 @@ fn play<R: Wait + Clock>(
     }
     if thread == threads {
         thread::sleep(rt, Duration::from_millis(scene.held));
-        scene.gate.open(rt);
+        scene.gate.opened.send(rt);
         return None;
     }
     let Scene {
@@ -186,7 +215,7 @@ fn play<R: Wait + Clock>(
 }
 
 // What a run on this number of threads counts, over a new table. The threads are held for `held`
-// milliseconds.
+// milliseconds. A late client takes no job before a worker has begun one.
 fn count<R: Threads + Wait + Clock + Sync>(
     rt: &R,
     alloc: Global,
@@ -194,6 +223,7 @@ fn count<R: Threads + Wait + Clock + Sync>(
     entries: usize,
     threads: usize,
     held: u64,
+    is_client_late: bool,
     claims: Option<&Claims>,
 ) -> Result<Counts, Fail> {
     let scene = Scene {
@@ -209,8 +239,9 @@ fn count<R: Threads + Wait + Clock + Sync>(
             visits: AtomicU32::new(0),
         },
         gate: Holding {
-            open: Mutex::new(false),
-            opened: Condvar::new(),
+            opened: Signal::new(),
+            begun: Signal::new(),
+            is_client_late,
         },
     };
     let scores = thread::map_indices(
@@ -233,8 +264,8 @@ fn count<R: Threads + Wait + Clock + Sync>(
 // twice as much as one of them alone. What a thread searches it stores.
 #[test]
 fn threads_share_a_position(rt: HostRuntime) -> Result<(), Fail> {
-    let alone = count(&rt, rt.alloc(), EIGHTEEN, 65_536, 1, 0, None)?;
-    let shared = count(&rt, rt.alloc(), EIGHTEEN, 65_536, 4, 0, None)?;
+    let alone = count(&rt, rt.alloc(), EIGHTEEN, 65_536, 1, 0, false, None)?;
+    let shared = count(&rt, rt.alloc(), EIGHTEEN, 65_536, 4, 0, false, None)?;
     assert!(rt; alone.score == Some(SCORE) && shared.score == Some(SCORE));
     assert!(rt; alone.begun == 0 && shared.begun > 0);
     assert!(rt; shared.stores <= alone.stores.saturating_mul(2));
@@ -243,11 +274,22 @@ fn threads_share_a_position(rt: HostRuntime) -> Result<(), Fail> {
 }
 
 // While a thread is held for a second with its job, each of three others solves the job, too, once, and
-// then waits at the desk.
+// then waits at the desk: also the client, if a worker has the job.
 #[test]
 fn threads_that_have_helped_wait(rt: HostRuntime) -> Result<(), Fail> {
-    let shared = count(&rt, rt.alloc(), EIGHTEEN, 65_536, 4, 1_000, None)?;
-    assert!(rt; shared.score == Some(SCORE) && shared.begun > 0 && shared.visits <= 12);
+    for is_client_late in [false, true] {
+        let shared = count(
+            &rt,
+            rt.alloc(),
+            EIGHTEEN,
+            65_536,
+            4,
+            1_000,
+            is_client_late,
+            None,
+        )?;
+        assert!(rt; shared.score == Some(SCORE) && shared.begun > 0 && shared.visits <= 12);
+    }
     Ok(())
 }
 
@@ -258,8 +300,8 @@ const USELESS: [(&[u8], usize); 3] = [(SIXTEEN, 0), (SIXTEEN, 16), (FIFTEEN, 65_
 #[test]
 fn threads_help_where_it_is_of_use(rt: HostRuntime) -> Result<(), Fail> {
     for (text, entries) in USELESS {
-        let alone = count(&rt, rt.alloc(), text, entries, 1, 0, None)?;
-        let many = count(&rt, rt.alloc(), text, entries, 4, 300, None)?;
+        let alone = count(&rt, rt.alloc(), text, entries, 1, 0, false, None)?;
+        let many = count(&rt, rt.alloc(), text, entries, 4, 300, false, None)?;
         assert!(rt; many.score.is_some() && many.score == alone.score);
         assert!(rt; many.begun == 0 && many.evaluations == alone.evaluations);
     }
@@ -274,7 +316,16 @@ const WRONG_BOOK: &[u8] = b"% ffobook 2 winner\n\
 #[test]
 fn threads_share_a_claim(rt: HostRuntime) -> Result<(), Fail> {
     let claims = Claims::read(rt.alloc(), WRONG_BOOK)?;
-    let shared = count(&rt, rt.alloc(), EIGHTEEN, 65_536, 4, 0, Some(&claims))?;
+    let shared = count(
+        &rt,
+        rt.alloc(),
+        EIGHTEEN,
+        65_536,
+        4,
+        0,
+        false,
+        Some(&claims),
+    )?;
     assert!(rt; shared.score == Some(SCORE) && shared.begun > 0);
     Ok(())
 }

@@ -18,8 +18,8 @@ use std::thread::Threads;
 use std::{fs, io};
 use suite_solver::program;
 
-// A standard error whose bytes contracts see, since it takes every text. If memory is refused, the
-// test ends.
+// A standard error that keeps what is written to it. Contracts know its bytes, since it takes every
+// text; that of a process may fail. If memory is refused, the test ends.
 #[derive(Drop)]
 struct Shown<'a, T: Abort> {
     rt: &'a T,

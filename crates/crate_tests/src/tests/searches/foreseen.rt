@@ -4,7 +4,7 @@ ghost use Rattle.std.specs.Prelude.{◌≡◌};
 ghost use Rattle.othello_rules.specs.declared.scoring.Scoring.TheVariants.{Winner};
 
 use super::super::worked::{Discs, pos_of, task_of};
-use bound_table::{BoundTable, Bounds, Foreseen, Range};
+use bound_table::{Advice, BoundTable, Bounds, Foreseen, Range};
 use endgame_search::{Task, exact_value, solve};
 use othello_bits::Pos;
 use othello_rules::{Scoring, Side};
@@ -43,7 +43,9 @@ impl Bounds for Notes {
     fn store(&self, position: &Pos, range: Range) {
         self.table.store(position, range);
     }
+}
 
+impl Advice for Notes {
     fn foreseen(&self, position: &Pos, respect: u16) -> Foreseen {
         match self.by_others {
             Some(foreseen) if respect >= self.first => foreseen,

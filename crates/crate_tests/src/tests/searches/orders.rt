@@ -7,7 +7,7 @@ use super::{
     EQUAL_CORNERS, FOUR_WITH_UNEQUAL_REPLIES, OPEN_CORNERS, UNEQUAL_CORNERS, after, is_first_enough,
 };
 use arrayvec::ArrayVec;
-use bound_table::{Bounds, Range};
+use bound_table::{Advice, Bounds, NoTable, Range};
 use endgame_search::value_in;
 use othello_bits::Pos;
 use othello_rules::{Scoring, Side, Square};
@@ -22,6 +22,8 @@ struct OrderNoter {
     met: Cell<usize>,
     is_mixed: Cell<bool>,
 }
+
+impl Advice for OrderNoter {}
 
 impl Bounds for OrderNoter {
     ghost scoring = { λ noter. Winner };
@@ -48,7 +50,8 @@ impl Bounds for OrderNoter {
 }
 
 // Whether these are all moves of a position where Black is to move, in the order of the search. No
-// move is worth 64, so the window from 63 to 64 takes all of them.
+// move is worth more than the value, and White has too few stable discs to show it, so the window
+// that begins there takes all of them.
 fn are_searched_so(rt: &impl Abort, discs: Discs, names: &[&[u8]]) -> bool {
     let position = pos_of(rt, discs, Side::Black);
     let mut noter = OrderNoter {
@@ -60,7 +63,8 @@ fn are_searched_so(rt: &impl Abort, discs: Discs, names: &[&[u8]]) -> bool {
         let child = after(rt, position, square_of(rt, name));
         let _ = noter.children.try_push(Some(child));
     }
-    value_in(&noter, position, 63, 64) < 64
+    let value = value_in(&NoTable::new(Scoring::Winner), position, -65, 65);
+    value_in(&noter, position, value, value + 1) == value
         && position.moves().count_ones() as usize == names.len()
         && noter.met.get() == names.len()
         && !noter.is_mixed.get()
@@ -103,11 +107,10 @@ const ORDERS: [Order; 6] = [
         (0x45de_dedf_3f5f_ffff, 0x20_2020_40a0_0000),
         &[b"F8", b"H4", b"E8"],
     ),
-    // -XXX--XX XXXXXXX- XXXXXXX- XXXXXXOX XXXXXXO- XXXXXXOX XXXXXXO- XXXXXXOX
-    // H7 leaves no reply, H3 and H5 leave A1.
+    // The same with a disc on B8, so that seven squares are empty.
     (
-        (0xbf3f_bf3f_bf7f_7fce, 0x4040_4040_4000_0000),
-        &[b"H7", b"H3", b"H5"],
+        (0x47de_dedf_3f5f_ffff, 0x20_2020_40a0_0000),
+        &[b"F8", b"H4", b"E8"],
     ),
 ];
 

@@ -3,7 +3,7 @@
 ghost use Rattle.othello_rules.specs.declared.scoring.Scoring.TheVariants.{Winner};
 
 use super::super::worked::{Discs, pos_of};
-use bound_table::{BoundTable, Bounds, Range};
+use bound_table::{Advice, BoundTable, Bounds, Range};
 use endgame_search::value_in;
 use othello_bits::Pos;
 use othello_rules::{Scoring, Side};
@@ -54,7 +54,9 @@ impl Bounds for Others {
     fn store(&self, position: &Pos, range: Range) {
         self.table.store(position, range);
     }
+}
 
+impl Advice for Others {
     fn begin(&self, position: &Pos) {
         if position.empties() != self.empties {
             return;
@@ -72,7 +74,8 @@ impl Bounds for Others {
 }
 
 // The children of the position in the order in which they are searched while other threads search these.
-// No move is worth 64, so the window from 63 to 64 takes all of them.
+// No move is worth 36, and White has too few stable discs to show it, so the window from 35 to 36 takes
+// all of them.
 fn begun_beside(
     alloc: Global,
     position: Pos,
@@ -89,7 +92,7 @@ fn begun_beside(
         begun,
         count: Cell::new(0),
     };
-    let _ = value_in(&others, position, 63, 64);
+    let _ = value_in(&others, position, 35, 36);
     let mut order = Vec::new(alloc);
     for place in &others.begun {
         order.push(place.get())?;

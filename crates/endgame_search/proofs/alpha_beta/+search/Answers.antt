@@ -112,11 +112,11 @@ pub search_by_list-search_by_mobility-requires : goal.search_by_list-search_by_m
 search_by_list-search_by_mobility-requires g t c κs within =
     let d : 8 * empties_of c.args.position + 4 ≡ t = c.decreases in
     let w : 8 * empties_of c.args.position + 3 < t = omega (arith, d) in
-    let few : empties_of c.args.position < 12 = subst (λ n. n < 12) c.empties.ensures.value c.if-empties-lt-FEWEST_JUDGED.true in
+    let few : empties_of c.args.position < 12 = subst (λ n. n < 12) c.empties.ensures.value c.if-empties-lt-FEWEST_SHARED_OUT.true in
     (w, (within, (c.requires.moves, (c.requires.some, (few, shown_bound c.args.bound c.requires.bound)))))
 
-pub search_by_list-returns-then-empties-lt-FEWEST_JUDGED : goal.search_by_list-returns-then-empties-lt-FEWEST_JUDGED
-search_by_list-returns-then-empties-lt-FEWEST_JUDGED g t c = same_fail_soft c.args.bound c.requires.bound _ _ c.search_by_mobility.ensures
+pub search_by_list-returns-then-empties-lt-FEWEST_SHARED_OUT : goal.search_by_list-returns-then-empties-lt-FEWEST_SHARED_OUT
+search_by_list-returns-then-empties-lt-FEWEST_SHARED_OUT g t c = same_fail_soft c.args.bound c.requires.bound _ _ c.search_by_mobility.ensures
 
 pub search_by_list-search_by_worth-requires : goal.search_by_list-search_by_worth-requires
 search_by_list-search_by_worth-requires g t c κs within =
@@ -124,8 +124,8 @@ search_by_list-search_by_worth-requires g t c κs within =
     let w : 8 * empties_of c.args.position + 3 < t = omega (arith, d) in
     (w, (within, (c.requires.moves, (c.requires.some, shown_bound c.args.bound c.requires.bound))))
 
-pub search_by_list-returns-else-empties-lt-FEWEST_JUDGED : goal.search_by_list-returns-else-empties-lt-FEWEST_JUDGED
-search_by_list-returns-else-empties-lt-FEWEST_JUDGED g t c = same_fail_soft c.args.bound c.requires.bound _ _ c.search_by_worth.ensures
+pub search_by_list-returns-else-empties-lt-FEWEST_SHARED_OUT : goal.search_by_list-returns-else-empties-lt-FEWEST_SHARED_OUT
+search_by_list-returns-else-empties-lt-FEWEST_SHARED_OUT g t c = same_fail_soft c.args.bound c.requires.bound _ _ c.search_by_worth.ensures
 
 pub search_by_mobility-add_until_no_replies-requires : goal.search_by_mobility-add_until_no_replies-requires
 search_by_mobility-add_until_no_replies-requires g t c =

@@ -1,7 +1,7 @@
 use Rattle.std.proofs.Common.{◌∙◌, rules}
 use Rattle.scored_lines.proofs.Results.{on_err}
 use Rattle.list_printer.specs.Output.{queue_output}
-use Rattle.list_printer.proofs.WrittenParts.{front_none}
+use Rattle.written_bytes.proofs.WrittenParts.{front_none}
 use Rattle.list_printer.proofs.OutputSteps.{front_printed, front_stopped, printed_start}
 use Rattle.list_printer.proofs.lists.write_front.Goals as goal
 

@@ -1,7 +1,7 @@
 use Rattle.obf_text.specs.LineText.{texts_of}
 use Rattle.scored_lines.proofs.Results.{on_err}
 use Rattle.list_printer.specs.Output.{lists_output}
-use Rattle.list_printer.proofs.WrittenParts.{front_none}
+use Rattle.written_bytes.proofs.WrittenParts.{front_none}
 use Rattle.list_printer.proofs.OutputSteps.{all_printed}
 use Rattle.list_printer.proofs.lists.write_lists.Goals as goal
 

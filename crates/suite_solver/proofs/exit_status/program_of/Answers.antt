@@ -11,4 +11,4 @@ pub returns-in-Ok-borrow_words-clause-shown : goal.returns-in-Ok-borrow_words-cl
 returns-in-Ok-borrow_words-clause-shown g c =
     let borrowed = ap (map (λ (word : Bor (List ℕ)). word.now)) c.deref-in-Ok-borrow_words.ensures.value in
     let words = borrowed ∙ (c.in-Ok-borrow_words.ensures ∙ ap names_of c.deref.ensures.value) in
-    rw c.in-Ok.is (ending_words _ _ _ _ _ _ _ _ words c.program.ensures.shown)
+    rw c.in-Ok.is (ending_words _ _ _ _ _ _ _ _ _ words c.program.ensures.shown)

@@ -1,5 +1,5 @@
-use Rattle.list_printer.specs.Output.{WritesBefore}
-use Rattle.list_printer.proofs.lists.send.Given as goal
+use Rattle.written_bytes.specs.WrittenBytes.{WritesBefore}
+use Rattle.written_bytes.proofs.writes.send.Given as goal
 
 abbrev pub invariant-loop : goal.invariant-loop
 invariant-loop g l =

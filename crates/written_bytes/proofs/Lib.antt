@@ -1,0 +1,2 @@
+-- Lemmas about what is written by several writes.
+pub mod WrittenParts
