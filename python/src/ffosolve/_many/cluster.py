@@ -1,4 +1,4 @@
-"""Lets a Dask cluster solve the parts of a run. Each part is a plain task of Dask's, which chooses its worker, tries it
+"""Lets a Dask cluster solve the batches of a run. Each is a plain task of Dask's, which chooses its worker, tries it
 again on another one if that ends, and brings workers the programs; so the scheduler runs no code of ours."""
 import asyncio
 import contextlib
@@ -15,9 +15,10 @@ from typing import Any, Coroutine, DefaultDict, Dict, List, Optional, Sequence, 
 
 from .._command_line import MISSING, Refusal, say
 from .._text import shown
-from .engine import Engine, Outcome
-from .folder import Part, Run
-from .solve import content_of
+from .engine import INCOMPLETE, Engine, Outcome
+from .folder import Batch, Run
+from .rows import lines_for
+from .solve import LATE, content_of
 
 try:
     import dask
@@ -35,11 +36,11 @@ except Exception as fault:  # such as a malformed file of settings
 
 LOST_SECONDS = 30  # of silence until a scheduler is lost, and no worker waited for; Dask tries as long to connect
 SILENT_SECONDS = 5  # of silence, after which progress says so: a busy scheduler may need a second or two
-AHEAD = 100  # parts that are sent beside two for each thread, so that a cluster which grows by need does
-MOST_FAILS = 3  # parts failed in a row, after which a worker gets no more, unless these fail elsewhere, too
-MOST_ENDS = 4  # of workers, after which a part or, if they had not solved a known line, their machine is to blame
+AHEAD = 100  # batches that are sent beside two for each thread, so that a cluster which grows by need does
+MOST_FAILS = 3  # batches failed in a row, after which a worker gets no more, unless these fail elsewhere, too
+MOST_ENDS = 4  # of workers, after which a batch or, if they had not solved a known line, their machine is to blame
 Worker = Tuple[str, str]  # its address, which another one may have later, and its folder
-Sent = Tuple[Any, Optional[Set[str]], Any]  # Dask's future of a part, the workers that may have it if not all, its Pack
+Sent = Tuple[Any, Optional[Set[str]], Any]  # Dask's future of a batch, the workers that may have it if not all, its Pack
 
 
 def address_of(name: str) -> str:
