@@ -193,7 +193,7 @@ def run_of(command: argparse.Namespace, programs: str) -> Run:
         check_book(program, shown(command.book_in), files["book-in"][0])
     if command.book_out:
         check_book_out(command.book_out, (path, "the list"), (command.book_in or os.devnull, "the --book-in"))
-    return Run(folder, task, source, name, files)
+    return Run(folder, task, source, name, files, command.each)
 
 
 def print_cut(run: Run) -> None:
@@ -239,7 +239,6 @@ def solve_list(command: argparse.Namespace, programs: str) -> int:
     if command.scheduler:
         from . import cluster  # noqa: F401  # refuses if its package is missing
     run = run_of(command, programs)
-    run.each = command.each
     for _ in range(MOST_DAMAGED):
         with contextlib.suppress(Damaged):
             run.take_results()

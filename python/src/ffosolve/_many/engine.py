@@ -14,7 +14,7 @@ from typing import Any, DefaultDict, Dict, List, Optional, Protocol, Set, Tuple
 
 from .._command_line import Refusal, counted, say, show
 from .folder import MOST_WORK, SECOND, START, Batch, Found, Run
-from .rows import Answer, lines_for
+from .rows import Answer
 from .solve import BUSY, LATE
 
 HERE = "this machine"
@@ -59,7 +59,7 @@ class Work:
         self.waiting: List[Tuple[int, int, float, int, Batch]] = []  # a heap, which begins with 1 for a last try
         self.sent: Dict[int, Tuple[Batch, int]] = {}  # {number: (batch, threads)}
         self.failed: DefaultDict[int, List[str]] = defaultdict(list)  # {number: where that batch failed}
-        self.ready: List[Tuple[int, Answer]] = []  # to be stored
+        self.ready: Dict[bytes, Answer] = {}  # to be stored
         self.rest = self.done = self.seconds = 0.0  # `rest` is the work of what waits
         self.named = 0  # lines that fail
         lines = run.to_solve()
@@ -107,7 +107,7 @@ class Work:
         _, threads = self.sent.pop(batch.number)
         failed = self.failed[batch.number]
         if found:
-            self.ready += zip(batch.lines, found[0])
+            self.ready.update(found[0])
             self.unsolved -= len(batch.lines)
             self.done, self.seconds = self.done + batch.work, self.seconds + found[1] * threads
             return
@@ -124,10 +124,6 @@ class Work:
         else:
             say(f"not solved: {batch}: {why}")
             self.named += not why.startswith(LATE)
-
-    def store(self) -> None:
-        self.run.keep(self.ready)
-        self.ready = []
 
     def running(self) -> List[Tuple[Batch, int, str, float]]:
         """Returns the batches at work, longest first, each with its threads, its host and when it began."""
@@ -213,13 +209,13 @@ class Threads(Engine):
     def solve(self, batch: Batch, threads: int) -> Outcome:
         """Solves a batch, and tests the known line if that fails. While others work, waits until a process may start.
         """
-        run, texts, why = self.run, self.run.texts(batch), BUSY
+        run, text, why = self.run, self.run.text(batch.lines), BUSY
         while why.endswith(BUSY):
-            record, why = run.pack.solve(run.pack.program, lines_for(texts), threads, run.each)
+            record, why = run.pack.solve(run.pack.program, text, threads, run.each)
             if why.endswith(BUSY) and len(self.running) < 2:
                 raise Refusal(f"no program can be started: {BUSY} (ulimit -u)")
             time.sleep(0.2 if why.endswith(BUSY) else 0)
-        found = run.found(texts, record)
+        found = run.found(batch, record)
         if not found and not why.startswith(LATE):
             run.test(is_due=True)
         return batch, found, "" if found else why or INCOMPLETE, [HERE]
@@ -246,6 +242,6 @@ def solve_lines(run: Run, engine: Engine, quiet: bool) -> None:
         for future in done:
             work.note(*future.result())
         if work.ready and (time.monotonic() >= stored + COMMIT_SECONDS or not sent and not work.waiting):
-            work.store()
-            stored = time.monotonic()
+            run.store.add(work.ready.items())
+            work.ready, stored = {}, time.monotonic()
     show("")

@@ -8,14 +8,13 @@ import math
 import os
 import stat
 from pathlib import Path
-from typing import Dict, Iterable, Iterator, List, NamedTuple, Optional, Sequence, Set, Tuple
+from typing import Dict, Iterator, List, NamedTuple, Optional, Sequence, Set, Tuple
 
 from .._command_line import MISSING, MISUSED, Refusal, counted, lock_file, refusing, say, write_whole
 from .._obf import SIDE, side_as_read
 from .._text import shown, text_lines, typed
-from .rows import Answer, Keys, answers_of, asked, empties_of, images_of, lines_for
-from .solve import (BATCH_BYTES, FORM, KNOWN, Pack, Task, content_of, digest_of, opened, read_record, sealed, sha256,
-                    unsealed)
+from .rows import Answer, Keys, answers_in, asked, images_of, without_end
+from .solve import BATCH_BYTES, KNOWN, Pack, Task, content_of, opened, sealed, sha256, unsealed
 from .store import MARK, NAMED, Damaged, Store
 
 LOCK, SIGN = "run.lock", b"ffosolve-many works here\n"
@@ -24,16 +23,17 @@ LINE, START = GROWTH ** 7, GROWTH ** 14  # the work of any line (10 microseconds
 SECOND = 40e6  # the work that one processor does in a second, until batches have shown how much
 MOST_WORK = 10 * SECOND  # of a batch with more than one line
 CHUNK = 10_000  # lines that are looked up or printed at a time; also the most in a batch
-HARD = 12  # empty squares from which on equal positions are solved together; others take less than a millisecond
+HARD = GROWTH ** 12  # the work from which on equal positions are solved together; others take less than a millisecond
 KEY = 16  # bytes of a key
 Files = Dict[str, Tuple[bytes, int]]  # {name: (content, mode)}
-Found = Tuple[List[Answer], float]  # the answers to a batch, and the seconds that they took
+Found = Tuple[Dict[bytes, Answer], float]  # {key: answer} of a batch, and the seconds that it took
 
 
 class Batch(NamedTuple):
     """Lines that one program solves together, as numbers from 0 of those that have rows."""
+
     number: int
-    lines: "Sequence[int]"
+    lines: Sequence[int]
     work: float
     first: int  # the number of its first line in the list, from 1
     depth: int  # how often lines have been cut because they failed
@@ -83,32 +83,24 @@ def lock(folder: Path) -> Tuple[Path, bool]:
     return place, True
 
 
-def parsed(keys: Keys, texts: List[bytes], digest: str, record: bytes) -> Found:
-    """Returns what a record with that digest has for texts. Raises ValueError if it is damaged or not complete."""
-    if not (solved := read_record(digest, record)):
-        raise ValueError("it is damaged")
-    return answers_of(texts, solved.output, solved.book, keys.is_scores), solved.seconds
-
-
 class Run:
     """A list that is solved in a folder. Those of its lines that have rows are numbered from 0 here."""
 
-    def __init__(self, folder: Path, task: Task, source: Path, name: str, files: Files) -> None:
-        """Reads the list, opens the folder, and takes what solve.py has solved there. `files` are the programs and any
-        --book-in. Refuses a list that is no text."""
-        self.folder, self.task, self.name, self.files = folder, task, name, files
+    def __init__(self, folder: Path, task: Task, source: Path, name: str, files: Files, each: Optional[int]) -> None:
+        """Reads the list, and opens the folder. `files` are the programs and any --book-in. Refuses a list that is no
+        text. `each`: the seconds after which a line is given up."""
+        self.folder, self.task, self.name, self.files, self.each = folder, task, name, files, each
         self.keys = Keys(task["program"], task["options"])
-        self.known_key = self.keys.of(b"\n", empties_of(KNOWN))  # no line has that text
+        self.known_key = self.keys.of(b"\n", KNOWN.count(b"-"))  # no line has that text
         self.digests = bytearray()  # the keys of the lines
         self.numbers, self.starts = array.array("L"), array.array("q")  # in the list, from 1; offsets in bytes
         self.works, self.ids = array.array("f"), array.array("q")  # an id of the store, or 0 for a line without answer
-        self.batches, self.lines, self.end, self.version, self.status = itertools.count(), 0, 0, -1, 0
-        self.each: Optional[int] = None  # the seconds after which a line is given up
+        self.batches, self.size, self.end, self.status = itertools.count(), 0, 0, 0
         with refusing("read", name):
             self.list = source.open("rb")
-            about = os.fstat(self.list.fileno())
-            self.mode, self.changed = about.st_mode & 0o644, about.st_mtime_ns
+            self.about = os.fstat(self.list.fileno())
             self.read()
+        self.mode = self.about.st_mode & 0o644
         with refusing("write", folder):
             self.place, has_locks = lock(folder)
             self.store = Store(folder, self.place, self.mode, has_locks)
@@ -117,16 +109,15 @@ class Run:
         """Notes the key, the place and the work of each line. Warns of a side such as `blanc`, once."""
         is_scores, key_of, is_warned = self.keys.is_scores, self.keys.of, False
         works = [LINE + (GROWTH ** count if count <= self.keys.limit else 0) for count in range(65)]
-        for self.lines, line in enumerate(text_lines(self.list, self.name, may_have_nul=True), 1):
-            text, squares, _, has_letter = asked(line, is_scores)
+        for self.size, line in enumerate(text_lines(self.list, self.name, may_have_nul=True), 1):
+            text, squares, side, empties = asked(line, is_scores)
             if text:
-                empties = squares.count(b"-") + squares.count(b".")
                 self.digests += key_of(text, empties)
-                self.numbers.append(self.lines)
+                self.numbers.append(self.size)
                 self.starts.append(self.end)
                 self.works.append(works[empties] if squares else LINE)
-                if has_letter and not is_warned and (side := SIDE.match(line)):
-                    say(f"{self.name} line {self.lines}: {side_as_read(side[1])}")
+                if len(side) > 1 and not is_warned and (found := SIDE.match(line)):
+                    say(f"{self.name} line {self.size}: {side_as_read(found[1])}")
                     is_warned = True
             self.end += len(line)
 
@@ -134,52 +125,42 @@ class Run:
     def count(self) -> int:
         return len(self.numbers)
 
-    def key(self, line: int) -> bytes:
-        return bytes(self.digests[KEY * line:KEY * line + KEY])
-
-    def look_up(self) -> None:
-        """Finds the ids of those lines that have none or, if the database has been made anew, of all."""
-        if self.version != self.store.version:
-            self.ids, self.version = array.array("q", bytes(8 * self.count)), self.store.version
-        for at in range(0, self.count, CHUNK):
-            keys = {line: self.key(line) for line in range(at, min(self.count, at + CHUNK)) if not self.ids[line]}
-            found = self.store.ids_of({*keys.values()})
-            for line, key in keys.items():
-                self.ids[line] = found.get(key, 0)
-
     @property
     def unsolved(self) -> int:
         return self.ids.count(0)
 
+    def key(self, line: int) -> bytes:
+        return bytes(self.digests[KEY * line:KEY * line + KEY])
+
+    def look_up(self) -> None:
+        """Finds the ids of the answers to all lines."""
+        self.ids = array.array("q")
+        for at in range(0, self.count, CHUNK):
+            keys = [self.key(line) for line in range(at, min(self.count, at + CHUNK))]
+            found = self.store.ids_of({*keys})
+            self.ids.extend([found.get(key, 0) for key in keys])
+
     def take_results(self) -> None:
         """Moves what solve.py has solved into the store. Files that are damaged stay."""
         for path in sorted((self.place / "results").glob("?" * 64)):
-            with contextlib.suppress(ValueError, KeyError, TypeError):
-                about, size, rest = unsealed(FORM, content_of(path)).split(b"\n", 2)
-                task, text, record = json.loads(about), rest[:int(size)], rest[int(size):]
-                keys = Keys(task["program"], task["options"])
-                lines = [asked(line, keys.is_scores) for line in text.split(b"\n")]
-                answers, _ = parsed(keys, [line[0] for line in lines], digest_of(task, text), record)
-                found = {keys.of(line[0], empties_of(line[1])): answer for line, answer in zip(lines, answers)}
-                known = self.store.ids_of(found)
-                self.store.add([(key, *answer) for key, answer in found.items() if key not in known])
+            with contextlib.suppress(ValueError, LookupError, TypeError):
+                self.store.add(answers_in(content_of(path))[0].items())
                 path.unlink()
 
-    def asked_again(self, lines: Iterable[int]) -> Iterator[Tuple[bytes, bytes, bytes, bool]]:
-        """Yields what `asked` returns for lines of the list. Refuses a list that has changed since it was read."""
+    def text(self, lines: Sequence[int]) -> bytes:
+        """Returns lines of the list, which ends now where it ended when it was read."""
         with refusing("read", self.name), open(f"/proc/self/fd/{self.list.fileno()}", "rb") as file:
+            found = []
             for line in lines:
                 file.seek(self.starts[line])
-                one = asked(file.readline(BATCH_BYTES + 1), self.keys.is_scores)
-                self.refuse_change(self.keys.of(one[0], empties_of(one[1])) != self.key(line))
-                yield one
+                found.append(without_end(file.readline(self.end - self.starts[line])))
+        # One CR at the end of a line is no part of it.
+        return b"\n".join([line + b"\r" if line.endswith(b"\r") else line for line in found])
 
-    def refuse_change(self, is_changed: bool) -> None:
-        if is_changed:
+    def refuse_change(self) -> None:
+        """Refuses a list that has been written since it was read."""
+        if os.fstat(self.list.fileno()).st_mtime_ns != self.about.st_mtime_ns:
             raise Refusal(f"{self.name} has changed meanwhile; the same command goes on with what is solved")
-
-    def texts(self, batch: Batch) -> List[bytes]:
-        return [text for text, *_ in self.asked_again(batch.lines)]
 
     def to_solve(self) -> "array.array[int]":
         """Returns the lines that are to be solved, one for each key. Of equal positions, which follow each other, all
@@ -192,24 +173,25 @@ class Run:
             if not self.ids[line] and (key := self.key(line)) not in seen:
                 seen.add(key)
                 firsts.append(line)
-        hard = [line for line in firsts if self.works[line] > GROWTH ** HARD]
-        for line, (_, squares, side, _) in zip(hard, self.asked_again(hard)):
-            home = homes.setdefault(hash(min(images_of(squares, side))), line)
-            if home != line:
-                twins.setdefault(home, []).append(line)
-                self.works[line] = 0
+                if self.works[line] > HARD:
+                    _, squares, side, _ = asked(self.text([line]), self.keys.is_scores)
+                    home = homes.setdefault(hash(min(images_of(squares, side), default=b"")), line)
+                    if home != line:
+                        twins.setdefault(home, []).append(line)
+                        self.works[line] = 0
         return array.array("q", itertools.chain.from_iterable(
             (line, *twins.get(line, ())) for line in firsts if self.works[line])) if twins else firsts
 
-    def batch(self, lines: "Sequence[int]", depth: int = 0) -> Batch:
+    def batch(self, lines: Sequence[int], depth: int = 0) -> Batch:
         work = math.fsum(self.works[line] for line in lines)
         return Batch(next(self.batches), lines, work, self.numbers[lines[0]], depth)
 
-    def cut(self, lines: "Sequence[int]", most: float) -> Iterator[Batch]:
+    def cut(self, lines: Sequence[int], most: float) -> Iterator[Batch]:
         """Cuts lines into batches of at most `most` work, if they have more than one line."""
         work, size, first = 0.0, 0, 0
         for at, line in enumerate(lines):
-            more, length = self.works[line], self.start_of(line + 1) - self.starts[line]
+            more = self.works[line]
+            length = (self.starts[line + 1] if line + 1 < self.count else self.end) - self.starts[line]
             work, size = work + more, size + length
             if at > first and (more and work > most or size > BATCH_BYTES or at - first == CHUNK):
                 yield self.batch(lines[first:at])
@@ -217,47 +199,40 @@ class Run:
         if lines:
             yield self.batch(lines[first:])
 
-    def start_of(self, line: int) -> int:
-        return self.starts[line] if line < self.count else self.end
+    def prepare(self) -> None:
+        """Makes the `pack` and tests it, by what programs have answered to the known line in this folder before."""
+        contents = {name: content for name, (content, _) in self.files.items()}
+        known = self.store.rows(self.store.ids_of([self.known_key]).values())
+        self.task.update(files={name: sha256(content) for name, content in contents.items()},
+                         known="".join(row[2].decode() for row in known.values()))
+        self.pack = Pack(Path(__file__).with_name("solve.py").read_text(), self.task, contents)
+        self.test()
+        self.store.add([(self.known_key, (self.task["known"].encode(), b""))])
 
     def test(self, is_due: bool = False) -> None:
         """Refuses if no program works on this machine, which is found out at first, and again if a test `is_due`."""
         if fault := self.pack.test(is_due):
             raise Refusal(f"on this machine {fault}", MISSING)
 
-    def prepare(self) -> None:
-        """Makes the `pack` and tests it, by what programs have answered to the known line in this folder before."""
-        contents = {name: content for name, (content, _) in self.files.items()}
-        known = self.store.ids_of([self.known_key])
-        self.task.update(files={name: sha256(content) for name, content in contents.items()},
-                         known="".join(row[2].decode() for row in self.store.rows(known.values()).values()))
-        self.pack = Pack(Path(__file__).with_name("solve.py").read_text(), self.task, contents)
-        self.test()
-        if not known:
-            self.store.add([(self.known_key, self.task["known"].encode(), b"")])
-
-    def found(self, texts: List[bytes], record: bytes) -> Optional[Found]:
+    def found(self, batch: Batch, record: bytes) -> Optional[Found]:
         """Returns what a record of a batch has, or None if it is damaged or not complete."""
         with contextlib.suppress(ValueError):
-            return parsed(self.keys, texts, digest_of(self.task, lines_for(texts)), record)
+            found = answers_in(record)
+            if all(self.key(line) in found[0] for line in batch.lines):
+                return found
         return None
 
-    def keep(self, found: Sequence[Tuple[int, Answer]]) -> None:
-        """Stores the answers to lines."""
-        numbers = self.store.add([(self.key(line), *answer) for line, answer in found])
-        for (line, _), number in zip(found, numbers):
-            self.ids[line] = number
-
-    def chunks(self) -> Iterator[List[Tuple[int, Optional[Answer]]]]:
-        """Yields, in pieces, each line's number and answer, None if it is not solved. Raises Damaged if the answer to
-        another line is found."""
+    def chunks(self) -> Iterator[List[Tuple[int, Answer]]]:
+        """Yields, in pieces, each line's number and answer; for one that is not solved, the row is b"". Raises Damaged
+        if the answer to another line is found."""
+        none = (0, b"", b"", b"")
         for at in range(0, self.count, CHUNK):
-            ids = self.ids[at:at + CHUNK]
+            ids, numbers = self.ids[at:at + CHUNK], self.numbers[at:at + CHUNK]
             rows = self.store.rows({*ids} - {0})
-            found = [rows[number][1] if number else self.key(line) for line, number in enumerate(ids, at)]
-            if b"".join(found) != self.digests[KEY * at:KEY * (at + CHUNK)]:
+            keys = [rows[one][1] if one else self.key(line) for line, one in enumerate(ids, at)]
+            if b"".join(keys) != self.digests[KEY * at:KEY * (at + CHUNK)]:
                 raise Damaged("the answer to another line")
-            yield [(number, rows[one][2:4] if one else None) for number, one in zip(self.numbers[at:at + CHUNK], ids)]
+            yield [(number, rows.get(one, none)[2:4]) for number, one in zip(numbers, ids)]
 
     def output(self, entries: Optional[List[bytes]]) -> Iterator[bytes]:
         """Yields, in pieces, what the program would print if it solved the whole list at once. Notes its status. Adds
@@ -268,53 +243,49 @@ class Run:
         refused = unsolved = 0
         yield b"[1]\n"
         for chunk in self.chunks():
-            found = [answer[1] for _, answer in chunk if answer]
-            unsolved, refused = unsolved + len(chunk) - len(found), refused + found.count(b"")
+            missing = sum(not row for _, (row, _) in chunk)
+            unsolved, refused = unsolved + missing, refused + sum(not more for _, (_, more) in chunk) - missing
             if entries is not None:
-                entries += filter(None, found)
-            yield b"".join([b"%d %b\n" % (number, answer[0] if answer else b"unsolved") for number, answer in chunk])
-        yield b"solved %d refused %d" % (self.count - refused - unsolved, refused)
-        yield b" unsolved %d\n" % unsolved if unsolved else b"\n"
+                entries += [more for _, (_, more) in chunk if more]
+            yield b"".join([b"%d %b\n" % (number, row or b"unsolved") for number, (row, _) in chunk])
+        end = b" unsolved %d" % unsolved if unsolved else b""
+        yield b"solved %d refused %d%b\n" % (self.count - refused - unsolved, refused, end)
 
     def scores(self) -> Iterator[bytes]:
         answers = itertools.chain.from_iterable(self.chunks())
-        number, answer = next(answers, (0, None))
-        with refusing("read", self.name):
-            self.list.seek(0)
-            for at, line in enumerate(itertools.islice(self.list, self.lines), 1):
-                row = line[:-2] if line.endswith(b"\r\n") else line[:-1] if line.endswith((b"\n", b"\r")) else line
-                if at == number:
-                    row = answer[0] if answer else b"% unsolved: " + row
-                    self.status = self.status or int(answer is not None and answer[1] != b"")
-                    number, answer = next(answers, (0, None))
-                yield b"%b\n" % row
-            self.refuse_change(os.fstat(self.list.fileno()).st_mtime_ns != self.changed)
+        place, (row, more) = next(answers, (0, (b"", b"")))
+        self.list.seek(0)
+        for number, line in enumerate(itertools.islice(self.list, self.size), 1):
+            text = without_end(line)
+            if number == place:
+                text, self.status = row or b"% unsolved: " + text, self.status or len(more)
+                place, (row, more) = next(answers, (0, (b"", b"")))
+            yield text + b"\n"
+        self.refuse_change()
 
     def write_batches(self) -> List[int]:
         """Writes solve.py and what it needs to solve the lines that are not solved, in batches. Returns their numbers.
         Batches of an earlier command keep theirs if all their lines are wanted; others go."""
-        folder, wanted, kept = self.place / "batches", {self.key(line): line for line in self.to_solve()}, []
+        wanted, folder, kept = {self.key(line): line for line in self.to_solve()}, self.place / "batches", []
         for name in ("batches", "results"):
             (self.place / name).mkdir(0o755, exist_ok=True)
         for path in sorted(folder.glob("[0-9]" * 7)):
-            lines = [asked(line, self.keys.is_scores) for line in unsealed(FORM, content_of(path)).split(b"\n")]
-            keys = {self.keys.of(line[0], empties_of(line[1])) for line in lines}
+            lines = [asked(line, self.keys.is_scores) for line in unsealed(content_of(path)).split(b"\n")]
+            keys = {self.keys.of(line[0], line[3]) for line in lines}
             if keys <= wanted.keys():
                 kept.append(int(path.name))
-                for key in keys:
-                    del wanted[key]
+                wanted = {key: line for key, line in wanted.items() if key not in keys}
             else:
                 path.unlink()
-        for number, batch in enumerate(self.cut(array.array("q", wanted.values()), MOST_WORK), max(kept, default=-1) + 1):
-            text = sealed(FORM, lines_for(self.texts(batch)))
-            write_whole({str(folder / f"{number:07d}"): [text]}, replaces=True, mode=self.mode, is_synced=False)
-            kept.append(number)
+        first = max(kept, default=-1) + 1
+        texts = [self.text(batch.lines) for batch in self.cut([*wanted.values()], MOST_WORK)]
+        kept += range(first, first + len(texts))
         self.task["batches"] = max(kept, default=-1) + 1
         code = Path(__file__).with_name("solve.py").read_bytes()
-        task = sealed(FORM, json.dumps(self.task, indent=1).encode())
-        for name, (content, mode) in {**self.files, "solve.py": (code, 0o666), "task": (task, 0o666)}.items():
-            if content_of(self.place / name) != content:
-                write_whole({str(self.place / name): [content]}, replaces=True, mode=mode & 0o755)
+        files = {**self.files, "solve.py": (code, 0o644), "task": (sealed(json.dumps(self.task).encode()), 0o644),
+                 **{f"batches/{number:07d}": (sealed(text), self.mode) for number, text in enumerate(texts, first)}}
+        for name, (content, mode) in files.items():
+            write_whole({str(self.place / name): [content]}, replaces=True, mode=mode & 0o755)
         return kept
 
     def prune(self) -> None:

@@ -1,36 +1,38 @@
-"""Rows and entries: what ffosolve prints and writes into a book for one line, or what ffoscores prints for one."""
+"""Rows and entries: what a program prints for a line of a list, and what ffosolve writes into a book for it."""
 import functools
 import hashlib
+import json
 import re
-from typing import Any, Dict, List, Tuple
+from typing import Any, Dict, Iterator, List, Set, Tuple
 
 from .._obf import BLACK, WHITE
+from .solve import unsealed
 
 ROWS = "rows 1"  # the form of rows and entries: part of each key, so a version with others finds none of these
 # A line whose 64 squares and side can be read, up to its comment; a blank line or a comment; no match for any other.
 SHAPE = re.compile(rb"[ \t]*(?:([-.XxOoBbWw*]{64})[ \t]*([XxOoBbWw*])([A-Za-z]?)[^%]*|(?:%|\Z))")
 AS_X, AS_O = (bytes.maketrans(b"Xx*BbOoWw-.", letters) for letters in (b"XXXXXOOOO--", b"OOOOOXXXX--"))
-# Each as a text from which `translate`, with a board as its table, makes an image of the board.
-SYMMETRIES = [bytes(at(i % 8, i // 8) for i in range(64)) for at in (
-    lambda c, r: c + 8 * r, lambda c, r: 7 - c + 8 * r, lambda c, r: c + 56 - 8 * r, lambda c, r: 63 - c - 8 * r,
-    lambda c, r: r + 8 * c, lambda c, r: 7 - r + 8 * c, lambda c, r: r + 56 - 8 * c, lambda c, r: 63 - r - 8 * c)]
+# Each of eight texts from which `translate`, with a board as its table, makes an image of the board.
+TURNED = [bytes((7 - i % 8 if turn & 1 else i % 8) + 8 * (7 - i // 8 if turn & 2 else i // 8) for i in range(64))
+          for turn in range(4)]
+SYMMETRIES = TURNED + [bytes(at % 8 * 8 + at // 8 for at in text) for text in TURNED]
+Asked = Tuple[bytes, bytes, bytes, int]  # text, squares, side, number of empty squares: see `asked`
 Answer = Tuple[bytes, bytes]  # a row; of ffosolve a packed entry of a book, and of ffoscores b"!" for status 1
 
 
-def asked(line: bytes, is_scores: bool) -> Tuple[bytes, bytes, bytes, bool]:
-    """Returns what a line of a list asks ffosolve or, if `is_scores`, ffoscores: the text that decides its row, b"" for
-    a blank line or a comment, which has none; the 64 squares and the side of its position, if it has any; and whether a
-    letter follows the side."""
-    line = line[:-2] if line.endswith(b"\r\n") else line[:-1] if line.endswith((b"\n", b"\r")) else line
+def without_end(line: bytes) -> bytes:
+    return line[:-2] if line.endswith(b"\r\n") else line[:-1] if line.endswith((b"\n", b"\r")) else line
+
+
+def asked(line: bytes, is_scores: bool) -> Asked:
+    """Returns what a line asks ffosolve or, if `is_scores`, ffoscores: the text that decides its row, b"" for a blank
+    line or a comment, which has none; and its position: the 64 squares, the side, and how many squares are empty."""
+    line = without_end(line)
     found = SHAPE.match(line)
-    if not found:
-        return line, b"", b"", False
-    squares, side, letter = found.groups(b"")
-    return (line if is_scores else found[0].rstrip(b" \t")) if side else b"", squares, side, letter != b""
-
-
-def empties_of(squares: bytes) -> int:
-    return squares.count(b"-") + squares.count(b".")
+    if not found or not (squares := found[1]):
+        return b"" if found else line, b"", b"", 0
+    text = line if is_scores else found[0].rstrip(b" \t")
+    return text, squares, found[2] + found[3], squares.count(b"-") + squares.count(b".")
 
 
 class Keys:
@@ -38,11 +40,10 @@ class Keys:
     a line has more; a book, a table and the number of threads never do."""
 
     def __init__(self, program: str, options: Dict[str, Any]) -> None:
-        limit = options["--max-empties"]
+        self.is_scores, self.limit = program == "ffoscores", options["--max-empties"]
         about = f"{ROWS} {program} {options['--scoring']} {options['--complete']}"
-        self.is_scores, self.limit = program == "ffoscores", limit
         self.fits, self.exceeds = (hashlib.blake2b(digest_size=16, person=hashlib.blake2b(
-            words.encode(), digest_size=16).digest()) for words in (about, f"{about} {limit}"))
+            words.encode(), digest_size=16).digest()) for words in (about, f"{about} {self.limit}"))
 
     def of(self, text: bytes, empties: int) -> bytes:
         digest = (self.fits if empties <= self.limit else self.exceeds).copy()
@@ -50,58 +51,60 @@ class Keys:
         return digest.digest()
 
 
-def lines_for(texts: List[bytes]) -> bytes:
-    """Returns the lines that ask a program these texts. One CR at the end of a line is no part of its text."""
-    return b"\n".join([text + b"\r" if text.endswith(b"\r") else text for text in texts])
-
-
-def images_of(squares: bytes, side: bytes) -> Any:
+def images_of(squares: bytes, side: bytes) -> Iterator[bytes]:
     """Yields the eight images of a position, each with X to move."""
-    board = squares.translate(AS_X if side in b"Xx*Bb" else AS_O) + bytes(192)
+    board = squares.translate(AS_X if side[:1] in b"Xx*Bb" else AS_O) + bytes(192)
     return map(bytes.translate, SYMMETRIES, [board] * 8)
 
 
-def answers_of(texts: List[bytes], output: bytes, book: bytes, is_scores: bool) -> List[Answer]:
-    """Returns the answers to texts. Raises ValueError unless output and book are those of a run for `lines_for`."""
-    rows = output.split(b"\n")
-    wanted = [] if is_scores else [b"[1]"], [b""] if is_scores else [rows[-2], b""] if output.count(b"\n") else []
-    if len(rows) != len(texts) + sum(map(len, wanted)) or [rows[:len(wanted[0])], rows[-len(wanted[1]):]] != [*wanted]:
+def answers_in(record: bytes) -> Tuple[Dict[bytes, Answer], float]:
+    """Returns {key: answer} for the lines of a record from `Pack.solve`, and the seconds that they took. Raises
+    ValueError if the record is damaged or not complete."""
+    head, _, rest = unsealed(record).partition(b"\n")
+    about = json.loads(head)
+    size, end = about["sizes"][0], sum(about["sizes"])
+    text, output, book = rest[:size], rest[size:end], rest[end:]
+    keys = Keys(about["program"], about["options"])
+    lines = [asked(line, keys.is_scores) for line in text.removesuffix(b"\n").split(b"\n")]
+    answers = scores_in(output, lines) if keys.is_scores else rows_in(output, book, lines)
+    return {keys.of(line[0], line[3]): answer for line, answer in zip(lines, answers) if line[0]}, about["seconds"]
+
+
+def scores_in(output: bytes, lines: List[Asked]) -> List[Answer]:
+    """Returns the answer of ffoscores to each line: b"!" if it is refused, or has more than the line's comment."""
+    *rows, end = output.split(b"\n")
+    comments = [text[len(text.partition(b"%")[0]):] for text, *_ in lines]
+    if len(rows) != len(lines) or end:
         raise ValueError("another number of rows")
-    if is_scores:
-        return [(row, b"!" * has_remark(row, text)) for row, text in zip(rows, texts)]
+    return [(row, b"!" * (row.startswith(b"%") or row[len(row.partition(b" %")[0]):] != (comment and b" " + comment)))
+            for row, comment in zip(rows, comments)]
+
+
+def rows_in(output: bytes, book: bytes, lines: List[Asked]) -> List[Answer]:
+    """Returns the answer of ffosolve to each line. An entry of the book belongs to the lines with one of its images."""
+    head, *rows, end, nothing = output.split(b"\n") if output.count(b"\n") > 1 else [b""] * 3
+    rest = iter(rows)
     entries = {entry[:64]: packed(entry) for entry in book.split(b"\n")[1:-1]}
-    found, used = [], set()
-    for number, (text, line) in enumerate(zip(texts, rows[1:]), 1):
-        head, _, row = line.partition(b" ")
-        if head != b"%d" % number:
-            raise ValueError("a row of another line")
-        if row.startswith(b"refused: "):
-            found.append((row, b""))
-            continue
-        text = text.lstrip(b" \t")
-        image = next(filter(entries.__contains__, images_of(text[:64], text[64:].lstrip(b" \t")[:1])), b"")
-        entry = entries.get(image, b"")
-        if not entry or entry[20:23] != row[:3]:
-            raise ValueError("a row without its entry in the book")
-        used.add(image)
+    found: List[Answer] = []
+    used: Set[bytes] = set()
+    for number, (text, squares, side, _) in enumerate(lines, 1):
+        place, _, row = next(rest, b"").partition(b" ") if text else (b"%d" % number, b"", b"refused: ")
+        image = next(filter(entries.__contains__, images_of(squares, side)), b"") if squares else b""
+        entry = b"" if row.startswith(b"refused: ") else entries.get(image, b"")
+        used.add(image if entry else b"")
         found.append((row, entry))
-    if len(used) != len(entries):
-        raise ValueError("an entry in the book without a row")
+        if place != b"%d" % number or not entry and not row.startswith(b"refused: ") or entry and entry[20:23] != row[:3]:
+            raise ValueError("a row of another line, or without its entry")
+    if head != b"[1]" or nothing or not end.startswith(b"solved ") or [*rest] or len(used - {b""}) != len(entries):
+        raise ValueError("another number of rows, or an entry without a row")
     return found
-
-
-def has_remark(row: bytes, text: bytes) -> bool:
-    """Returns whether a row of ffoscores is refused, or has more than the comment of its line."""
-    comment = text[len(text.partition(b"%")[0]):]
-    return row.startswith(b"%") or row[len(row.partition(b" %")[0]):] != (comment and b" " + comment)
 
 
 def packed(entry: bytes) -> bytes:
     """Returns a line of a book as the masks of X's and of O's squares, 8 bytes each, whose order is that of a book, and
     its claims."""
     board = entry[63::-1]
-    masks = (int(board.translate(bits), 2).to_bytes(8, "big") for bits in (BLACK, WHITE))
-    return b"".join(masks) + entry[67:]
+    return b"".join([int(board.translate(bits), 2).to_bytes(8, "big") for bits in (BLACK, WHITE)]) + entry[67:]
 
 
 @functools.lru_cache(maxsize=None)

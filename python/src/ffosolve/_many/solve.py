@@ -15,7 +15,7 @@ import threading
 import time
 from pathlib import Path
 from subprocess import PIPE, Popen, TimeoutExpired
-from typing import Any, BinaryIO, Callable, Dict, Iterator, List, NamedTuple, Optional, Set, Tuple
+from typing import Any, BinaryIO, Callable, Dict, Iterator, List, Optional, Set, Tuple
 
 FORM = "task 3"  # what the files of `--cut` are about; each version that changes them has its own
 KNOWN = b"-OXXXXX-XXXXXXXOXXXXXXXXXXXXXXXXXXXOXXXXXXXXXXXXXXXXXXXXXXXXXXXX X; H1:+62; A1:+52;\n"
@@ -31,36 +31,20 @@ BUSY = os.strerror(errno.EAGAIN)  # how the reason ends if no more processes are
 # "known", the results for KNOWN, or "" if there are none yet. In a folder also "batches", their number after --cut.
 Task = Dict[str, Any]
 
-Solved = NamedTuple("Solved", [("output", bytes), ("book", bytes), ("seconds", float)])  # of a batch
-
 
 def sha256(content: bytes) -> str:
     return hashlib.sha256(content).hexdigest()
 
 
-def sealed(about: str, content: bytes) -> bytes:
-    """Returns a content after a line with a digest: the SHA-256 of what it is `about` and of the content."""
-    return sha256(about.encode() + content).encode() + b"\n" + content
+def sealed(content: bytes) -> bytes:
+    """Returns a content after a line with the SHA-256 of it and its FORM."""
+    return sha256(FORM.encode() + content).encode() + b"\n" + content
 
 
-def unsealed(about: str, text: bytes) -> bytes:
-    """Returns the content in a text from `sealed`, or b"" if it is damaged or about something else."""
+def unsealed(text: bytes) -> bytes:
+    """Returns the content in a text from `sealed`, or b"" if it is damaged or has another form."""
     content = text.partition(b"\n")[2]
-    return content if text == sealed(about, content) else b""
-
-
-def digest_of(task: Task, text: bytes) -> str:
-    """Returns a SHA-256 of lines and of what decides their results."""
-    return sha256(json.dumps([task["program"], task["options"]], sort_keys=True).encode() + b"\n" + text)
-
-
-def read_record(digest: str, record: bytes) -> Optional[Solved]:
-    """Returns the results in a record from `solve`, or None if it is damaged or of lines with another `digest_of`."""
-    head, _, results = unsealed(digest, record).partition(b"\n")
-    if not head:
-        return None
-    size, seconds = head.split()
-    return Solved(results[:int(size)], results[int(size):], float(seconds))
+    return content if text == sealed(content) else b""
 
 
 def unnamed(content: bytes) -> BinaryIO:
@@ -140,11 +124,10 @@ class Pack:
         KNOWN_SECONDS, with the results in the task's "known", where the first ones are noted."""
         if sha256(Path(program).read_bytes()) not in self.task["files"].values():
             return "is damaged"
-        end = time.monotonic() + KNOWN_SECONDS
-        record, why = self.solve(program, KNOWN, is_wanted=lambda: time.monotonic() < end)
-        if time.monotonic() > end:
+        record, why = self.solve(program, KNOWN, seconds=KNOWN_SECONDS)
+        if why.startswith(LATE):
             return f"needs more than {KNOWN_SECONDS} seconds for a known line"
-        results = record.partition(b"\n")[2].partition(b"\n")[2].decode("latin-1")
+        results = record.partition(KNOWN)[2].decode()
         self.task["known"] = self.task["known"] or results
         if not record or results == self.task["known"]:
             return why and f"can't solve a known line: {why}"
@@ -153,8 +136,8 @@ class Pack:
     def solve(self, program: str, text: bytes, threads: int = 1, seconds: Optional[float] = None,
               is_wanted: Callable[[], bool] = lambda: True) -> Tuple[bytes, str]:
         """Solves lines with the program of that path, and kills it after some `seconds`, or once `is_wanted` returns
-        false. Returns (record, "") or, if the program fails, (b"", the reason). A record has the results under their
-        digest."""
+        false. Returns (record, "") or, if the program fails, (b"", the reason). A record is sealed, and has a line of
+        JSON, the lines, what the program printed and any book; "sizes" in the JSON are those of the first two."""
         task, start = self.task, time.monotonic()
         given = {**task["options"], **task["speed"], "--workers": threads - 1, "--book-in": self.files.get("book-in")}
         words = [name if value == "" else f"{name}={value}" for name, value in given.items() if value is not None]
@@ -172,7 +155,7 @@ class Pack:
                         if time.monotonic() >= end or not is_wanted():
                             process.kill()
                             end = -1 if time.monotonic() >= end else end
-                results = output + book.read()
+                book_text = book.read()
         except OSError as fault:
             return b"", without_folder(f"{fault.filename or 'batch'}: {fault.strerror}")
         status = process.returncode
@@ -181,8 +164,9 @@ class Pack:
         if status not in ((0,) if has_book else (0, 1)):
             name = f"status {status}" if status >= 0 else f"killed by {signal.Signals(-status).name}"
             return b"", without_folder((errors.decode(errors="replace").strip() or name).splitlines()[0])
-        head = b"%d %.3f\n" % (len(output), time.monotonic() - start)
-        return sealed(digest_of(task, text), head + results), ""
+        about = {"program": task["program"], "options": task["options"], "sizes": [len(text), len(output)],
+                 "seconds": time.monotonic() - start}
+        return sealed(json.dumps(about).encode() + b"\n" + text + output + book_text), ""
 
 
 def content_of(path: Path) -> bytes:
@@ -195,7 +179,7 @@ def content_of(path: Path) -> bytes:
 
 def read_task(folder: Path) -> Task:
     """Returns the task that --cut left in a folder, or {} if it is missing, damaged, or of another version."""
-    return dict(json.loads(unsealed(FORM, content_of(folder / "task")) or b"{}"))
+    return dict(json.loads(unsealed(content_of(folder / "task")) or b"{}"))
 
 
 @functools.lru_cache(maxsize=None)
@@ -220,18 +204,17 @@ def numbers_in(words: List[str], count: int) -> Set[int]:
 
 
 def solve_into(folder: Path, mode: int, pack: Pack, text: bytes) -> str:
-    """Solves a batch unless its results are in the folder. Returns "", or why they aren't. A new file takes the place
-    of a damaged one, or of a link. Makes room for it first, so that no batch is solved in vain."""
-    path = folder / digest_of(pack.task, text)
+    """Solves a batch unless its record is in the folder. Returns "", or why it isn't. A new file takes the place of a
+    damaged one, or of a link. Makes room for it first, so that no batch is solved in vain."""
+    path = folder / sha256(json.dumps([pack.task["program"], pack.task["options"]]).encode() + text)
     new = f"{path}.{os.urandom(4).hex()}.new"
-    about = json.dumps({name: pack.task[name] for name in ("program", "options")}).encode() + b"\n%d\n" % len(text)
     try:
-        if path.is_file() and path.stat().st_size < MOST_READ and unsealed(FORM, path.read_bytes()):
+        if path.is_file() and path.stat().st_size < MOST_READ and unsealed(path.read_bytes()):
             return ""
         with open(os.open(new, os.O_WRONLY | os.O_CREAT | os.O_EXCL, 0o600), "wb") as file:
             os.posix_fallocate(file.fileno(), 0, 5 * len(text) + 2000)
             record, why = pack.solve(pack.program, text)
-            file.truncate(file.write(sealed(FORM, about + text + record)))
+            file.truncate(file.write(record))
             os.fchmod(file.fileno(), mode)
             os.fsync(file.fileno())
         if record:
@@ -256,8 +239,7 @@ def main(folder: Path, words: List[str]) -> Iterator[str]:
     for number in sorted(numbers):
         path = place / "batches" / f"{number:07d}"
         if path.exists():  # otherwise, its results have been taken
-            text = unsealed(FORM, content_of(path))
-            mode = path.stat().st_mode & 0o644
+            text, mode = unsealed(content_of(path)), path.stat().st_mode & 0o644
             why = solve_into(place / "results", mode, pack, text) if text else "it is damaged: run --cut again"
             if why:
                 yield f"batch {number:07d}: {without_folder(why)}"
