@@ -18,38 +18,39 @@ from tests.support import (NOBODY, ROOT, SECONDS, cannot_write, ends, limited, n
 
 
 def test_report_and_book_are_those_of_one_run(case):
-    words = ("--lines", 7, "list.obf", "--book-out", "joined.book")
-    line = "ffosolve-many: list.obf: 60 lines in 9 parts, {} of them solved before; folder list.obf.parts\n"
-    assert case.many(*words) == line.format(0)
-    assert case.many(*words) == line.format(9)
+    words = ("list.obf", "--book-out", "joined.book")
+    line = "ffosolve-many: list.obf: 60 lines, {} of them solved before; folder list.obf.parts\n"
+    assert case.many(*words, by=case.ACTS) == line.format(0)
+    assert case.many(*words) == line.format(60)
     assert case.many(*words, "--quiet") == ""
     case.write_list(case.SMALL[:68])
-    case.many("work", "list.obf", message=": 1 line in 1 part, 0 of them")
+    case.many(*WORDS, message=": 1 line, 0 of them solved before; folder work\n")
 
 
 def test_the_program_is_found_in_a_checkout_and_through_a_link_and_names_may_have_blanks_or_not_be_utf_8(case):
+    run(ROOT / "bin/ffosolve-many", "--cut", "cut", "list.obf", check=True)
+    assert stored("out/ffosolve") in [path.read_bytes() for path in Path("cut").glob("ffosolve-*")]
     case.many("work", "list.obf", by=ROOT / "bin/ffosolve-many")
-    assert stored("out/ffosolve") in [path.read_bytes() for path in Path("work").glob("ffosolve-*")]
     os.symlink(case.ACTS, "link")
     for name, *place in ("a  list;$x'.obf", "a folder ;'$y"), (os.fsdecode(b"\xff.obf"),):
         os.rename("list.obf", name)
-        case.many("--lines=30", *place, name, "--book-in=one.book", "--book-out", "a book;'", by="./link")
+        case.many(*place, name, "--book-in=one.book", "--book-out", "a book;'", by="./link")
         case.same_book("a book;'")
         os.rename(name, "list.obf")
 
 
-def test_options_stand_anywhere_and_reach_the_program_of_each_part(case):
-    usual, others = "--max-empties=20 --scoring=winner", "--max-empties=7 --scoring=discs --workers=1 --table=9"
-    for program, words, given in (("ffosolve", "", f"{usual} --workers=0"), ("ffosolve", others, others),
-                                  ("ffoscores", "--complete", f"{usual} --complete --workers=0")):
+def test_options_stand_anywhere_and_reach_the_program_of_each_batch(case):
+    usual, others = "--max-empties=20 --scoring=winner", "--max-empties=7 --scoring=discs --table=9"
+    for program, words in (("ffosolve", ""), ("ffosolve", others), ("ffoscores", "--complete")):
         output = run(case.MANY.with_name(program), *words.split(), "list.obf").stdout
         mode = ["--scores"] if program == "ffoscores" else []
-        case.many(*mode, f"work {words}", "--lines=20", "list.obf", *words.split(), "--jobs", 2, output=output,
-                  by=case.ACTS, places={"WORDS": f"{case.folder}/words"})
-        # After its version, the program is run for a known line and three parts.
+        case.many(*mode, f"work {words}", "list.obf", *words.split(), "--jobs", 2, output=output, by=case.ACTS,
+                  places={"WORDS": f"{case.folder}/words"})
+        # After its version, the program is run for a known line and twelve batches, each with the extra threads for it.
+        given = f"{others if words == others else f'{usual} {words}'.strip()} --workers=0"
         book = "" if mode else " --book-out=FILE"
         runs = re.sub(r"/proc/\d+/fd/\d+", "FILE", Path("words").read_text()).splitlines()
-        assert runs == ["--version", *[given + book] * 4]
+        assert runs == ["--version", *[given + book] * 13]
         Path("words").unlink()
     case.write_list(case.SMALL, "--scoring=sign")
     os.rename("list.obf", "-x")
@@ -60,60 +61,32 @@ def test_the_limit_of_empty_squares_is_by_default_that_of_the_program(case):
     case.write_list(case.SMALL + positions(1, 21, 21))
     case.many(*WORDS)
     assert " refused: 21 empties, limit 20\n" in case.one.decode()
+    case.many(*WORDS, "--max-empties=20", message=": 61 lines, 61 of them solved before")
     case.write_list(case.SMALL, "--max-empties=3")
-    for words in (), ("--max-empties=4",):
-        case.many(*WORDS[:3], *words, output=mock.ANY)
-    case.many(*WORDS, "--max-empties=3", message=", 0 of them solved before")
-    case.many(*WORDS, "--max-empties=3", message=", 3 of them solved before")
+    case.many(*WORDS[:2], "--max-empties=3", message=": 60 lines, 36 of them solved before")
 
 
 def test_lines_of_each_kind_and_none_at_all_are_solved(case):
     kinds, blank = stored("examples/kinds.obf"), b"\r\n \t\n\t % X\n% no end of the last line\n\r\r\n \r\n"
     whole, best = kinds + blank + kinds.rstrip(b"\n"), b"\n".join(worked_rows("ffosolve/best")[0])
-    for text, lines, *words in (whole, 4), (whole, 1000), (b"", 4), (best, 4, "--complete"):
+    for at, (by, text, *words) in enumerate([(case.ACTS, whole), (case.MANY, whole), (case.MANY, b""),
+                                             (case.MANY, blank), (case.MANY, best, "--complete")]):
         case.write_list(text, *words)
-        case.many("--lines", lines, *words, f"work {len(text)} {lines}", "list.obf", "--book-out", "joined.book")
-    case.write_list(case.SMALL * 17)  # a large part, which the program may read late
+        case.many(*words, f"work{at}", *WORDS[1:], by=by)
+    case.write_list(positions(1000, 1, 5, 7))  # a large batch, which the program may read late
     case.many("list.obf", by=case.install("late", script='#!/bin/sh\nsleep 1\nexec "@real@" "$@"\n'))
 
 
 def test_scores_and_status_are_those_of_one_run(case):
     remarked = case.SMALL + b"% remark\r\n\n" + case.SMALL.rstrip(b"\n")
     kinds = stored("examples/kinds.obf") + case.SMALL
-    for status, count, text, *words in (0, 2, remarked), (1, 1, kinds, "--complete"):
+    for status, count, text, *words in (0, 120, remarked), (1, 73, kinds, "--complete"):
         write("list.obf", text)
         one = run(case.MANY.with_name("ffoscores"), *words, "list.obf")
         assert one.returncode == status
         for before in (0, count):
-            case.many("--scores", *words, "--lines=50", f"work{status}", "list.obf", status=status,
-                      output=one.stdout, message=f", {before} of them solved before")
-
-
-def test_cut_parts_are_solved_by_a_command_that_needs_only_python(case):
-    os.mkdir("my work")
-    os.symlink("my work", "work")
-    line = "10 parts, {} of them solved; python3 'my work/solve.py' {} solves the others\n"
-    cut, solve = (case.MANY, "--cut", "--lines=6", "my work", *WORDS[2:]), Path("my work", "solve.py").absolute()
-    ends((0, line.format(0, "0-9"), ""), *cut)
-    command = (sys.executable, "-IS", solve)
-    for words in (("0000000",), ("2-4", "0000006-7")):
-        ends((0, "", ""), *command, *words, cwd="/", env={"PATH": "/usr/bin:/bin"})
-    before = files()
-    ends((0, "", ""), *command, "0-4")  # which solves part 1 alone
-    assert before.keys() ^ files().keys() == {case.record(1, "my work")}
-    assert before.items() <= files().items()
-    ends((0, line.format(7, "5 8-9"), ""), *cut)
-    for words in (("10",), ("-1",), (), ("3", "10-12"), ("4-3",), ("00000003",)):
-        error = f"solve.py {' '.join(words)}: name parts from 0 to 9, such as 0-9: '{' '.join(words)}'\n"
-        ends((1, "", error), *command, *words)
-    ends((0, "", ""), *command, "8-99", "5")
-    ends((0, "10 parts, 10 of them solved\n", ""), *cut)
-    cut = (case.MANY, "--cut", "--lines=3", "new", "list.obf")
-    run(*cut)
-    ends((0, "", ""), sys.executable, "new/solve.py", *range(0, 20, 2))
-    others = "1 3 5 7 9 11 13 15 17 19"
-    ends((0, f"20 parts, 10 of them solved; python3 new/solve.py {others} solves the others\n", ""), *cut)
-    case.many("--lines=6", *WORDS[1:], message="in 10 parts, 10 of them solved before")
+            case.many("--scores", *words, f"work{status}", "list.obf", status=status, output=one.stdout,
+                      by=case.MANY if before else case.ACTS, message=f": {count} lines, {before} of them solved before")
 
 
 def test_a_book_goes_through_a_link_or_into_a_pipe_and_a_file_keeps_its_permissions(case):
