@@ -144,6 +144,18 @@ class Case:
         return {number for number, words in processes_in(self.folder).items() if "--max-empties" in words}
 
 
+def over(count, empties):
+    """Returns lines of different finished games with that many empty squares. They are solved at once, but only a
+    program knows that: until then, they are as much work as any others with so many."""
+    rng, lines = random.Random(empties), set()
+    while len(lines) < count:
+        board = bytearray(b"X" * 64)
+        for at in rng.sample(range(64), empties):
+            board[at:at + 1] = b"-"
+        lines.add(bytes(board) + b" X;\n")
+    return b"".join(sorted(lines))
+
+
 def files():
     """Returns {path: (content, mode)} of everything in the working folder, with content False for a non-file."""
     return {path: (path.is_file() and path.read_bytes(), path.lstat().st_mode) for path in Path(".").rglob("*")}

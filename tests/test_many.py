@@ -11,8 +11,9 @@ from unittest import mock
 import pytest
 
 from ffosolve import __version__, _command_line
-from ffosolve._many import books, engine, folder, solve
-from tests.many import ACTING, BOARD, WORDS, files
+from ffosolve._many import books, engine
+from ffosolve._many import folder as many_folder
+from tests.many import ACTING, BOARD, BRIEF, WORDS, files, over
 from tests.support import (NOBODY, ROOT, SECONDS, cannot_write, ends, limited, need, positions, run, stored, wait_until,
                            worked_rows, write)
 
@@ -116,30 +117,30 @@ def test_a_book_that_cannot_be_written_keeps_its_old_content(case):
     os.chmod("joined.book", 0o444)
     case.refused(3, "cannot write joined.book: Permission denied\n", *WORDS, **NOBODY)
     Path("joined.book").unlink()
-    printed = "    print_all(run.output())\n"  # at the same time, the book is made
-    change = "    open('joined.book', 'w').close(), os.chmod('joined.book', 0o444)\n"
-    by = case.install("forbidding", ("command", printed, printed + change))
+    printed = "        if command.book_out:\n            header"
+    change = "        open('joined.book', 'w').close(), os.chmod('joined.book', 0o444)\n"
+    by = case.install("forbidding", ("command", printed, change + printed))
     case.many(*WORDS, by=by, status=3, output=case.one,
               message="cannot write joined.book: Permission denied\n", **NOBODY)
     assert Path("joined.book").read_bytes() == b""
 
 
 def test_progress_rises_in_a_log_and_on_a_terminal(case):
-    by = case.install("often", ("engine", "(1 if is_terminal else 60)", "(0.1 if is_terminal else 0.3)"),
+    by = case.install("often", *BRIEF, ("engine", "(1 if is_terminal else 60)", "(0.1 if is_terminal else 0.3)"),
                       ("engine", "due = now + (1 if sent else 0.2)", "due = now + 0.1"), script=ACTING)
     for place, shell in (("log", ("sh", "-c")), ("terminal", ("script", "/dev/null", "-qec"))):
-        command = f"'{by}' --jobs=2 --lines=6 {place} list.obf >report"
+        command = f"'{by}' --jobs=2 {place} list.obf >report"
         ran = run(*shell, command, env={**os.environ, "PAUSE": "0.3", "SHELL": "/bin/sh"})
         assert Path("report").read_bytes() == case.one
         lines = (ran.stderr or ran.stdout).decode()
-        counts = [*map(int, re.findall(r"\d+%, .*?(?:1|no) machine at work, parts (\d+) of 10", lines))]
+        counts = [*map(int, re.findall(r"\d+%, .*?(?:1|no) machine at work, lines (\d+) of 60", lines))]
         is_one_line = "\033" in lines and lines.count("\n") == 1  # the first, then one that changes
         assert (counts, is_one_line) == (sorted(counts), place == "terminal")
         assert len(set(counts)) > 2 and "%, 0:00:0" in lines, lines
-    assert case.many("--quiet", "--lines=6", "list.obf", by=by, places={"PAUSE": "0.3"}) == ""
-    ran = run("script", "/dev/null", "-qec", f"'{by}' --jobs=2 --lines=6 both list.obf", env={
+    assert case.many("--quiet", "list.obf", by=by, places={"PAUSE": "0.3"}) == ""
+    ran = run("script", "/dev/null", "-qec", f"'{by}' --jobs=2 both list.obf", env={
         **os.environ, "PAUSE": "0.3", "SHELL": "/bin/sh"})  # the report takes the place of the progress
-    assert b" at work, parts " in ran.stdout and re.search(rb"\r\x1b\[K\[1\]\r\n1 ", ran.stdout)
+    assert b" at work, lines " in ran.stdout and re.search(rb"\r\x1b\[K\[1\]\r\n1 ", ran.stdout)
 
 
 def test_output_that_fails_is_reported_and_closed_or_full_errors_do_no_harm(case):
@@ -147,24 +148,36 @@ def test_output_that_fails_is_reported_and_closed_or_full_errors_do_no_harm(case
         cannot_write(case.MANY, "--quiet", *words)
     ends((3, "", "ffosolve-many: cannot write standard output: File too large\n"), "sh", "-c",
          'ulimit -f 1; PYTHONUNBUFFERED=1 exec "$0" --quiet list.obf >short', case.MANY)
-    case.many("list.obf", message=", 1 of them solved before")
+    case.many("list.obf", message=", 60 of them solved before")
     for place, streams in enumerate(("<&- 2>&-", "2>/dev/full", "2>&-")):
         case.many("-c", f'exec "{case.MANY}" {place} list.obf {streams}', by="sh")
     ran = case.start("sh", "-c", 'exec "$0" work list.obf <&- 2>&-', case.ACTS, env={**os.environ, "PAUSE": "45"})
-    wait_until(lambda: Path("work/task").exists())
+    wait_until(case.programs)
     assert {os.readlink(f"/proc/{ran.pid}/fd/{number}") for number in (0, 2)} == {os.devnull}
 
 
-@pytest.mark.parametrize("count, workers, limits, who", [
-    ("2. of 300", 0, {"RLIMIT_NOFILE": 256}, {}), ("[0-9]+ of 900", 0, {"RLIMIT_NPROC": 400}, NOBODY),
-    ("[1-3]?[0-9] of 900", 8, {"RLIMIT_NPROC": 400}, NOBODY)])
-def test_jobs_are_limited_by_the_files_and_processes_that_there_may_be(case, count, workers, limits, who):
-    """With eight extra threads for each part, at most 40 parts at a time have ten threads each."""
+@pytest.mark.parametrize("count, limits, who", [
+    ("2. of 300", {"RLIMIT_NOFILE": 256}, {}), ("[0-9]+ of 900", {"RLIMIT_NPROC": 400}, NOBODY),
+    ("[0-9]+ of 900", {"RLIMIT_AS": 3 << 30}, {})])
+def test_jobs_are_limited_by_the_files_and_processes_and_memory_that_there_may_be(case, count, limits, who):
+    """Each of the lines is a batch of its own, with extra threads if so many jobs work."""
     case.folder.chmod(0o777)
-    told = case.many("--jobs", count[-3:], "--lines=1", *WORDS[1:], "--workers", workers,
-                     preexec_fn=limited(**limits), **who)
-    assert re.search(f": {count} jobs work at a time, since no more files or processes are allowed", told)
+    case.write_list(over(40, 30), "--max-empties=30")
+    told = case.many("--jobs", count[-3:], "--max-empties=30", *WORDS, preexec_fn=limited(**limits), **who)
+    assert re.search(f": {count} jobs work at a time, since no more files, processes or memory are allowed "
+                     r"\(ulimit -n, -u, -v\)\n", told)
     assert "failed" not in told
+
+
+def test_a_batch_gets_more_threads_when_fewer_wait_than_jobs_could_solve(case):
+    for count, jobs, threads in ((1, 7, 7), (2, 4, 4), (30, 3, 1)):
+        case.write_list(over(count, 24), "--max-empties=24")
+        case.many(f"--jobs={jobs}", "--max-empties=24", f"work{count}", *WORDS[1:], places={"WORDS": "words"},
+                  by=case.install("threads", script=ACTING))
+        given = [int(number) for number in re.findall(r"--workers=(\d+)", Path("words").read_text())]
+        assert given[0] == 0 and given[1] == threads - 1  # the first is for the known line
+        assert len(given) == 1 + count and given[-1] == jobs - 1  # the last batch has all processors
+        Path("words").unlink()
 
 
 @pytest.mark.parametrize("row", [  # (status, message, *command line)
@@ -173,6 +186,7 @@ def test_jobs_are_limited_by_the_files_and_processes_that_there_may_be(case, cou
     (2, "'list.obf' is not a folder: name one FOLDER and one LIST", "list.obf", "two.obf"),
     (2, r"'$'not\xff'' is not a folder", b"not\xff", "two.obf"),
     (3, "cannot write /proc/work: No such file or directory", "/proc/work", "list.obf"),
+    (2, "nowhere is a link that leads nowhere: name another FOLDER", "nowhere", "list.obf"),
     (2, "'-x' is not an option; a file of that name is ./-x", "-x"),
     (2, "'-' has no folder of its own: name a FOLDER before it", "-"),
     (2, "'pipe' has no folder of its own: name a FOLDER before it", "pipe"),
@@ -183,9 +197,13 @@ def test_jobs_are_limited_by_the_files_and_processes_that_there_may_be(case, cou
     (2, "'' is not the name of a file", "work", ""),
     (2, "--jobs: takes a number from 1 to 999, not '0'", "--jobs", "0", "list.obf"),
     (2, "--jobs: takes a number from 1 to 999, not '1_0'", "--jobs=1_0", "list.obf"),
-    (2, "--lines: takes a number from 1 to 10000, not '10001'", "list.obf", "--lines", "10001"),
-    (2, "--lines: expected one argument", "list.obf", "--lines"),
-    (2, "--lines: given twice", "list.obf", "--lines=5", "--lines=6"),
+    (2, "--each: takes a number from 1 to 9999999, not '0'", "list.obf", "--each", "0"),
+    (2, "--jobs: expected one argument", "list.obf", "--jobs"),
+    (2, "--jobs: given twice", "list.obf", "--jobs=5", "--jobs=6"),
+    (2, "--lines is gone: batches are cut by their work", "list.obf", "--lines", "5"),
+    (2, "--workers is gone: --jobs N says how many processors to use", "list.obf", "--workers=2"),
+    (2, "--hosts is gone: --scheduler names a cluster of machines", "--hosts", "h1,h2", "list.obf"),
+    (2, "--sweep is gone: nothing is left on other machines", "--sweep", "list.obf"),
     (2, "'' is not the name of a file", "list.obf", "--book-out", ""),
     (2, "'' is not the name of a file", "list.obf", "--scheduler="),
     (2, "--book-in is not an option of --scores", "--scores", "list.obf", "--book-in=one.book"),
@@ -193,6 +211,8 @@ def test_jobs_are_limited_by_the_files_and_processes_that_there_may_be(case, cou
     (2, "--jobs is not an option of --scheduler", "list.obf", "--scheduler=tcp://h1:8786", "--jobs=3"),
     (2, "--cut is not an option of --scheduler", "list.obf", "--scheduler=tcp://h1:8786", "--cut"),
     (2, "--prune is not an option of --cut", "list.obf", "--prune", "--cut"),
+    (2, "--partial is not an option of --cut", "list.obf", "--partial", "--cut"),
+    (2, "--each is not an option of --cut", "list.obf", "--cut", "--each=5"),
     (2, "--book-out out is standard output", "list.obf", "--book-out", "out"),
     (2, "--book-out ./list.obf is the list", "list.obf", "--book-out", "./list.obf"),
     (3, "cannot write none/book", "list.obf", "--book-out", "none/book"),
@@ -208,10 +228,9 @@ def test_jobs_are_limited_by_the_files_and_processes_that_there_may_be(case, cou
     (3, "cannot read .: Is a directory", "work", "."),
     (3, "cannot read none.book: No such file or directory", "list.obf", "--book-in", "none.book"),
     (2, "--merge-books needs the name of a book", "--merge-books"),
-    (2, "--lines is not an option of --merge-books", "--merge-books", "--lines=5", "one.book"),
+    (2, "--jobs is not an option of --merge-books", "--merge-books", "--jobs=5", "one.book"),
     (3, "cannot read none.book: No such file or directory", "--merge-books", "one.book", "none.book"),
     (2, "--max-empties: takes a number from 0 to 60, not '61'", "work", "list.obf", "--max-empties", "61"),
-    (2, "--workers: takes a number from 0 to 64, not 'x'", "work", "list.obf", "--workers=x"),
     (2, "--table: takes a number from 0 to 4194304, not '99999999'", "work", "list.obf", "--table=99999999"),
     (2, "--scoring: invalid choice: 'a;b' (choose from 'winner', 'discs', 'sign')", "list.obf", "--scoring", "a;b"),
     (3, "bad.book: book line 1: bad square", "work", "list.obf", "--book-in=bad.book"),  # in the words of the program
@@ -221,6 +240,7 @@ def test_wrong_command_lines_are_refused(case, row):
         write(os.fsdecode(name), case.SMALL)
     write("bad.book", b"?\n")
     os.symlink("kept", "link")
+    os.symlink("none", "nowhere")
     os.symlink("/proc/self/fd/1", "out")
     os.mkfifo("pipe")
     case.refused(*row)
@@ -246,14 +266,14 @@ def test_files_that_may_not_be_read_or_written_are_named(case):
     case.many("open/work", "list.obf", by=many, status=3, message=f"cannot read {build}: Permission denied\n", **NOBODY)
 
 
-def test_the_program_of_the_highest_level_that_works_here_solves_the_parts(case):
+def test_the_program_of_the_highest_level_that_works_here_solves_the_batches(case):
     by = case.install("levels")
     for level, works in ((2, True), (3, True), (4, False)):
         end = f'exec "{by.parent}/ffosolve" "$@"' if works else "kill -s ILL $$"
         script = f'#!/bin/sh\necho {level} >>"{case.folder}/ran"\n{end}\n'
         write(by.parent.parent / f"lib/ffosolve/ffosolve-x86-64-v{level}", script)
     case.many("--jobs=1", *WORDS, by=by)
-    assert Path("ran").read_text().split() == ["4", *"3" * 4]
+    assert Path("ran").read_text().split() == ["4", "3", "3"]
 
 
 def test_help_and_version_are_printed_whatever_else_is_given(case):
@@ -274,17 +294,11 @@ def test_the_numbers_in_the_help_are_those_that_are_taken(case):
     ffosolve, which reads an empty list."""
     text = " ".join(run(case.MANY, "--help", text=True).stdout.split())
     ranges = re.findall(r"(--[a-z-]+) N [^-]*?([0-9]+) to ([0-9]+)", text)
-    assert {option for option, *_ in ranges} == {"--jobs", "--lines", "--max-empties", "--workers"}
+    assert {option for option, *_ in ranges} == {"--jobs", "--max-empties"}
     for option, least, most in ranges:
-        is_shared = option not in ("--jobs", "--lines")
         for number, is_taken in ((int(least) - 1, False), (least, True), (most, True), (int(most) + 1, False)):
-            for words in [(case.MANY, "missing"), *[(case.MANY.with_name("ffosolve"), "/dev/null")] * is_shared]:
+            for words in [(case.MANY, "missing"), *[(case.MANY.with_name("ffosolve"), "/dev/null")] * (option[2] == "m")]:
                 assert (run(*words, f"{option}={number}").returncode != 2) == is_taken, (words, option, number)
-    lines = int(re.search(r"--lines N [^-]*\[default: ([0-9]+)\]", text)[1])
-    write("list", "".join(f"% {number}\n" for number in range(9 * lines)))
-    cuts = [run(case.MANY, "--cut", "work", "list", *words, text=True, check=True).stdout
-            for words in ((), (f"--lines={lines}",), (f"--lines={lines // 2}",), (f"--lines={lines * 2}",))]
-    assert cuts[0] == cuts[1] and len({*cuts}) == 3, cuts
 
 
 def test_missing_or_wrong_programs_and_tools_are_named(case):
@@ -402,132 +416,142 @@ def test_an_entry_of_a_book_has_the_greatest_score_of_its_line_and_the_moves_wit
 TOOK = (0.010, 0.278, 0.010, 0.223, 0.028, 0.331, 0.060, 0.105, 0.138, 1.174, 0.240, 0.010, 0.173, 0.014, 0.264,
         0.031, 0.364, 0.055, 0.342, 0.058, 0.181, 0.220, 0.007, 0.177, 0.009, 0.164, 0.016, 0.148, 0.026, 0.172,
         0.156, 0.481, 0.305, 0.008, 0.222, 0.007, 0.472, 0.008, 0.220, 0.029, 0.158, 0.201, 0.105, 0.263)
-# Parts of a list, each with the seconds that it took: 200 parts of 100 easy lines, and 40 of one hard line.
-EASY, HARD = [(positions(100, 2, 2), 0.008)] * 200, [(positions(1, 18, 18), 0.20)] * 40
+EASY, HARD = b"".join(b"%d\n" % number for number in range(50_000)), positions(40, 18, 18, 3)
+EASY_SECONDS, HARD_SECONDS = 0.00001, 0.20  # for each line
 
 
-def progress(weights, lines=1):
-    """Returns an engine.Progress (what is left to do) for parts with these weights, each of `lines` lines."""
-    one = folder.Run.__new__(folder.Run)
-    one.statuses, one.count = {}, len(weights) * lines
-    one.parts = [folder.Part(number, 0, 0, 1 + number * lines, lines, 0, 0, f"of {number}", weight)
-                 for number, weight in enumerate(weights)]
-    return engine.Progress(one, mock.Mock(tries=3, trouble="", silent=0, running={}, most=mock.Mock(return_value=1)))
+def work(text=None, works=()):
+    """Returns an engine.Work (what is left to do) for a list, or for lines that are as much `works`, each a batch of its
+    own if it is so much as the largest batch."""
+    write("list.obf", text or over(len(works), 20))
+    task = {"program": "ffosolve", "options": {"--max-empties": 20, "--scoring": "winner", "--complete": None}}
+    run = many_folder.Run(Path.cwd() / os.urandom(4).hex(), task, Path("list.obf"), "list.obf", {}, None)
+    run.look_up()
+    run.works = type(run.works)("f", works) if works else run.works
+    return engine.Work(run, mock.Mock(tries=3, trouble="", silent=0, running={}, threads=2, discounted=set(),
+                                      most=mock.Mock(return_value=1)))
 
 
-def at_work(one, hosts, ended={}):
-    """Sets which parts are at work: {part: its host, of two threads}; and which have ended: {part: seconds}."""
-    one.run.statuses.update({f"of {number}": 0 for number in ended})
-    one.done += sum(one.run.parts[number].weight for number in ended)
-    one.seconds += sum(ended.values())
-    running = one.engine.running
-    one.engine.running = {number: running.get(number, (host, time.monotonic())) for number, host in hosts.items()}
-    one.engine.threads = 2 * len({*hosts.values()})
+def end(one, number, seconds):
+    """Ends a batch that is at work, and was so for some seconds."""
+    batch, _ = one.sent[number]
+    one.note(batch, ({one.run.key(line): (b"", b"") for line in batch.lines}, seconds), "", ["h1"])
+    del one.engine.running[number]
 
 
 @pytest.mark.parametrize("order", ["mixed", "easy first", "hard first"])
-def test_the_whole_time_is_known_within_a_factor_of_two_from_a_tenth_of_the_work_on(clock, order):
-    lines, ends = positions(264, 8, 18, 3).splitlines(keepends=True), []
-    mixed = zip([b"".join(lines[at:at + 6]) for at in range(0, 264, 6)], TOOK)
-    texts, took = zip(*(mixed if order == "mixed" else EASY + HARD if order == "easy first" else HARD + EASY))
-    one = progress([folder.weight_of(solve.empties_of(solve.FRONT.findall(text)), 20) for text in texts], 6)
-    waiting, running, whole = list(range(len(took))), {}, sum(part.weight for part in one.run.parts)
-    while one.run.unsolved():
-        while waiting and len(running) < 2:
-            running[waiting.pop(0)] = clock.now
-        at_work(one, dict.fromkeys(running, "here"))
-        clock.now, number = min((since + took[number], number) for number, since in running.items())
-        del running[number]
-        at_work(one, dict.fromkeys(running, "here"), {number: took[number]})
-        if one.done < whole / 10:
-            assert "left" not in one.text()
-        elif one.run.unsolved():
+def test_the_whole_time_is_known_within_a_factor_of_two_from_a_tenth_of_the_work_on(folder, clock, order):
+    """A line of the mixed list took its share of what six took together, by its work. Two batches at a time, each with
+    its threads, share two processors."""
+    mixed, ends, left = positions(264, 8, 18, 3), [], {}
+    one = work({"mixed": mixed, "easy first": EASY + HARD, "hard first": HARD + EASY}[order])
+    parts = [one.run.works[at:at + 6] for at in range(0, 264, 6)]
+    took = [seconds * share / sum(part) for part, seconds in zip(parts, TOOK) for share in part]
+    if order != "mixed":
+        took = [EASY_SECONDS if share < 1e4 else HARD_SECONDS for share in one.run.works]
+    while one.unsolved:
+        while one.waiting and len(one.sent) < 2:
+            batch, _ = one.take()
+            left[batch.number] = sum(took[line] for line in batch.lines)
+            one.engine.running[batch.number] = "here", clock.now
+        share = min(1, 2 / sum(threads for _, threads in one.sent.values()))
+        speeds = {number: threads * share for number, (_, threads) in one.sent.items()}
+        number = min(left, key=lambda number: left[number] / speeds[number])
+        seconds = left.pop(number) / speeds[number]
+        left = {other: rest - seconds * speeds[other] for other, rest in left.items()}
+        clock.now += seconds
+        end(one, number, clock.now - one.engine.running[number][1])
+        if one.left() is not None:
             ends.append(clock.now + one.left())
-            assert re.search(r"^[0-9]+%, 0:[0-9:]+ left, ", one.text())
-    assert len(ends) > 30
-    for end in ends:
-        assert 0.5 < end / clock.now < 2, (end, clock.now)
+        assert (" left, " in one.text()) == bool(ends and one.engine.running)
+    assert len(ends) > 10
+    for expected in ends:
+        assert 0.5 < expected / clock.now < 2, (expected, clock.now)
 
 
-# Times of four parts: at each, {part that ended: its seconds}, and {part that is at work from then on: its host}.
+# Times of four batches: at each, {batch that ended: its seconds}, and {batch at work from then on: its host}.
 LOST = [(0, {}, {0: "h1", 1: "h2"}), (100, {0: 100}, {1: "h2", 2: "h1"}), (190, {}, {2: "h1"}), (193, {}, {})]
 
 
-@pytest.mark.parametrize("parts, lines, times, text", [
-    # The last two parts would take 150 seconds if two machines could share a part.
-    ([1, 1, 10, 1], 1, [(0, {}, {0: "h1", 2: "h2"}), (30, {0: 30, 3: 30}, {1: "h1", 2: "h2"})],
-     "50%, 0:04:30 left, 2 machines at work, parts 2 of 4"),
-    (10 * [1], 1, [(0, {}, {0: "h1", 1: "h1"}), (10, {0: 10, 1: 10}, dict.fromkeys(range(2, 8), "h1"))],
-     "20%, 0:00:40 left, 1 machine at work, parts 2 of 10"),  # two at a time: four were sent ahead
-    (4 * [1], 1, [(0, {}, {0: "h1"}), (10, {0: 10}, {0: "h1", 1: "h1"})],
-     "25%, 0:00:30 left, 1 machine at work, parts 1 of 4"),  # a part has been solved since it was seen at work
-    (4 * [1], 1, [(0, {}, {0: "h1"}), (10, {0: 10}, {0: "h1"})],
-     "25%, 0:00:30 left, 1 machine at work, parts 1 of 4"),  # all parts that were seen have been solved since
-    (4 * [1], 1, LOST[:2], "25%, 0:01:40 left, 2 machines at work, parts 1 of 4"),
-    (4 * [1], 1, LOST[:3], "25%, 0:03:30 left, 1 machine at work, parts 1 of 4"),  # a part waits again
-    (4 * [1], 1, LOST, "25%, no machine at work, parts 1 of 4"),
-    (4 * [1], 3, [*LOST[:1], (720, {}, LOST[0][2])],
-     "0%, 2 machines at work, parts 0 of 4; part 0000000 (lines 1 to 3) has been running for 0:12:00 on h1"),
-    (4 * [1], 3, [*LOST[:1], (720, {0: 720}, LOST[0][2])],  # part 0 has been solved since it was seen at work
-     "25%, 0:24:00 left, 2 machines at work, parts 1 of 4; part 0000001 (lines 4 to 6) has been running for 0:12:00 on "
-     "h2"),
-    (1200 * [1], 200, [(0, {}, {659: "h1"}), (55.4, dict.fromkeys(range(659), 55.4), {659: "h1"})],
-     "54%, 8:18:36 left, 1 machine at work, parts 659 of 1200"),
+@pytest.mark.parametrize("works, times, text", [
+    # The last two lines would take 150 seconds if two machines could share a line.
+    ([1, 1, 10, 1], [(0, {}, {0: "h1", 2: "h2"}), (30, {0: 30}, {2: "h2", 3: "h1"}), (60, {3: 30}, {1: "h1", 2: "h2"})],
+     "50%, 0:04:00 left, 2 machines at work, lines 2 of 4"),
+    (10 * [1], [(0, {}, {0: "h1", 1: "h1"}), (10, {0: 10, 1: 10}, dict.fromkeys(range(2, 8), "h1"))],
+     "20%, 0:00:40 left, 1 machine at work, lines 2 of 10"),  # two at a time: four were sent ahead
+    (4 * [1], LOST[:2], "25%, 0:01:40 left, 2 machines at work, lines 1 of 4"),
+    (4 * [1], LOST[:3], "25%, 0:03:30 left, 1 machine at work, lines 1 of 4"),  # a batch waits again
+    (4 * [1], LOST, "25%, no machine at work, lines 1 of 4"),
+    (12 * [0.33], [*LOST[:1], (720, {}, LOST[0][2])],
+     "0%, 2 machines at work, lines 0 of 12; line 1 and 2 others: running for 0:12:00 on h1"),
+    (1200 * [1], [(0, {}, dict.fromkeys(range(660), "h1")), (55.4, dict.fromkeys(range(659), 55.4), {659: "h1"})],
+     "54%, 8:18:36 left, 1 machine at work, lines 659 of 1200"),
 ])
-def test_progress_shows_the_time_left_the_machines_and_a_part_that_runs_long(clock, parts, lines, times, text):
-    one = progress(parts, lines)
+def test_progress_shows_the_time_left_the_machines_and_a_line_that_runs_long(folder, clock, works, times, text):
+    one = work(works=[share * engine.MOST_WORK for share in works])
+    batches = {entry[-1].number: entry[-1] for entry in one.waiting}
     for clock.now, ended, hosts in times:
-        at_work(one, hosts, ended)
+        for number, seconds in ended.items():
+            end(one, number, seconds)
+        for number in hosts.keys() - one.sent.keys():
+            one.sent[number] = batches[number], 1
+            one.waiting = [entry for entry in one.waiting if entry[-1].number != number]
+            one.rest -= batches[number].work
+        running = one.engine.running
+        one.engine.running = {number: running.get(number, (host, clock.now)) for number, host in hosts.items()}
+        one.engine.threads = 2 * len({*hosts.values()})
     assert one.text() == text
     one.engine.silent = 2
-    assert re.search(" at work, waiting for 2 silent workers, parts ", one.text())
+    assert re.search(" at work, waiting for 2 silent workers, lines ", one.text())
     one.engine.trouble = "silence"
-    assert re.search("^[0-9]+%, silence, parts ", one.text())
+    assert re.search("^[0-9]+%, silence, lines ", one.text())
 
 
-def test_a_part_that_has_failed_twice_is_tried_once_more_after_all_others_alone():
-    one, sent = progress(4 * [1]), []
+def test_a_line_that_has_failed_twice_is_tried_once_more_after_all_others_alone(folder, capfd):
+    one, sent = work(works=4 * [engine.MOST_WORK]), []
 
-    def send(part, failed):
-        sent.append((part.number, one.engine.most.call_args[1]["is_alone"]))
+    def send(batch, *words):
+        sent.append((batch.first, one.engine.most.call_args[1]["is_alone"]))
         done = Future()
-        done.set_result((part, *((mock.Mock(seconds=1), "") if part.number else (None, "why")), ["h1"]))
+        found = {one.run.key(line): (b"1", b"") for line in batch.lines}, 1
+        done.set_result((batch, *((found, "") if batch.first > 1 else (None, "why")), ["h1"]))
         return done
 
-    one.engine.send, one.engine.running = send, {1: ("h1", 0)}
-    engine.solve_parts(one.run, one.engine, quiet=True)
-    assert sent == [(0, False), (0, False), (1, False), (2, False), (3, False), (0, True)]
-    assert one.engine.running == {1: ("h1", 0)}  # as the engine saw it, so that brief parts show a machine at work
+    one.engine.send = send
+    engine.solve_lines(one.run, one.engine, quiet=True)
+    assert sent == [(1, False), (1, False), (2, False), (3, False), (4, False), (1, True)]
+    assert capfd.readouterr().err.endswith("ffosolve: not solved: line 1: why\n")
+    one.run.look_up()
+    assert one.run.unsolved == 1
 
 
-def test_trouble_is_told_at_once_in_a_log_and_again_after_a_minute(clock, monkeypatch):
-    one, done, told, times = progress([1]), Future(), [], iter((5, 10, 30, 66, 70, 200))
+def test_trouble_is_told_at_once_in_a_log_and_again_after_a_minute(folder, clock, monkeypatch):
+    one, done, told, times = work(works=[engine.MOST_WORK]), Future(), [], iter((5, 10, 30, 66, 70, 200))
 
     def look():
         clock.now = next(times)
         one.engine.trouble = "silence" * (clock.now >= 10)
         if clock.now == 200:
-            done.set_result((one.run.parts[0], mock.Mock(seconds=1), "", ["h1"]))
+            done.set_result((one.engine.send.call_args[0][0], ({one.run.key(0): (b"1", b"")}, 1), "", ["h1"]))
 
     one.engine.look, one.engine.send.return_value = look, done
     monkeypatch.setattr(os, "isatty", lambda _: False)
     monkeypatch.setattr(engine, "say", lambda text: told.append((clock.now, "silence" in text)))
-    engine.solve_parts(one.run, one.engine, quiet=False)
+    engine.solve_lines(one.run, one.engine, quiet=False)
     assert told == [(10, True), (70, True)]
 
 
-def test_work_grows_with_the_empty_squares_of_both_spellings():
-    growth = folder.GROWTH
-    for empty in (b"-", b"."):
-        text = (BOARD + b" X\n\n% -----\n" + b"-" * 30 + b"X" * 34 + b" X\n").replace(b"-", empty)
-        empties = solve.empties_of(solve.FRONT.findall(text))
-        assert folder.weight_of(empties, 20) == folder.PART + 2 * folder.LINE + growth ** 2
+def test_work_grows_with_the_empty_squares_of_both_spellings(folder):
+    growth, both = many_folder.GROWTH, BOARD + b" X\n\n% -----\n" + b"-" * 30 + b"X" * 34 + b" X\n-X\n"
+    for text in both, both.replace(b"-", b"."):
+        works = [*work(text).run.works]
+        assert works == pytest.approx([many_folder.LINE + growth ** 2, many_folder.LINE, many_folder.LINE])
     for empties, seconds in ((6, 0.83 / 0.0083), (8, 7.6 / 0.0083)):  # 20 and 22 empty squares against 14
         assert 0.5 < growth ** empties / seconds < 2
 
 
 def test_the_line_fits_a_terminal():
-    whole = "54%, 8:19:00 left, 1 machine at work, parts 659 of 1200"
+    whole = "54%, 8:19:00 left, 1 machine at work, lines 659 of 1200"
     for columns, line in ((64, whole), (39, "54%, 8:19:00 left"), (200, whole)):
         size = mock.patch.object(os, "get_terminal_size", return_value=os.terminal_size((columns, 24)))
         with size, mock.patch.object(_command_line, "name", "it"), mock.patch.object(os, "write") as written:
