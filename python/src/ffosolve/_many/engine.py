@@ -47,8 +47,8 @@ class Engine(Protocol):
     def most(self, is_alone: bool) -> int:
         """Returns how many batches may be sent at a time; if `is_alone`, each to a machine of its own."""
 
-    def send(self, batch: Batch, threads: int, failed: List[str]) -> Future[Outcome]:
-        """Begins to solve a batch with some threads, if possible elsewhere than where it has `failed`."""
+    def send(self, batch: Batch, text: bytes, threads: int, failed: List[str]) -> Future[Outcome]:
+        """Begins to solve a batch, `text`, with some threads, if possible elsewhere than where it has `failed`."""
 
 
 class Work:
@@ -56,7 +56,7 @@ class Work:
 
     def __init__(self, run: Run, engine: Engine) -> None:
         self.run, self.engine = run, engine
-        self.waiting: List[Tuple[int, int, float, int, Batch]] = []  # a heap, which begins with 1 for a last try
+        self.waiting: List[Tuple[int, int, float, int, Batch]] = []  # a heap; the first number is 1 for a last try
         self.sent: Dict[int, Tuple[Batch, int]] = {}  # {number: (batch, threads)}
         self.failed: DefaultDict[int, List[str]] = defaultdict(list)  # {number: where that batch failed}
         self.ready: Dict[bytes, Answer] = {}  # to be stored
@@ -199,17 +199,17 @@ class Threads(Engine):
     def most(self, is_alone: bool) -> int:
         return self.threads
 
-    def send(self, batch: Batch, threads: int, failed: List[str]) -> Future[Outcome]:
+    def send(self, batch: Batch, text: bytes, threads: int, failed: List[str]) -> Future[Outcome]:
         future: Future[Outcome] = Future()
         self.running[batch.number] = HERE, time.monotonic()
         future.add_done_callback(lambda _: self.running.pop(batch.number))
-        self.tasks.put((future, (batch, threads)))
+        self.tasks.put((future, (batch, text, threads)))
         return future
 
-    def solve(self, batch: Batch, threads: int) -> Outcome:
+    def solve(self, batch: Batch, text: bytes, threads: int) -> Outcome:
         """Solves a batch, and tests the known line if that fails. While others work, waits until a process may start.
         """
-        run, text, why = self.run, self.run.text(batch.lines), BUSY
+        run, why = self.run, BUSY
         while why.endswith(BUSY):
             record, why = run.pack.solve(run.pack.program, text, threads, run.each)
             if why.endswith(BUSY) and len(self.running) < 2:
@@ -229,7 +229,7 @@ def solve_lines(run: Run, engine: Engine, quiet: bool) -> None:
     while work.waiting or sent:
         while work.waiting and len(sent) < engine.most(is_alone=work.waiting[0][0] > 0):
             batch, threads = work.take()
-            sent.add(engine.send(batch, threads, work.failed[batch.number]))
+            sent.add(engine.send(batch, run.text(batch.lines), threads, work.failed[batch.number]))
         if (now := time.monotonic()) >= due:
             due = now + (1 if sent else 0.2)
             engine.look()

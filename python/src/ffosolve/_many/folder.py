@@ -15,7 +15,7 @@ from .._obf import SIDE, side_as_read
 from .._text import shown, text_lines, typed
 from .rows import Answer, Keys, answers_in, asked, images_of, without_end
 from .solve import BATCH_BYTES, KNOWN, Pack, Task, content_of, opened, sealed, sha256, unsealed
-from .store import MARK, NAMED, Damaged, Store
+from .store import MARK, NAMED, Damaged, Row, Store
 
 LOCK, SIGN = "run.lock", b"ffosolve-many works here\n"
 GROWTH = 2.35  # factor of the work for each further empty square, as measured from 14 to 22 of them
@@ -149,11 +149,11 @@ class Run:
 
     def text(self, lines: Sequence[int]) -> bytes:
         """Returns lines of the list, which ends now where it ended when it was read."""
-        with refusing("read", self.name), open(f"/proc/self/fd/{self.list.fileno()}", "rb") as file:
-            found = []
+        found = []
+        with refusing("read", self.name):
             for line in lines:
-                file.seek(self.starts[line])
-                found.append(without_end(file.readline(self.end - self.starts[line])))
+                self.list.seek(self.starts[line])
+                found.append(without_end(self.list.readline(self.end - self.starts[line])))
         # One CR at the end of a line is no part of it.
         return b"\n".join([line + b"\r" if line.endswith(b"\r") else line for line in found])
 
@@ -225,14 +225,15 @@ class Run:
     def chunks(self) -> Iterator[List[Tuple[int, Answer]]]:
         """Yields, in pieces, each line's number and answer; for one that is not solved, the row is b"". Raises Damaged
         if the answer to another line is found."""
-        none = (0, b"", b"", b"")
+        none: Row = (0, b"", b"", b"")
         for at in range(0, self.count, CHUNK):
             ids, numbers = self.ids[at:at + CHUNK], self.numbers[at:at + CHUNK]
             rows = self.store.rows({*ids} - {0})
             keys = [rows[one][1] if one else self.key(line) for line, one in enumerate(ids, at)]
             if b"".join(keys) != self.digests[KEY * at:KEY * (at + CHUNK)]:
                 raise Damaged("the answer to another line")
-            yield [(number, rows.get(one, none)[2:4]) for number, one in zip(numbers, ids)]
+            yield [(number, (row, more)) for number, (_, _, row, more, *_) in
+                   zip(numbers, (rows.get(one, none) for one in ids))]
 
     def output(self, entries: Optional[List[bytes]]) -> Iterator[bytes]:
         """Yields, in pieces, what the program would print if it solved the whole list at once. Notes its status. Adds

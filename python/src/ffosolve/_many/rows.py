@@ -65,7 +65,7 @@ def answers_in(record: bytes) -> Tuple[Dict[bytes, Answer], float]:
     size, end = about["sizes"][0], sum(about["sizes"])
     text, output, book = rest[:size], rest[size:end], rest[end:]
     keys = Keys(about["program"], about["options"])
-    lines = [asked(line, keys.is_scores) for line in text.removesuffix(b"\n").split(b"\n")]
+    lines = [asked(line, keys.is_scores) for line in text.split(b"\n")]
     answers = scores_in(output, lines) if keys.is_scores else rows_in(output, book, lines)
     return {keys.of(line[0], line[3]): answer for line, answer in zip(lines, answers) if line[0]}, about["seconds"]
 
@@ -93,7 +93,8 @@ def rows_in(output: bytes, book: bytes, lines: List[Asked]) -> List[Answer]:
         entry = b"" if row.startswith(b"refused: ") else entries.get(image, b"")
         used.add(image if entry else b"")
         found.append((row, entry))
-        if place != b"%d" % number or not entry and not row.startswith(b"refused: ") or entry and entry[20:23] != row[:3]:
+        is_refused = row.startswith(b"refused: ")
+        if place != b"%d" % number or not (is_refused or entry) or entry and entry[20:23] != row[:3]:
             raise ValueError("a row of another line, or without its entry")
     if head != b"[1]" or nothing or not end.startswith(b"solved ") or [*rest] or len(used - {b""}) != len(entries):
         raise ValueError("another number of rows, or an entry without a row")

@@ -198,7 +198,7 @@ def numbers_in(words: List[str], count: int) -> Set[int]:
     """Returns the numbers below `count` in `words` such as 0000003 or 0-99. Raises ValueError for a word without."""
     found = [re.fullmatch("([0-9]{1,7})(?:-([0-9]{1,7}))?", word) for word in words]
     ranges = [range(int(word[1]), min(count, int(word[2] or word[1]) + 1)) for word in found if word]
-    if not words or len(ranges) < len(words) or not all(ranges):
+    if not words or len(ranges) < len(words) or count and not all(ranges):
         raise ValueError(f"name batches from 0 to {count - 1}, such as 0-{count - 1}: '{' '.join(words)}'")
     return {number for some in ranges for number in some}
 

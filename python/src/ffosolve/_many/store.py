@@ -118,7 +118,7 @@ class Store:
                 yield whole
                 last = max([row[0] for row in whole], default=0)
                 skips += last < at
-                at = 1 + (last if last >= at else max(at + SKIPPED, *[row[0] for row in rows[:1]]))
+                at = 1 + (last if last >= at else max([at + SKIPPED] + [row[0] for row in rows[:1]]))
 
     def selected(self, what: str, column: str, values: Collection[Any]) -> Iterator[Row]:
         """Yields what is asked of the rows with certain values in a column."""
