@@ -26,7 +26,7 @@ from .store import Damaged
 
 NAME = "ffosolve-many"
 EXCLUDED = {"scheduler": {"jobs", "cut"}, "scores": {"book_in", "book_out"},
-            "cut": {"prune", "partial", "each", "jobs", "book_out"}}  # {option: not with it}
+            "cut": {"prune", "each"}}  # {option: not with it}
 GONE = {"--lines": "batches are cut by their work", "--workers": "--jobs N says how many processors to use",
         "--hosts": "--scheduler names a cluster of machines", "--sweep": "nothing is left on other machines"}
 MOST_DAMAGED = 3  # times that a database is found damaged, and is made anew
