@@ -317,10 +317,10 @@ def exact_scores(folders: Dict[str, List[Position]], words: List[str]) -> Dict[P
         raise Refusal(f"{SOLVER} is missing: it has to be next to ffosolve-games, in {here}, or on the path", MISSING)
     command = ["setpriv", "--pdeathsig", "TERM", program, f"--max-empties={MOST_EMPTIES}"]
     scores: Dict[Position, int] = {}
-    for options in [["--cut"]] * (len(folders) > 1) + [words]:
-        is_shown = options is words and "--cut" in words
+    for options in [["--cut"]] * (len(folders) > 1 and "--cut" not in words) + [words]:
+        is_shown = "--cut" in words
         for folder, positions in folders.items():
-            text = "".join(f"{position.to_obf('X')}\n" for position in positions)
+            text = "".join(f"{position.to_obf('X')}\n" for position in positions if options is words)
             with refusing("run", SOLVER):
                 ran = subprocess.run([*command, *options, "--", folder, "-"], input=text, encoding="utf-8",
                                      errors="surrogateescape", stdout=None if is_shown else subprocess.PIPE)

@@ -198,8 +198,6 @@ def run_of(command: argparse.Namespace, programs: str) -> Run:
 
 def print_cut(run: Run) -> int:
     """Prints how many lines are solved, and the command that solves the others. Returns a status."""
-    run.take_results()
-    run.look_up()
     run.prepare()
     groups = itertools.groupby(enumerate(run.write_batches()), lambda pair: pair[1] - pair[0])
     ranges = [[number for _, number in group] for _, group in groups]
@@ -210,13 +208,13 @@ def print_cut(run: Run) -> int:
 
 
 def solve(command: argparse.Namespace, run: Run) -> None:
-    """Looks a list up, and solves what is unsolved."""
+    """Takes what solve.py has solved, and solves what is unsolved."""
     run.take_results()
     run.look_up()
-    if not command.quiet:
+    if not command.quiet and not command.cut:
         say(f"{run.name}: {counted(run.count, 'line')}, {run.count - run.unsolved} of them solved before; folder "
             f"{shown(run.folder)}")
-    if run.unsolved:
+    if run.unsolved and not command.cut:
         run.prepare()
         if command.scheduler:
             from .cluster import Cluster
@@ -225,7 +223,7 @@ def solve(command: argparse.Namespace, run: Run) -> None:
             engine = Threads(run, command.jobs or len(os.sched_getaffinity(0)))
         unsolved = solve_lines(run, engine, command.quiet)
         run.look_up()
-        if len(run.to_solve()) > unsolved:
+        if run.unsolved and len(run.to_solve()) > unsolved:
             raise Damaged("answers are gone")
 
 
@@ -241,32 +239,36 @@ def results(command: argparse.Namespace, run: Run) -> Tuple[IO[bytes], List[byte
     return report, entries
 
 
+def found_results(command: argparse.Namespace, run: Run) -> Tuple[IO[bytes], List[bytes]]:
+    """Solves what is unsolved, and returns `results`. Does so again if the database turns out to be damaged."""
+    for _ in range(MOST_DAMAGED):
+        with contextlib.suppress(Damaged):
+            solve(command, run)
+            return results(command, run)
+        run.store.make_anew()
+        run.forget()
+    raise Refusal(f"{shown(run.store.name)} is damaged again and again: is its disk sound?")
+
+
 def solve_list(command: argparse.Namespace, programs: str) -> int:
     """Solves a command's list, prints results, writes any --book-out; --cut: only cuts the list. Returns the status."""
     if command.scheduler:
         from . import cluster  # noqa: F401  # refuses if its package is missing
     run = run_of(command, programs)
-    for _ in range(MOST_DAMAGED):
-        with contextlib.suppress(Damaged):
-            if command.cut:
-                return print_cut(run)
-            solve(command, run)
-            report, entries = results(command, run)
-            break
-        run.store.make_anew()
-    else:
-        raise Refusal(f"{shown(run.store.name)} is damaged again and again: is its disk sound?")
-    print_all(iter(lambda: report.read(1 << 20), b""))
-    if command.book_out and (command.partial or not run.unsolved):
-        header = f"{BOOK_HEADER}{run.task['options']['--scoring']}\n".encode()
-        distinct = (unpacked(entry) for entry, _ in itertools.groupby(entries))
-        replace(command.book_out, itertools.chain([header], distinct))
-    if run.unsolved:
-        raise Refusal(f"not solved: {run.unsolved} of {counted(run.count, 'line')}. The same command solves only these",
-                      UNREADABLE if command.scores else REMARKED)
-    if command.prune:
-        run.prune()
-    run.store.db.close()
+    with contextlib.closing(run.store):
+        report, entries = found_results(command, run)
+        if command.cut:
+            return print_cut(run)
+        print_all(iter(lambda: report.read(1 << 20), b""))
+        if command.book_out and (command.partial or not run.unsolved):
+            header = f"{BOOK_HEADER}{run.task['options']['--scoring']}\n".encode()
+            distinct = (unpacked(entry) for entry, _ in itertools.groupby(entries))
+            replace(command.book_out, itertools.chain([header], distinct))
+        if run.unsolved:
+            raise Refusal(f"not solved: {run.unsolved} of {counted(run.count, 'line')}. The same command solves only "
+                          "these", UNREADABLE if command.scores else REMARKED)
+        if command.prune:
+            run.prune()
     return run.status
 
 

@@ -13,7 +13,7 @@ from datetime import timedelta
 from typing import Any, DefaultDict, Dict, List, Optional, Protocol, Set, Tuple
 
 from .._command_line import Refusal, counted, say, show
-from .folder import MOST_WORK, SECOND, START, Batch, Found, Run
+from .folder import LEAST_WORK, MOST_WORK, SECOND, START, Batch, Found, Run
 from .rows import Answer
 from .solve import BUSY, LATE
 
@@ -59,7 +59,7 @@ class Work:
         self.waiting: List[Tuple[int, int, float, int, Batch]] = []  # a heap; the first number is 1 for a last try
         self.sent: Dict[int, Tuple[Batch, int]] = {}  # {number: (batch, threads)}
         self.failed: DefaultDict[int, List[str]] = defaultdict(list)  # {number: where that batch failed}
-        self.ready: Dict[bytes, Answer] = {}  # to be stored
+        self.ready: List[Tuple[int, Tuple[bytes, Answer]]] = []  # lines, keys and answers to be stored
         self.rest = self.done = self.seconds = 0.0  # `rest` is the work of what waits
         self.named = 0  # lines that fail
         lines = run.to_solve()
@@ -92,7 +92,7 @@ class Work:
         many as are needed to solve it in the time in which its share of the processors could solve all that is left."""
         jobs = max(1, self.engine.threads)
         left = max(START, self.rest + sum(work for work, _ in self.rests()))
-        most = max(2 * START, min(MOST_WORK / SECOND / self.rate, left / (SHARE * jobs)))
+        most = max(LEAST_WORK, min(MOST_WORK / SECOND / self.rate, left / (SHARE * jobs)))
         batch = self.pop()
         if batch.work > most and batch.lines[1:] and not batch.depth and not self.failed[batch.number]:
             for piece in self.run.cut(batch.lines, 1.001 * batch.work / math.ceil(batch.work / most)):
@@ -107,7 +107,7 @@ class Work:
         _, threads = self.sent.pop(batch.number)
         failed = self.failed[batch.number]
         if found:
-            self.ready.update(found[0])
+            self.ready += zip(batch.lines, found[0].items())
             self.unsolved -= len(batch.lines)
             self.done, self.seconds = self.done + batch.work, self.seconds + found[1] * threads
             return
@@ -238,7 +238,7 @@ def solve_lines(run: Run, engine: Engine, quiet: bool) -> int:
         for future in done:
             work.note(*future.result())
         if work.ready and (time.monotonic() >= stored + COMMIT_SECONDS or not sent and not work.waiting):
-            run.store.add(work.ready.items())
-            work.ready, stored = {}, time.monotonic()
+            run.keep(work.ready)
+            work.ready, stored = [], time.monotonic()
     show("")
     return work.unsolved

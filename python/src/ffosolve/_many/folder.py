@@ -21,7 +21,7 @@ LOCK, SIGN = "run.lock", b"ffosolve-many works here\n"
 GROWTH = 2.35  # factor of the work for each further empty square, as measured from 14 to 22 of them
 LINE, START = GROWTH ** 7, GROWTH ** 14  # the work of any line (10 microseconds) and of a program's start
 SECOND = 40e6  # the work that one processor does in a second, until batches have shown how much
-MOST_WORK = 10 * SECOND  # of a batch with more than one line
+MOST_WORK, LEAST_WORK = 10 * SECOND, SECOND / 4  # of a batch: it is cut if it has more, and never into less
 CHUNK = 10_000  # lines that are looked up or printed at a time; also the most in a batch
 HARD = GROWTH ** 12  # the work from which on equal positions are solved together; others take less than a millisecond
 KEY = 16  # bytes of a key
@@ -56,7 +56,8 @@ def inspect(folder: Path) -> None:
             if about.st_mode & 0o022 and not stat.S_ISLNK(about.st_mode):
                 raise Refusal(f"other users may write {shown(path)}: name another folder, or type chmod go-w "
                               f"{typed(path)}", MISUSED)
-    if found and content_of(place / LOCK) != SIGN and found != [LOCK]:
+    is_begun = found == [LOCK] and not os.path.getsize(place / LOCK)
+    if found and content_of(place / LOCK) != SIGN and not is_begun:
         with contextlib.suppress(OSError), open(os.open(place / NAMED, os.O_RDONLY | os.O_NONBLOCK), "rb") as file:
             if file.read(72)[-4:] == MARK:
                 return
@@ -94,7 +95,7 @@ class Run:
         self.known_key = self.keys.of(b"\n", KNOWN.count(b"-"))  # no line has that text
         self.digests = bytearray()  # the keys of the lines
         self.numbers, self.starts = array.array("L"), array.array("q")  # in the list, from 1; offsets in bytes
-        self.works, self.ids = array.array("f"), array.array("q")  # an id of the store, or 0 for a line without answer
+        self.works, self.ids = array.array("f"), array.array("q")  # an id in the store, 0 for a line without answer
         self.batches, self.size, self.end, self.status = itertools.count(), 0, 0, 0
         with refusing("read", name):
             self.list = source.open("rb")
@@ -104,6 +105,7 @@ class Run:
         with refusing("write", folder):
             self.place, has_locks = lock(folder)
             self.store = Store(folder, self.place, self.mode, has_locks)
+        self.forget()
 
     def read(self) -> None:
         """Notes the key, the place and the work of each line. Warns of a side such as `blanc`, once."""
@@ -121,6 +123,10 @@ class Run:
                     is_warned = True
             self.end += len(line)
 
+    def forget(self) -> None:
+        """Forgets the ids of all answers."""
+        self.ids = array.array("q", bytes(8 * self.count))
+
     @property
     def count(self) -> int:
         return len(self.numbers)
@@ -133,19 +139,27 @@ class Run:
         return bytes(self.digests[KEY * line:KEY * line + KEY])
 
     def look_up(self) -> None:
-        """Finds the ids of the answers to all lines."""
-        self.ids = array.array("q")
+        """Finds the ids of the answers to lines that have none yet."""
         for at in range(0, self.count, CHUNK):
-            keys = [self.key(line) for line in range(at, min(self.count, at + CHUNK))]
-            found = self.store.ids_of({*keys})
-            self.ids.extend([found.get(key, 0) for key in keys])
+            keys = {line: self.key(line) for line, one in enumerate(self.ids[at:at + CHUNK], at) if not one}
+            found = self.store.ids_of({*keys.values()})
+            for line, key in keys.items() if found else ():
+                self.ids[line] = found.get(key, 0)
+
+    def keep(self, answers: Sequence[Tuple[int, Tuple[bytes, Answer]]]) -> None:
+        """Stores each (line, (key, answer))."""
+        first = self.store.add([answer for _, answer in answers])
+        for number, (line, _) in enumerate(answers, first):
+            self.ids[line] = number
 
     def take_results(self) -> None:
         """Moves what solve.py has solved into the store. Files that are damaged stay."""
         for path in sorted((self.place / "results").glob("?" * 64)):
             with contextlib.suppress(ValueError, LookupError, TypeError):
-                self.store.add(answers_in(content_of(path))[0].items())
-                path.unlink()
+                found, _ = answers_in(content_of(path))
+                self.store.add(found.items())
+                if self.store.ids_of(found).keys() == found.keys():
+                    path.unlink()
 
     def text(self, lines: Sequence[int]) -> bytes:
         """Returns lines of the list, which ends now where it ended when it was read."""
@@ -196,6 +210,8 @@ class Run:
 
     def prepare(self) -> None:
         """Makes the `pack` and tests it, by what programs have answered to the known line in this folder before."""
+        with refusing("write", self.folder):
+            os.close(os.open(self.place / LOCK, os.O_RDWR | os.O_CREAT, 0o644))
         contents = {name: content for name, (content, _) in self.files.items()}
         known = self.store.rows(self.store.ids_of([self.known_key]).values())
         self.task.update(files={name: sha256(content) for name, content in contents.items()},
@@ -213,7 +229,7 @@ class Run:
         """Returns what a record of a batch has, or None if it is damaged or not complete."""
         with contextlib.suppress(ValueError):
             found = answers_in(record)
-            if all(self.key(line) in found[0] for line in batch.lines):
+            if [*found[0]] == [self.key(line) for line in batch.lines]:
                 return found
         return None
 
@@ -262,8 +278,6 @@ class Run:
         """Writes solve.py and what it needs to solve the lines that are not solved, in batches. Returns their numbers.
         Batches of an earlier command keep theirs if all their lines are wanted; others go."""
         wanted, folder, kept = {self.key(line): line for line in self.to_solve()}, self.place / "batches", []
-        for name in ("batches", "results"):
-            (self.place / name).mkdir(0o755, exist_ok=True)
         for path in sorted(folder.glob("[0-9]" * 7)):
             lines = [asked(line, self.keys.is_scores) for line in unsealed(content_of(path)).split(b"\n")]
             keys = {self.keys.of(line[0], line[3]) for line in lines}
@@ -276,10 +290,12 @@ class Run:
         texts = [self.text(batch.lines) for batch in self.cut([*wanted.values()], MOST_WORK)]
         kept += range(first, first + len(texts))
         self.task["batches"] = max(kept, default=-1) + 1
+        for name in ("batches", "results") if kept else ():
+            (self.place / name).mkdir(0o755, exist_ok=True)
         code = Path(__file__).with_name("solve.py").read_bytes()
         files = {**self.files, "solve.py": (code, 0o644), "task": (sealed(json.dumps(self.task).encode()), 0o644),
                  **{f"batches/{number:07d}": (sealed(text), self.mode) for number, text in enumerate(texts, first)}}
-        for name, (content, mode) in files.items():
+        for name, (content, mode) in files.items() if kept else ():
             write_whole({str(self.place / name): [content]}, replaces=True, mode=mode & 0o755)
         return kept
 

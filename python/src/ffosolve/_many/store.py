@@ -7,7 +7,7 @@ import zlib
 from pathlib import Path
 from typing import Any, Collection, Dict, Iterable, Iterator, List, Optional, Set, Tuple
 
-from .._command_line import Refusal
+from .._command_line import Refusal, say
 from .._text import shown
 
 NAMED = "answers"  # the file; a version with another table has another name for it
@@ -50,7 +50,7 @@ class Store:
             for path in place.glob(f"{NAMED}.new*") if self.writes else ():
                 path.unlink()
             if self.writes:
-                with open(os.open(self.path, os.O_RDWR | os.O_CREAT, mode)) as file:
+                with open(os.open(self.path, os.O_RDWR | os.O_CREAT | os.O_NOFOLLOW, mode)) as file:
                     os.fchmod(file.fileno(), os.fstat(file.fileno()).st_mode & mode)
         try:
             self.db = self.opened()
@@ -85,6 +85,8 @@ class Store:
     def make_anew(self, wanted: Optional[Set[int]] = None) -> None:
         """Makes the database anew, of its intact rows or, of these, the wanted ones. They keep their ids."""
         new = Path(f"{self.path}.new")
+        if wanted is None:
+            say(f"{shown(self.name)} is damaged, and is made anew of its intact answers")
         with self.checked():
             os.close(os.open(new, os.O_RDWR | os.O_CREAT | os.O_TRUNC, self.path.stat().st_mode & 0o777))
             with contextlib.closing(self.opened(".new")) as copy:
@@ -102,6 +104,9 @@ class Store:
             Path(f"{self.path}-journal").unlink(missing_ok=True)  # it is about the old file
             os.replace(new, self.path)
         self.db = self.opened()
+
+    def close(self) -> None:
+        self.db.close()
 
     def walk(self) -> Iterator[List[Row]]:
         """Yields the intact rows. Passes over what can't be read, and never back, as a damaged tree may lead."""
@@ -139,8 +144,9 @@ class Store:
             raise Damaged("a row is wrong or missing")
         return rows
 
-    def add(self, answers: Iterable[Tuple[bytes, Tuple[bytes, bytes]]]) -> None:
-        """Writes each (key, (row, more)) whose key has no row, in one transaction."""
+    def add(self, answers: Iterable[Tuple[bytes, Tuple[bytes, bytes]]]) -> int:
+        """Writes each (key, (row, more)) whose key has no row, in one transaction. Returns the first id; `rows` finds
+        an id missing if its key had a row that damage has hidden."""
         rows = [(number, key, *answer, sum_of(number, key, *answer)) for number, (key, answer) in
                 enumerate(answers, self.next)]
         with self.checked():
@@ -148,3 +154,4 @@ class Store:
             self.db.executemany("INSERT OR IGNORE INTO answers VALUES (?,?,?,?,?)", rows)
             self.db.execute("COMMIT")
         self.next += len(rows)
+        return self.next - len(rows)
