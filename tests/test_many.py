@@ -13,7 +13,7 @@ import pytest
 from ffosolve import __version__, _command_line
 from ffosolve._many import books, engine
 from ffosolve._many import folder as many_folder
-from tests.many import ACTING, BOARD, BRIEF, WORDS, files, over
+from tests.many import ACTING, BOARD, BRIEF, WORDS, files, over, run_of
 from tests.support import (NOBODY, ROOT, SECONDS, cannot_write, ends, limited, need, positions, run, stored, wait_until,
                            worked_rows, write)
 
@@ -423,12 +423,9 @@ EASY_SECONDS, HARD_SECONDS = 0.00001, 0.20  # for each line
 def work(text=None, works=()):
     """Returns an engine.Work (what is left to do) for a list, or for lines that are as much `works`, each a batch of its
     own if it is so much as the largest batch."""
-    write("list.obf", text or over(len(works), 20))
-    task = {"program": "ffosolve", "options": {"--max-empties": 20, "--scoring": "winner", "--complete": None}}
-    run = many_folder.Run(Path.cwd() / os.urandom(4).hex(), task, Path("list.obf"), "list.obf", {}, None)
-    run.look_up()
-    run.works = type(run.works)("f", works) if works else run.works
-    return engine.Work(run, mock.Mock(tries=3, trouble="", silent=0, running={}, threads=2, discounted=set(),
+    one = run_of(text or over(len(works), 20))
+    one.works = type(one.works)("f", works) if works else one.works
+    return engine.Work(one, mock.Mock(tries=3, trouble="", silent=0, running={}, threads=2, discounted=set(),
                                       most=mock.Mock(return_value=1)))
 
 
