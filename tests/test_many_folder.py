@@ -193,3 +193,440 @@ def test_equal_positions_of_other_spellings_are_solved_together(case):
     together = Path("asked").read_bytes().split(b"\n")
     first = together.index(texts[0])
     assert together[first:first + 8] == texts
+
+
+# Runs ffosolve-many, the program of the first argument, with the others in each of the folders on standard input, one
+# after the other: each in a process of its own, which is a copy of this one. There, the text `prepare` in a file
+# `prepare.py` is run first, if there is one. Standard output goes to the file report, standard error to messages.
+# Prints the statuses.
+EACH = """\
+import os, sys
+del sys.argv[0]
+sys.path.insert(0, os.path.join(os.path.dirname(sys.argv[0]), "../python/src"))
+from ffosolve._many import command
+for name in sys.stdin.read().split():
+    if not (child := os.fork()):
+        os.chdir(name)
+        for number, file in enumerate((os.devnull, "report", "messages")):
+            os.dup2(os.open(file, os.O_RDWR | os.O_CREAT | os.O_TRUNC), number)
+        if os.path.exists("prepare.py"):
+            exec(open("prepare.py").read())
+        command.main()
+    print(os.waitstatus_to_exitcode(os.waitpid(child, 0)[1]))
+"""
+
+
+def each(by, names, *words):
+    """Runs `by` with `words` in each of the folders. Returns [(status, report, messages)]."""
+    code = write("each.py", EACH)
+    statuses = run(sys.executable, code, by, *words, input="\n".join(names), text=True, check=True, timeout=900).stdout
+    return [(int(status), Path(name, "report").read_bytes(), Path(name, "messages").read_text())
+            for status, name in zip(statuses.split(), names)]
+
+
+EACH_WORDS = ("--jobs=1", "work", "../list.obf", "--book-out=joined.book")
+
+
+def all_right(case, names, ran, message=""):
+    """Asserts that each run printed the report and the book, and had `message`. Returns how many lines each found, at
+    last if it found its store damaged."""
+    for name, (status, report, told) in zip(names, ran):
+        assert (status, report) == (0, case.one) and message in told, (name, told)
+        case.same_book(f"{name}/joined.book")
+    return [int(re.findall(r": \d+ lines, (\d+) of them solved before", told)[-1]) for _, _, told in ran]
+
+
+def copies(folder, count):
+    """Makes folders 0, 1, .. in which `work` is a copy of a folder. Returns their names."""
+    for at in range(count):
+        shutil.rmtree(str(at), ignore_errors=True)
+        shutil.copytree(folder, f"{at}/work") if folder else os.mkdir(str(at))
+    return [*map(str, range(count))]
+
+
+LOCK, FLIPS = folder.LOCK, 40
+PAGE = 4096
+LEAF, INDEX = b"\r", (b"\2", b"\n")  # how a page begins that has rows, and one that has keys alone
+
+
+def most_lost(whole, at):
+    """Returns how many lines at most may have to be solved again once the byte at that place of a store is wrong."""
+    page = whole[at // PAGE * PAGE:][:PAGE]
+    if at < PAGE or page[:1] in INDEX:
+        return 0  # the first page is always the same, and keys are in the table, too
+    if page[:1] == LEAF and at % PAGE >= int.from_bytes(page[5:7], "big"):
+        return 16  # a row, maybe with those that follow it
+    return 60
+
+
+def test_wrong_bytes_in_the_store_cost_no_more_than_their_rows(case):
+    """A wrong byte in the text of a row costs that row alone."""
+    case.many(*WORDS)
+    whole, rng = Path("work/answers").read_bytes(), random.Random(1)
+    row = whole.index(b"agree") if b"agree" in whole else whole.index(b"unlisted")
+    places = [row] + [rng.randrange(2 * PAGE if at % 4 == 0 else len(whole)) for at in range(1, FLIPS)]
+    names = copies("work", FLIPS)
+    for name, at in zip(names, places):
+        damaged = bytearray(whole)
+        damaged[at] ^= rng.choice([1, 16, 128, 255, rng.randrange(1, 256)])
+        write(f"{name}/work/answers", bytes(damaged))
+    found = all_right(case, names, each(case.MANY, names, *EACH_WORDS))
+    assert found[0] == 59
+    for at, count in zip(places, found):
+        assert 60 - count <= most_lost(whole, at), at
+    assert all_right(case, names, each(case.MANY, names, *EACH_WORDS)) == [60] * FLIPS
+
+
+def test_a_store_that_is_cut_or_of_other_bytes_gives_no_wrong_row(case):
+    case.many(*WORDS)
+    whole, size = Path("work/answers").read_bytes(), os.path.getsize("work/answers")
+    spoiled = [whole[:size * part // 8] for part in range(8)] + [
+        whole[:50], whole[:PAGE], whole[:-1], bytes(size), os.urandom(size), b"a text\n", whole + whole, whole[PAGE:]]
+    names = copies("work", len(spoiled) + 2)
+    for name, text in zip(names, spoiled):
+        write(f"{name}/work/answers", text)
+    (one,) = sqlite3.connect("work/answers").execute("SELECT count(*) FROM answers").fetchone()
+    with sqlite3.connect(f"{names[-2]}/work/answers") as database:  # whose rows belong to other keys
+        keys = [key for key, in database.execute("SELECT key FROM answers ORDER BY id")]
+        database.execute("UPDATE answers SET key = id")
+        database.executemany("UPDATE answers SET key = ? WHERE id = ?", zip(keys[1:] + keys[:1], range(1, one + 1)))
+    database.close()
+    with sqlite3.connect(f"{names[-1]}/work/answers") as database:
+        database.execute("CREATE TABLE others(id INT)")
+    database.close()
+    found = all_right(case, names, each(case.MANY, names, *EACH_WORDS))
+    assert found[10] >= 30 and found[7] >= 20 and found[-2:] == [0, 60]
+    assert all_right(case, names, each(case.MANY, names, *EACH_WORDS)) == [60] * len(names)
+
+
+def test_an_answer_to_another_question_is_not_used(case):
+    """Each row is right in itself, but its key is that of another line, limit, scoring or program."""
+    case.many(*WORDS)
+    case.many("--scores", *WORDS[:2], output=run(case.MANY.with_name("ffoscores"), "list.obf").stdout)
+    with sqlite3.connect("work/answers") as database:
+        found = database.execute("SELECT * FROM answers ORDER BY id").fetchall()
+        database.execute("DELETE FROM answers")
+        keys = [key for _, key, *_ in found]
+        database.executemany("INSERT INTO answers VALUES (?, ?, ?, ?, ?)", [
+            (number, key, row, more, store.sum_of(number, old, row, more))
+            for key, (number, old, row, more, _) in zip(keys[-1:] + keys[:-1], found)])
+    database.close()
+    case.many(*WORDS, message=LOST.format(60))  # as it seems from the keys
+    case.many(*WORDS, message=LOST.format(60))
+
+
+DIE = """\
+import signal
+count = 0
+def trace(frame, event, argument):
+    global count
+    if frame.f_code.co_filename.endswith("/store.py"):
+        count += event == "line" and frame.f_code.co_name in {names}
+        if count == {number}:
+            os.kill(os.getpid(), signal.SIGKILL)
+        return trace
+sys.settrace(trace)
+"""
+
+
+def killed(case, folder, numbers, words, names=("__init__", "opened", "make_anew", "add", "walk", "prune")):
+    """Runs ffosolve-many in copies of a folder, and kills it at the lines of store.py with these numbers, counted as
+    they are run. Returns the names of the copies and the statuses."""
+    copied = copies(folder, len(numbers))
+    for name, number in zip(copied, numbers):
+        write(f"{name}/prepare.py", DIE.format(names=names, number=number))
+    statuses = [status for status, *_ in each(case.MANY, copied, *words)]
+    for name in copied:
+        os.unlink(f"{name}/prepare.py")
+    return copied, statuses
+
+
+def test_a_kill_at_any_line_of_the_store_loses_nothing_that_was_stored(case):
+    """Once in a new folder, once in one that is damaged, and once while other answers are removed."""
+    names, statuses = killed(case, "", range(2, 60, 6), EACH_WORDS)
+    assert statuses.count(-9) >= 5
+    all_right(case, names, each(case.MANY, names, *EACH_WORDS))
+    case.write_list(case.SMALL + positions(40, 2, 4, 9))
+    case.many(*WORDS)
+    case.write_list(case.SMALL)
+    for folder, words in (("damaged", EACH_WORDS), ("work", (*EACH_WORDS, "--prune"))):
+        if folder == "damaged":
+            shutil.copytree("work", folder)
+            with open("damaged/answers", "r+b") as file:
+                file.write(b"?")
+        names, statuses = killed(case, folder, range(3, 90, 11), words)
+        assert statuses.count(-9) >= 5
+        assert {*all_right(case, names, each(case.MANY, names, *EACH_WORDS))} == {60}
+        assert {file for name in names for file in os.listdir(f"{name}/work")} == {LOCK, "answers"}
+
+
+def test_a_full_disk_ends_the_run_and_it_goes_on_with_what_was_stored(case):
+    """At a limit on the size of files, each write beyond it fails: of a new store, and of one that is made anew."""
+    sizes, limit = range(2048, 24576, 2048), "import resource, signal\nsignal.signal(signal.SIGXFSZ, signal.SIG_IGN)\n"
+    limit += "resource.setrlimit(resource.RLIMIT_FSIZE, (BYTES, resource.RLIM_INFINITY))\n"
+    case.write_list(case.SMALL + positions(60, 2, 4, 9))
+    case.many("done", *WORDS[1:])
+    shutil.copytree("done", "damaged")
+    with open("damaged/answers", "r+b") as file:
+        file.write(b"?")
+    for place, least in (("", 0), ("damaged", 120)):
+        names = copies(place, len(sizes))
+        for name, size in zip(names, sizes):
+            write(f"{name}/prepare.py", limit.replace("BYTES", str(size)))
+        for name, (status, report, told) in zip(names, each(case.ACTS, names, *EACH_WORDS[:3])):
+            assert (status, report) in ((0, case.one), (3, b"")), told
+            assert status == 0 or re.search(r"^ffosolve-many: cannot write work(/answers)?: .*\n\Z", told, re.M), told
+            os.unlink(f"{name}/prepare.py")
+        stored = [case.solved(f"{name}/work") for name in names]
+        found = all_right(case, names, each(case.MANY, names, *EACH_WORDS))
+        assert min(found) >= least and (place or found == stored) and {0} < {*found} | {120}
+
+
+def test_a_folder_of_another_user_or_that_others_may_write_is_refused_and_not_used(case):
+    case.folder.chmod(0o777)
+    run(case.ACTS, "--cut", *WORDS[:2], **NOBODY)
+    if NOBODY:
+        case.refused(2, "work belongs to another user: name another folder\n", *WORDS, places={"WORDS": "words"})
+        shutil.rmtree("work")
+    run(case.ACTS, "--cut", *WORDS[:2], umask=0, check=True)
+    case.many(*WORDS, umask=0)
+    assert not [path for path in Path().glob("work/**/*") if path.lstat().st_mode & 0o022]
+    os.rename("work", "-my work")
+    for path, mode in (("", 0o775), ("", 0o757), ("/ffosolve-0", 0o777), ("/answers", 0o646)):
+        os.chmod(f"-my work{path}", mode)
+        command = f"chmod go-w './-my work{path}'\n"
+        words = ("--", "-my work", "list.obf")
+        message = f"other users may write -my work{path}: name another folder, or type {command}"
+        case.refused(2, message, *words, by=case.ACTS, places={"WORDS": f"{case.folder}/words"})  # runs no program
+        run("sh", "-c", command, check=True)
+        case.many(*words, message=LOST.format(60))
+    if NOBODY:
+        os.chown("-my work/answers", NOBODY["user"], 0)
+        case.refused(2, "-my work/answers belongs to another user: name another folder\n", *words)
+
+
+def test_a_list_of_others_options_and_programs_share_a_folder_and_only_what_is_its_own_stays_after_prune(case):
+    case.write_list(case.SMALL + positions(40, 2, 4, 9))
+    case.many(*WORDS)
+    case.many("--scores", *WORDS[:2], output=run(case.MANY.with_name("ffoscores"), "list.obf").stdout)
+    run(case.MANY, "--cut", "--scoring=sign", *WORDS[:2], check=True)
+    for name in ("work/notes", "work/results/mine.txt", "work/batches/mine", f"work/answers.new.{7 * '0'}"):
+        write(name, "?")
+    case.write_list(case.SMALL[68 * 10:] + b"FAIL 1\n")
+    case.many("--prune", *WORDS, by=case.ACTS, status=1)
+    assert case.solved() == 200
+    case.many("--prune", *WORDS, message=": 51 lines, 50 of them solved before")
+    assert case.solved() == 51
+    left = {str(path.relative_to("work")) for path in Path("work").rglob("*") if path.is_file()}
+    assert left >= {LOCK, "answers", "notes", "results/mine.txt", "batches/mine"}
+    assert not [name for name in left if re.search("answers.new|batches/0|results/[0-9a-f]{64}", name)]
+    case.many(*WORDS, message=": 51 lines, 51 of them solved before")
+    case.write_list(case.SMALL)
+    case.many(*WORDS, message=": 60 lines, 50 of them solved before")
+
+
+FAILING = r"not solved: (line \d+[^:]*): (.*)\n"
+
+
+def test_lines_that_fail_are_named_and_all_others_are_solved(case):
+    """A batch that fails three times is cut into eight, and so on."""
+    case.write_list(case.SMALL + b"FAIL 1\n" + positions(400, 2, 4, 9) + b"%\nDIE 1\n")
+    by = case.install("asked", script=ACTING)
+    for before, sent in ((0, 4 * 3 * 2), (460, 3 * 2)):
+        errors = case.many("--jobs=1", *WORDS, by=by, status=1, places={"WORDS": "words"},
+                           message=": 462 lines, {} of them solved before".format(before))
+        assert sorted(re.findall(FAILING, errors)) == [
+            ("line 463", "killed by SIGKILL"), ("line 61", "ffosolve: out of memory")]
+        assert errors.endswith("not solved: 2 of 462 lines. The same command solves only these\n")
+        assert re.findall(r": this machine failed (.*): (.*)\n", errors)[-1] in [
+            ("line 463", "killed by SIGKILL"), ("line 61", "ffosolve: out of memory")]
+        assert not os.path.exists("joined.book")
+        assert errors.count(" failed line ") <= sent
+        Path("words").unlink()
+    head, *rest = case.one.splitlines(keepends=True)
+    assert (b"61 refused: bad square at column 1\n", b"463 refused: bad square at column 1\n") == (rest[60], rest[461])
+    partial = [line for line in rest if b" refused: bad" not in line][:-1]
+    partial[60:60], partial[461:461] = [b"61 unsolved\n"], [b"463 unsolved\n"]
+    output = b"".join([head, *partial, b"solved 460 refused 0 unsolved 2\n"])
+    told = case.many("--partial", *WORDS, by=by, status=1, output=output)
+    assert len(re.findall(FAILING, told)) == 2
+    entries = Path("joined.book").read_bytes()
+    assert entries == Path("one.book").read_bytes()  # a line that is refused has no entry
+    scores = run(case.MANY.with_name("ffoscores"), "list.obf").stdout.splitlines(keepends=True)
+    case.many("--scores", "work2", "list.obf", by=by, status=3, message="not solved: 2 of 462 lines.")
+    scores[60], scores[462] = b"% unsolved: FAIL 1\n", b"% unsolved: DIE 1\n"
+    case.many("--scores", "--partial", "work2", "list.obf", by=by, status=3, output=b"".join(scores))
+    case.many(*WORDS, message=": 462 lines, 460 of them solved before")
+
+
+def test_no_more_than_ten_lines_that_fail_are_looked_for(case):
+    case.write_list(b"".join(b"FAIL %d\n" % number for number in range(70)) + case.SMALL)
+    by = case.install("asked", script=ACTING)
+    errors = case.many("--jobs=1", *WORDS, by=by, status=1, message="not solved: 70 of 130 lines.")
+    named = re.findall(FAILING, errors)
+    assert len([name for name, _ in named if "other" not in name]) == 10
+    assert len([name for name, _ in named if "other" in name]) <= 16
+    case.write_list(case.SMALL)
+    case.many(*WORDS, message=": 60 lines, 60 of them solved before")
+
+
+def test_a_line_that_takes_too_long_is_given_up_and_named(case):
+    """A hard line is a batch of its own; others are found by cutting their batch."""
+    slow = b"SLOW 1\n"
+    script = ACTING.replace("if is_batch:\n", "if b'SLOW' in text:\n    time.sleep(45)\nif is_batch:\n")
+    case.write_list(case.SMALL + slow + over(3, 24), "--max-empties=24")
+    by = case.install("slow", script=script)
+    begun = time.monotonic()
+    errors = case.many("--each=1", "--max-empties=24", *WORDS, by=by, status=1)
+    assert re.findall(FAILING, errors) == [("line 61", "takes more than 1 s")] and " failed " not in errors
+    assert errors.endswith("not solved: 1 of 64 lines. The same command solves only these\n")
+    assert time.monotonic() < begun + 40
+    case.many("--max-empties=24", *WORDS, message=": 64 lines, 63 of them solved before")
+
+
+def test_a_list_that_changes_while_it_is_solved_gives_no_wrong_report(case):
+    by = case.install("changing", *BRIEF, ("engine", "batch, threads = work.take()", "batch, threads = work.take(); "
+                      "open(run.name, 'r+b').write(run.list.seek(0) * b'' + b'?' * 68)"))
+    case.many(*WORDS, by=by, status=1, message="not solved: ")
+    case.write_list(case.SMALL)
+    case.many(*WORDS, message=LOST.format(59))
+    changed = "    report.seek(0)\n    return report, []\n"
+    by = case.install("changed", ("command", "    report: IO[bytes] = ", "    open(run.name, 'ab').write(b'?')\n    report: IO[bytes] = "))
+    case.many("--scores", *WORDS[:2], by=by, status=3, message="list.obf has changed meanwhile; the same command goes on")
+
+
+def test_a_folder_where_no_program_may_run_solves_a_list_with_programs_in_memory(case):
+    mount = 'mkdir work && mount -t tmpfs -o noexec,mode=755 none work && exec "$0" "$@"'
+    unshare, *words = unshared()
+    case.many(*words, "sh", "-c", mount, case.MANY, *WORDS, by=unshare)
+
+
+def test_a_program_that_fails_for_a_batch_and_then_for_a_known_line_ends_the_run(case):
+    script = '#!/bin/sh\necho >>runs; [ $(wc -l <runs) -le 5 ] || { echo broken >&2; exit 9; }; exec "@real@" "$@"\n'
+    by = case.install("breaking", *BRIEF, script=script)
+    errors = case.many("--jobs=1", *WORDS, by=by, status=4)
+    assert " failed " not in errors
+    assert errors.endswith("on this machine the program can't solve a known line: broken\n")
+    assert case.solved() == 15
+
+
+@pytest.mark.parametrize("spoil, status, message", [
+    ("lambda text: text.replace(b'+62', b'-62')", 4, "on this machine the program solves a known line wrong\n"),
+    ("lambda text: sys.exit('broken')", 4, "the program can't solve a known line: broken\n")])
+def test_a_program_of_other_results_solves_nothing_in_a_folder_with_right_ones(case, spoil, status, message):
+    """What is solved stays, and the right program goes on."""
+    case.write_list(case.SMALL[:680])
+    case.many(*WORDS)
+    case.write_list(case.SMALL)
+    spoiled = {"SPOIL_KNOWN": spoil.replace("lambda text: ", "lambda text: text if b'H1' not in text else (") + ")"}
+    case.many(*WORDS, by=case.ACTS, places=spoiled, status=status, message=message)
+    case.many(*WORDS, message=LOST.format(10))
+
+
+def test_files_that_others_may_not_read_stay_so_in_the_store_and_after_cut(case):
+    for name in ("list.obf", "one.book"):
+        os.chmod(name, 0o600)
+    run(case.MANY, "--cut", *WORDS[:2], "--book-in=one.book", check=True)
+    modes = {path.name: stat.S_IMODE(path.stat().st_mode) for path in Path("work").rglob("*") if path.is_file()}
+    assert {name for name, mode in modes.items() if not mode & 0o077} == {"answers", "book-in", "0000000"}
+    run(*SOLVE, "0", check=True)
+    (result,) = Path("work/results").iterdir()
+    assert stat.S_IMODE(result.stat().st_mode) == 0o600
+    watching = case.install("watching", ("store", 'self.db.execute("COMMIT")\n        self.next',
+                                         "print(oct(os.stat(f'{self.path}-journal').st_mode), file=__import__('sys')"
+                                         '.stderr)\n            self.db.execute("COMMIT")\n        self.next'))
+    case.many("new", *WORDS[1:], by=watching, message="0o100600\n")
+    with open("new/answers", "r+b") as file:
+        file.write(b"?")
+    case.many("new", *WORDS[1:], message=LOST.format(60))
+    os.chmod("list.obf", 0o644)
+    case.many("--prune", "new", *WORDS[1:])
+    assert stat.S_IMODE(os.stat("new/answers").st_mode) == 0o600
+
+
+def test_a_finished_folder_that_may_not_be_written_prints_its_report(case):
+    case.many(*WORDS[:2])
+    case.folder.chmod(0o777)
+    write("joined.book", "", 0o666)
+    os.chmod("work", 0o555)
+    before = files()
+    ran = run(case.MANY, *WORDS[:2], **NOBODY)
+    assert (ran.returncode, ran.stdout, files()) == (0, case.one, before) and LOST.format(60) in ran.stderr.decode()
+    case.write_list(case.SMALL + b"?\n")
+    case.refused(3, "cannot write work", "--quiet", *WORDS[:2], **NOBODY)
+    os.chmod("work", 0o755)
+
+
+def test_a_list_is_read_from_standard_input_from_where_it_stands_and_from_a_pipe(case):
+    case.many("work", "-", message="-: 60 lines, 0 of them", input=case.SMALL, umask=0o022)
+    assert stat.S_IMODE(os.stat("work/answers").st_mode) == 0o644
+    case.many("work", "/dev/stdin", message=LOST.format(60), input=case.SMALL)
+    assert {*os.listdir("work")} == {LOCK, "answers"}
+    with open("list.obf", "rb") as file:
+        case.many("work", "-", message=LOST.format(60), stdin=file)
+    case.refused(3, f"cannot copy - to {os.environ['TMPDIR']}: File too large", "work", "-", input=case.SMALL,
+                 preexec_fn=limited(RLIMIT_FSIZE=1000))
+    ends((3, "", "ffosolve-many: cannot read -: standard input is closed\n"), "sh", "-c", '"$0" work - <&-', case.MANY)
+    write("whole.obf", b"%\n\n" + case.SMALL)
+    for command in ('{ read a; read b; "$0" in - --book-out "$1"; } <whole.obf',
+                    '"$0" pipe <(cat list.obf) --book-in <(cat one.book) --book-out "$1"'):
+        case.many("-c", command, case.MANY, "joined.book", by="bash", message=": 60 lines, 0 of them")
+    assert os.listdir(os.environ["TMPDIR"]) == []
+
+
+def test_texts_that_are_not_lists_are_refused_and_no_batch_has_more_bytes_than_a_file_may_have(case):
+    for text, message in ((b"\xef\xbb\xbf" + case.SMALL, "it begins with a byte-order mark"),
+                          (case.SMALL.decode().encode("utf-16"), "it begins with a byte-order mark"),
+                          (case.SMALL.replace(b"\r", b"").replace(b"\n", b"\r"), "its lines end with CR alone"),
+                          (b"\r" + case.SMALL.partition(b"\n")[0].rstrip(), "its lines end with CR alone")):
+        write("other.obf", text)
+        case.refused(3, f"cannot read other.obf: {message}", "other.obf")
+        case.refused(3, f"cannot read -: {message}", "work", "-", input=text)
+    case.write_list(case.SMALL.partition(b"\n")[0].rstrip() + b"\r")  # its only line ends with CR but no LF
+    case.many("list.obf")
+    Path("empty").mkdir()
+    for name in ("a/b/work", "empty"):
+        case.refused(3, "cannot read -: its line 1 has more than 1048576 bytes\n", name, "-",
+                     input=b"%" * (MOST_BYTES + 1))
+    half = b"?" * (MOST_BYTES // 2 - 2)
+    for text, count in ([half + b"1\n", half + b"2\n"], 1), ([half + b"1\n", half + b"?2\n", b"??\n"], 2):
+        one = run_of(b"".join(text))
+        batches = [*one.cut(one.to_solve(), folder.MOST_WORK)]
+        assert len(batches) == count and max(len(one.text(batch.lines)) for batch in batches) <= MOST_BYTES
+
+
+def test_a_folder_with_other_files_or_of_an_earlier_version_is_refused_and_untouched(case):
+    """One that is empty, or was just begun, or whose program did not work at first, is used."""
+    message = ("{} has files that are not ffosolve-many's, or those of an earlier version, such as {}: name a new "
+               "or an empty folder\n")
+    for place, names, first in (("one", "copy", "copy"), ("two", "lock copy", "copy"), ("a.new", "a.new", "a.new"),
+                                ("three", "results/0000000 task list", "list"), ("mine", "run.lock", "run.lock"),
+                                ("ours", "answers run.lock", "answers"), ("own", "answers", "answers"),
+                                ("work", "lock asked.json run-0123456789ab/list", "asked.json")):
+        for name in names.split():
+            write(Path(place, name), "the work of ffosolve-many, form 1")
+        case.refused(2, message.format(place, first), place, "list.obf")
+    case.refused(2, message.format(".", "a.new"), ".", "list.obf")
+    Path("empty").mkdir()
+    write("locked/run.lock", "")
+    write("begun/run.lock", folder.SIGN)
+    write("opened/run.lock", folder.SIGN)
+    write("opened/answers", "")
+    for place in ("empty", "locked", "begun", "opened"):
+        case.many(place, "list.obf")
+        Path(place, LOCK).unlink()
+        case.many(place, "list.obf", message=LOST.format(60))
+    fails = {"SPOIL_KNOWN": "lambda text: sys.exit('broken') if b'H1' in text else text"}
+    for place, text in (("new", case.SMALL), ("other", case.SMALL[68:])):  # a list without results may change
+        case.many(place, "list.obf", by=case.ACTS, places=fails, status=4, message="solve a known line: broken\n")
+        case.write_list(text)
+        case.many(place, "list.obf")
+
+
+def test_a_store_that_is_no_file_of_its_own_is_named_and_what_it_leads_to_stays(case):
+    write("precious", "mine\n")
+    for place, make in (("link", lambda path: path.symlink_to("../precious")), ("folder", os.mkdir),
+                        ("nowhere", lambda path: path.symlink_to("none/answers"))):
+        write(f"{place}/run.lock", folder.SIGN)
+        make(Path(place, "answers"))
+        case.refused(3, f"cannot write {place}/answers: ", place, "list.obf")
