@@ -39,8 +39,8 @@ Solves a list of any length on all processors of this machine, or on many
 machines, and prints one report.
 """
 MORE = f"""\
-FOLDER keeps the answer to each line [default: LIST.parts]: a command solves only
-lines that it does not have, after an interruption or a change of LIST, too.
+FOLDER keeps the answers to lines [default: LIST.parts]: a command solves only
+lines without an answer there, after an interruption or a change of LIST, too.
 Options may stand anywhere; `--` ends them. `-` is standard input.
 
 examples:
@@ -196,40 +196,47 @@ def run_of(command: argparse.Namespace, programs: str) -> Run:
     return Run(folder, task, source, name, files, command.each)
 
 
-def print_cut(run: Run) -> None:
-    """Prints how many lines are solved, and the command that solves the others."""
+def print_cut(run: Run) -> int:
+    """Prints how many lines are solved, and the command that solves the others. Returns a status."""
+    run.take_results()
+    run.look_up()
     run.prepare()
     groups = itertools.groupby(enumerate(run.write_batches()), lambda pair: pair[1] - pair[0])
     ranges = [[number for _, number in group] for _, group in groups]
     words = [f"{one[0]}-{one[-1]}" if one[1:] else str(one[0]) for one in ranges]
     rest = f"; python3 {typed(run.folder / 'solve.py')} {' '.join(words)} solves the others" if words else ""
     print_all([os.fsencode(f"{counted(run.count, 'line')}, {run.count - run.unsolved} of them solved{rest}\n")])
+    return DONE
 
 
 def solve(command: argparse.Namespace, run: Run) -> None:
     """Looks a list up, and solves what is unsolved."""
+    run.take_results()
     run.look_up()
-    if not (command.quiet or command.cut):
+    if not command.quiet:
         say(f"{run.name}: {counted(run.count, 'line')}, {run.count - run.unsolved} of them solved before; folder "
             f"{shown(run.folder)}")
-    if run.unsolved and not command.cut:
+    if run.unsolved:
         run.prepare()
         if command.scheduler:
             from .cluster import Cluster
             engine: Engine = Cluster(command.scheduler, run)
         else:
             engine = Threads(run, command.jobs or len(os.sched_getaffinity(0)))
-        solve_lines(run, engine, command.quiet)
+        unsolved = solve_lines(run, engine, command.quiet)
         run.look_up()
+        if len(run.to_solve()) > unsolved:
+            raise Damaged("answers are gone")
 
 
 def results(command: argparse.Namespace, run: Run) -> Tuple[IO[bytes], List[bytes]]:
     """Returns the report, once all of it is known to be right, and the packed entries of any --book-out."""
     report: IO[bytes] = tempfile.SpooledTemporaryFile(SPOOLED)
     entries: List[bytes] = []
-    with refusing("write", tempfile.gettempdir()):
-        report.writelines(run.output(entries if command.book_out else None))
-        report.seek(0)
+    if command.partial or not run.unsolved:
+        with refusing("write", tempfile.gettempdir()):
+            report.writelines(run.scores() if command.scores else run.report(entries if command.book_out else None))
+            report.seek(0)
     entries.sort()
     return report, entries
 
@@ -241,22 +248,19 @@ def solve_list(command: argparse.Namespace, programs: str) -> int:
     run = run_of(command, programs)
     for _ in range(MOST_DAMAGED):
         with contextlib.suppress(Damaged):
-            run.take_results()
-            solve(command, run)
             if command.cut:
-                print_cut(run)
-                return DONE
-            report, entries = results(command, run) if command.partial or not run.unsolved else (io.BytesIO(), [])
+                return print_cut(run)
+            solve(command, run)
+            report, entries = results(command, run)
             break
         run.store.make_anew()
     else:
         raise Refusal(f"{shown(run.store.name)} is damaged again and again: is its disk sound?")
-    if command.partial or not run.unsolved:
-        print_all(iter(lambda: report.read(1 << 20), b""))
-        if command.book_out:
-            header = f"{BOOK_HEADER}{run.task['options']['--scoring']}\n".encode()
-            distinct = (unpacked(entry) for entry, _ in itertools.groupby(entries))
-            replace(command.book_out, itertools.chain([header], distinct))
+    print_all(iter(lambda: report.read(1 << 20), b""))
+    if command.book_out and (command.partial or not run.unsolved):
+        header = f"{BOOK_HEADER}{run.task['options']['--scoring']}\n".encode()
+        distinct = (unpacked(entry) for entry, _ in itertools.groupby(entries))
+        replace(command.book_out, itertools.chain([header], distinct))
     if run.unsolved:
         raise Refusal(f"not solved: {run.unsolved} of {counted(run.count, 'line')}. The same command solves only these",
                       UNREADABLE if command.scores else REMARKED)

@@ -125,25 +125,20 @@ class Work:
             say(f"not solved: {batch}: {why}")
             self.named += not why.startswith(LATE)
 
-    def running(self) -> List[Tuple[Batch, int, str, float]]:
-        """Returns the batches at work, longest first, each with its threads, its host and when it began."""
-        at_work = [*self.engine.running.items()]  # a copy, since batches end meanwhile
-        found = [(*self.sent[number], *place) for number, place in at_work if number in self.sent]
-        return sorted(found, key=lambda one: one[3])
-
     def left(self) -> Optional[float]:
         """Returns the expected seconds until all is solved, or None before a tenth of this command's work is done."""
         rests = self.rests()
-        work, at_work = self.rest + sum(rest for rest, _ in rests), len(self.engine.running)
+        work = self.rest + sum(rest for rest, _ in rests)
         if not self.done or self.done * 9 < work:
             return None
-        threads = at_work + sum(threads - 1 for _, threads, *_ in self.running())
+        threads = sum(self.sent[number][1] if number in self.sent else 1 for number in [*self.engine.running])
         longest = max([rest / threads for rest, threads in rests], default=0)
         return self.rate * max(longest, work / max(1, min(self.engine.threads, threads)))
 
     def text(self) -> str:
         """Returns the line to show, with any trouble. It names the longest batch, from LONG_SECONDS on."""
-        running, hosts = self.running(), {host for host, _ in [*self.engine.running.values()]}
+        running = [*self.engine.running.items()]  # a copy, since batches end meanwhile
+        hosts = {host for _, (host, _) in running}
         left = self.left() if hosts and not self.engine.trouble else None
         count, solved = self.run.count, self.run.count - self.unsolved
         text = f"{100 * solved // count}%, "
@@ -151,9 +146,10 @@ class Work:
         silent = f", waiting for {counted(self.engine.silent, 'silent worker')}" if self.engine.silent else ""
         text += self.engine.trouble or f"{counted(len(hosts), 'machine') if hosts else 'no machine'} at work{silent}"
         text += f", lines {solved} of {count}"
-        for batch, _, host, start in running[:1]:
-            if (seconds := time.monotonic() - start) >= LONG_SECONDS:
-                text += f"; {batch}: running for {timedelta(seconds=round(seconds))} on {host}"
+        longest = min([(start, number, host) for number, (host, start) in running if number in self.sent], default=None)
+        if longest and (seconds := time.monotonic() - longest[0]) >= LONG_SECONDS:
+            batch, host = self.sent[longest[1]][0], longest[2]
+            text += f"; {batch}: running for {timedelta(seconds=round(seconds))} on {host}"
         return text
 
 
@@ -221,9 +217,9 @@ class Threads(Engine):
         return batch, found, "" if found else why or INCOMPLETE, [HERE]
 
 
-def solve_lines(run: Run, engine: Engine, quiet: bool) -> None:
-    """Solves a run's unsolved lines, and stores the answers; names those that fail, and those that take too long. If
-    `quiet`, shows only these."""
+def solve_lines(run: Run, engine: Engine, quiet: bool) -> int:
+    """Solves a run's unsolved lines, and stores the answers. Names lines that fail or take too long and, unless
+    `quiet`, shows progress. Returns how many lines, each once, are not solved."""
     work, sent = Work(run, engine), set()  # type: Tuple[Work, Set[Future[Outcome]]]
     is_terminal, due, stored, shown, trouble = os.isatty(2), 0.0, 0.0, time.monotonic(), ""
     while work.waiting or sent:
@@ -245,3 +241,4 @@ def solve_lines(run: Run, engine: Engine, quiet: bool) -> None:
             run.store.add(work.ready.items())
             work.ready, stored = {}, time.monotonic()
     show("")
+    return work.unsolved

@@ -157,11 +157,6 @@ class Run:
         # One CR at the end of a line is no part of it.
         return b"\n".join([line + b"\r" if line.endswith(b"\r") else line for line in found])
 
-    def refuse_change(self) -> None:
-        """Refuses a list that has been written since it was read."""
-        if os.fstat(self.list.fileno()).st_mtime_ns != self.about.st_mtime_ns:
-            raise Refusal(f"{self.name} has changed meanwhile; the same command goes on with what is solved")
-
     def to_solve(self) -> "array.array[int]":
         """Returns the lines that are to be solved, one for each key. Of equal positions, which follow each other, all
         but the first get the work 0."""
@@ -235,12 +230,9 @@ class Run:
             yield [(number, (row, more)) for number, (_, _, row, more, *_) in
                    zip(numbers, (rows.get(one, none) for one in ids))]
 
-    def output(self, entries: Optional[List[bytes]]) -> Iterator[bytes]:
-        """Yields, in pieces, what the program would print if it solved the whole list at once. Notes its status. Adds
-        the packed `entries` of its book."""
-        yield from self.scores() if self.keys.is_scores else self.report(entries)
-
     def report(self, entries: Optional[List[bytes]]) -> Iterator[bytes]:
+        """Yields, in pieces, what ffosolve would print if it solved the whole list at once. Adds the packed `entries`
+        of its book."""
         refused = unsolved = 0
         yield b"[1]\n"
         for chunk in self.chunks():
@@ -253,6 +245,7 @@ class Run:
         yield b"solved %d refused %d%b\n" % (self.count - refused - unsolved, refused, end)
 
     def scores(self) -> Iterator[bytes]:
+        """Yields, in lines, what ffoscores would print. Notes its status. Refuses a list that has changed."""
         answers = itertools.chain.from_iterable(self.chunks())
         place, (row, more) = next(answers, (0, (b"", b"")))
         self.list.seek(0)
@@ -262,7 +255,8 @@ class Run:
                 text, self.status = row or b"% unsolved: " + text, self.status or len(more)
                 place, (row, more) = next(answers, (0, (b"", b"")))
             yield text + b"\n"
-        self.refuse_change()
+        if os.fstat(self.list.fileno()).st_mtime_ns != self.about.st_mtime_ns:
+            raise Refusal(f"{self.name} has changed meanwhile; the same command goes on with what is solved")
 
     def write_batches(self) -> List[int]:
         """Writes solve.py and what it needs to solve the lines that are not solved, in batches. Returns their numbers.
