@@ -134,10 +134,11 @@ class Case:
         assert files() == before
 
     def solved(self, folder="work"):
-        """Returns how many answers a folder has, for lines other than the known one. A run may be working there."""
+        """Returns how many answers to lines a folder has. A run may be working there. The answer to the known line has
+        several rows, and does not count."""
         with contextlib.suppress(sqlite3.Error), contextlib.closing(
                 sqlite3.connect(f"file:{folder}/answers?immutable=1", uri=True)) as store:
-            return max(0, store.execute("SELECT count(*) FROM answers").fetchone()[0] - 1)
+            return store.execute("SELECT count(*) FROM answers WHERE instr(row, x'0a') = 0").fetchone()[0]
         return 0
 
     def programs(self):

@@ -379,7 +379,7 @@ def test_a_full_disk_ends_the_run_and_it_goes_on_with_what_was_stored(case):
             os.unlink(f"{name}/prepare.py")
         stored = [case.solved(f"{name}/work") for name in names]
         found = all_right(case, names, each(case.MANY, names, *EACH_WORDS))
-        assert min(found) >= least and (place or found == stored) and {0} < {*found} | {120}
+        assert min(found) == least and max(found) == 120 and (place or found == stored)
 
 
 def test_a_folder_of_another_user_or_that_others_may_write_is_refused_and_not_used(case):
@@ -432,17 +432,13 @@ def test_lines_that_fail_are_named_and_all_others_are_solved(case):
     """A batch that fails three times is cut into eight, and so on."""
     case.write_list(case.SMALL + b"FAIL 1\n" + positions(400, 2, 4, 9) + b"%\nDIE 1\n")
     by = case.install("asked", script=ACTING)
-    for before, sent in ((0, 4 * 3 * 2), (460, 3 * 2)):
-        errors = case.many("--jobs=1", *WORDS, by=by, status=1, places={"WORDS": "words"},
-                           message=": 462 lines, {} of them solved before".format(before))
+    for before, most in ((0, 3 + 3 * 2 * 3), (460, 3 + 3 * 2)):
+        errors = case.many("--jobs=1", *WORDS, by=by, status=1, message=f": 462 lines, {before} of them solved before")
         assert sorted(re.findall(FAILING, errors)) == [
             ("line 463", "killed by SIGKILL"), ("line 61", "ffosolve: out of memory")]
         assert errors.endswith("not solved: 2 of 462 lines. The same command solves only these\n")
-        assert re.findall(r": this machine failed (.*): (.*)\n", errors)[-1] in [
-            ("line 463", "killed by SIGKILL"), ("line 61", "ffosolve: out of memory")]
         assert not os.path.exists("joined.book")
-        assert errors.count(" failed line ") <= sent
-        Path("words").unlink()
+        assert errors.count(": this machine failed line ") <= most
     head, *rest = case.one.splitlines(keepends=True)
     assert (b"61 refused: bad square at column 1\n", b"463 refused: bad square at column 1\n") == (rest[60], rest[461])
     partial = [line for line in rest if b" refused: bad" not in line][:-1]
@@ -460,8 +456,12 @@ def test_lines_that_fail_are_named_and_all_others_are_solved(case):
 
 
 def test_no_more_than_ten_lines_that_fail_are_looked_for(case):
+    script = """#!/bin/sh
+grep -q FAIL /proc/self/fd/0 && echo "ffosolve: out of memory" >&2 && exit 1
+exec "@real@" "$@"
+"""
     case.write_list(b"".join(b"FAIL %d\n" % number for number in range(70)) + case.SMALL)
-    by = case.install("asked", script=ACTING)
+    by = case.install("failing", script=script)
     errors = case.many("--jobs=1", *WORDS, by=by, status=1, message="not solved: 70 of 130 lines.")
     named = re.findall(FAILING, errors)
     assert len([name for name, _ in named if "other" not in name]) == 10
@@ -490,8 +490,8 @@ def test_a_list_that_changes_while_it_is_solved_gives_no_wrong_report(case):
     case.many(*WORDS, by=by, status=1, message="not solved: ")
     case.write_list(case.SMALL)
     case.many(*WORDS, message=LOST.format(59))
-    changed = "    report.seek(0)\n    return report, []\n"
-    by = case.install("changed", ("command", "    report: IO[bytes] = ", "    open(run.name, 'ab').write(b'?')\n    report: IO[bytes] = "))
+    made = "    report: IO[bytes] = "
+    by = case.install("changed", ("command", made, f"    open(run.name, 'ab').write(b'?')\n{made}"))
     case.many("--scores", *WORDS[:2], by=by, status=3, message="list.obf has changed meanwhile; the same command goes on")
 
 
@@ -630,3 +630,232 @@ def test_a_store_that_is_no_file_of_its_own_is_named_and_what_it_leads_to_stays(
         write(f"{place}/run.lock", folder.SIGN)
         make(Path(place, "answers"))
         case.refused(3, f"cannot write {place}/answers: ", place, "list.obf")
+
+
+CUT = ("--cut", "--max-empties=24", *WORDS[:2])
+
+
+def cut(case, count=3, *words, by=None):
+    """Cuts a list of finished games with 24 empty squares, as many batches as lines."""
+    case.write_list(over(count, 24), "--max-empties=24")
+    return run(by or case.ACTS, *CUT, *words, text=True, check=True).stdout
+
+
+def results():
+    return sorted(path for path in Path("work/results").iterdir() if re.fullmatch("[0-9a-f]{64}", path.name))
+
+
+def test_a_group_that_may_write_the_results_solves_batches_of_a_folder(case):
+    cut(case)
+    os.chmod("work/results", 0o2775)
+    if NOBODY:
+        os.chown("work/results", 0, NOBODY["group"])
+    ends((0, "", ""), *SOLVE, "0-1", umask=0o077, **NOBODY)
+    assert [stat.S_IMODE(path.stat().st_mode) for path in results()] == [0o644] * 2
+    case.many("--max-empties=24", *WORDS, message="3 lines, 2 of them solved before;")
+
+
+def test_a_batch_is_solved_with_the_options_and_the_program_of_the_folder_or_not_at_all(case):
+    cut(case)
+    for place, old, new, why in (
+            ("task", b'"--max-empties": 24', b'"--max-empties": 0', "damaged: run ffosolve-many --cut again"),
+            ("task", b'"batches": 3', b'"batches": 7', "damaged: run ffosolve-many --cut again"),
+            ("task", Path("work/task").read_bytes(), b"[]", "damaged: run ffosolve-many --cut again"),
+            ("batches/0000000", b"X", b"-", "batch 0000000: it is damaged: run --cut again"),
+            ("ffosolve-0", b"real", b"rear", "the program is damaged")):
+        whole = Path("work", place).read_bytes()
+        Path("work", place).write_bytes(whole.replace(old, new, 1))
+        assert Path("work", place).read_bytes() != whole
+        ran = run(*SOLVE, "0", text=True)
+        assert (ran.returncode, ran.stdout, results()) == (1, "", [])
+        assert re.search(f"^(solve.py 0: )?.*{why}\n$", ran.stderr)
+        Path("work", place).write_bytes(whole)
+    places = {**os.environ, "SPOIL_KNOWN": "lambda text: text.replace(b'H1', b'A1')"}
+    run(*SOLVE, "0", check=True)
+    case.many("--max-empties=24", *WORDS, by=case.ACTS, message="3 lines, 1 of them")
+    cut(case, 5)
+    ends((1, "", "solve.py 3: the program solves a known line wrong\n"), *SOLVE, "3", env=places)
+
+
+def test_results_of_a_batch_are_used_only_if_they_are_whole_and_other_files_stay(case):
+    cut(case)
+    run(*SOLVE, "0-2", check=True)
+    first, second, third = results()
+    whole = first.read_bytes()
+    first.write_bytes(whole[:-1])
+    second.write_bytes(second.read_bytes().replace(b"X", b"O", 1))
+    write("work/results/mine.txt", "?")
+    case.many("--max-empties=24", *WORDS, message="3 lines, 1 of them solved before;")
+    assert sorted(os.listdir("work/results")) == sorted([first.name, second.name, "mine.txt"])
+    first.write_bytes(whole)
+    case.many("--max-empties=24", *WORDS, message="3 lines, 3 of them solved before;")
+    assert not first.exists()
+
+
+def test_a_batch_is_not_solved_in_vain(case):
+    cut(case)
+    for how, why in (({"preexec_fn": limited(RLIMIT_FSIZE=1000)}, "File too large"), (NOBODY, "Permission denied")):
+        words = write(case.folder / "words", "", 0o666)
+        ran = run(*SOLVE, "1-2", text=True, env={**os.environ, "WORDS": str(words)}, **how)
+        failed = re.findall(r"^batch (.*): .*: (.*)\n", ran.stderr, re.M)
+        assert (ran.returncode, failed) == (1, [("0000001", why), ("0000002", why)])
+        assert words.read_text().count("\n") == 1  # the program has run for the known line alone
+
+
+def test_results_are_new_files_once_they_are_on_the_disk_and_files_that_may_not_be_read_are_named(case):
+    cut(case, 3, "--book-in=one.book", by=case.MANY)
+    run(*SOLVE, "0-2", check=True)
+    paths = results()
+    for path in paths:
+        path.unlink()
+    write("other", "?")
+    os.chmod("work/results", 0o777)
+    os.symlink(case.folder / "other", paths[0])
+    write(paths[1], "", 0o600 if NOBODY else 0o100)
+    ran = run(*SOLVE, "0-2", env=preload(case.folder, WATCHED=""), text=True, **NOBODY)
+    (why,) = re.findall(r"^(?:sync rename )*(batch \d{7}: .*)\n\Z", ran.stderr)
+    assert (ran.returncode, ran.stderr.count("sync rename ")) == (1, 2) and why.endswith(
+        f": results/{paths[1].name}: Permission denied")
+    assert [path.lstat().st_size > 99 for path in paths] == [True, False, True]
+    assert Path("other").read_text() == "?"
+    for name, why in (("book-in", "the program can't solve a known line: ffosolve: cannot read book-in"),
+                      ("ffosolve-0", "[Errno 13] Permission denied: 'ffosolve-0'")):
+        Path("work", name).chmod(0o111)
+        ran = run(*SOLVE, "0", text=True, **NOBODY)
+        assert ran.returncode == 1 and "ermission denied" in ran.stderr and name in ran.stderr
+
+
+def test_an_interrupt_or_a_lack_of_memory_or_an_old_python_ends_solve_py_without_a_traceback(case):
+    cut(case)
+    ran = case.start(*SOLVE, "0-2", env={**os.environ, "LAST": "0"})
+    wait_until(lambda: [*Path("work/results").glob("*.new")])
+    assert (end(case, ran, signal.SIGINT), ran.returncode) == ((b"", ""), -signal.SIGINT)
+    case.many("--max-empties=24", *WORDS)
+    os.truncate("work/ffosolve-0", 1 << 30)
+    ends((1, "", "solve.py 0: out of memory\n"), *SOLVE, "0", preexec_fn=limited(RLIMIT_AS=200 << 20))
+    ast.parse(Path(solve.__file__).read_text(), feature_version=(3, 7))
+    code = "import runpy, sys; sys.version_info = (3, 7, 1); runpy.run_path('work/solve.py', run_name='__main__')"
+    error = f"solve.py needs Python 3.8 or later, and this is {sys.version.split()[0]}\n"
+    ends((1, "", error), sys.executable, "-c", code)
+
+
+SIGNALLED = ("--jobs=2", *WORDS)
+
+
+def begin(case, *program, last=99):
+    """Starts `program` with SIGNALLED in a new session. case.ACTS takes 45 s per batch after the first `last`."""
+    Path("begun").unlink(missing_ok=True)
+    places = {**os.environ, "PAUSE": "0.15", "LAST": str(last)}
+    return case.start(*program, *SIGNALLED, start_new_session=True, env=places)
+
+
+def at_work(case, done):
+    """Starts a run; returns its process once `done` batches of five lines are solved and two are being solved."""
+    before = case.solved()
+    ran = begin(case, case.ACTS, last=done)
+    wait_until(lambda: case.solved() >= min(60, before + 5 * done) and len(case.programs()) == 2)
+    return ran
+
+
+def end(case, ran, *signals):
+    """Sends signals to a run, and waits until it ends. Asserts that all its processes have ended one second later, or
+    some seconds later if the machine is busy. Returns (its output as bytes, its errors as text)."""
+    for number in signals:
+        ran.send_signal(number)
+    output, errors = ran.communicate(timeout=SECONDS)
+    wait_until(lambda: not processes_in(case.folder), 1 + os.getloadavg()[0] / os.cpu_count())
+    return output, errors.decode()
+
+
+def test_a_signal_or_two_together_end_all_processes_within_a_second_and_the_command_goes_on(case):
+    pairs = [(signal.SIGINT, signal.SIGTERM), (signal.SIGTERM, signal.SIGINT), (signal.SIGHUP, signal.SIGINT)]
+    together = [(signal.SIGSTOP, *pair, signal.SIGCONT) for pair in pairs]  # so that both come at once
+    alone = [(number,) for number in (signal.SIGTERM, signal.SIGINT, signal.SIGHUP, signal.SIGKILL)]
+    for at, numbers in enumerate(alone + 2 * together):
+        ran = at_work(case, 1)
+        output, errors = end(case, ran, *numbers)
+        assert (-ran.returncode in numbers, output) == (True, b"")
+        assert re.search(f"^.*\n{'' if signal.SIGKILL in numbers else INTERRUPTED}$", errors)  # no traceback
+        assert case.solved() == 5 * at + 5
+    case.many(*SIGNALLED, by=case.ACTS, message=LOST.format(50))
+    assert {*os.listdir("work")} == {LOCK, "answers"}
+
+
+def test_a_signal_ends_the_run_while_python_ignores_exceptions_or_starts(case):
+    ignoring = """    class Ignoring:
+        def __del__(self):
+            open("begun", "w").close()
+            time.sleep(SECONDS)
+    Ignoring()
+    time.sleep(SECONDS)
+    run = run_of(""".replace("SECONDS", str(SECONDS))
+    by = case.install("ignoring", ("command", "    run = run_of(", ignoring),
+                      ("command", "import re\n", "import re, time\n"))
+    slow = "import argparse, time\nopen('begun', 'w').close()\ntime.sleep(40)\n"
+    importing = case.install("starting", ("command", "import argparse\n", slow))
+    for by, number, told in ((by, signal.SIGTERM, INTERRUPTED), (by, signal.SIGINT, INTERRUPTED),
+                             (importing, signal.SIGINT, "")):
+        ran = begin(case, by)
+        wait_until(Path("begun").exists)
+        assert (end(case, ran, number), ran.returncode) == ((b"", told), -number)
+
+
+def test_a_program_does_not_start_once_its_caller_has_ended(case):
+    run(case.MANY, "--cut", *WORDS[:2], check=True)
+    code = "import solve as it; print(*it.GUARD, it.opened('.') / 'ffosolve-0', sep='\\n')"
+    words = run(sys.executable, "-c", code, cwd="work", text=True).stdout.splitlines()
+    ran = run(*words, text=True)
+    assert ran.stdout == "" and "/ffosolve-0: No such file or directory" in ran.stderr
+
+
+MAY_USE = sorted(os.sched_getaffinity(0))
+
+
+@pytest.mark.parametrize("words, processors", [((), MAY_USE), ((), MAY_USE[:1]), (("--jobs=20",), MAY_USE[:1])])
+def test_as_many_batches_are_solved_at_once_as_there_are_jobs_by_default_one_for_each_processor_that_may_be_used(
+        case, words, processors):
+    write("list.obf", over(max(30, 2 * len(processors)), 20))
+    ran = case.start("taskset", "-c", ",".join(map(str, processors)), case.install("asked", script=ACTING), *words,
+                     *WORDS, env={**os.environ, "PAUSE": "45"})
+    count = 20 if words else len(processors)
+    wait_until(lambda: len(case.programs()) == count)
+    time.sleep(0.5)  # in which more might begin
+    assert len(case.programs()) == count
+    end(case, ran, signal.SIGTERM)
+
+
+def test_signals_that_the_caller_ignores_do_not_end_the_run_such_as_that_of_a_terminal_that_closes_after_nohup(case):
+    for number, last in ((signal.SIGKILL, 0), (signal.SIGTERM, 99)):  # the former ends long programs, too
+        ran = begin(case, "sh", "-c", 'trap "" INT TERM; exec nohup "$@"', "sh", case.ACTS, last=last)
+        wait_until(lambda: len(case.programs()) == 2)  # not only that for the known line
+        output, _ = end(case, ran, signal.SIGINT, signal.SIGHUP, number)
+        wanted = (b"", -number) if number == signal.SIGKILL else (case.one, 0)
+        assert (output, ran.returncode) == wanted
+
+
+def test_control_c_on_a_terminal_is_no_signal_for_the_programs_and_they_end_first_if_memory_is_short(case):
+    """Meanwhile, a second command in the folder is refused."""
+    ran = at_work(case, 0)
+    case.many(*SIGNALLED, by=case.ACTS, status=3, message="another run works in work\n")
+    assert ran.poll() is None
+    assert os.getpgid(ran.pid) not in map(os.getpgid, case.programs())
+    assert {Path(f"/proc/{number}/oom_score_adj").read_text() for number in case.programs()} == {"1000\n"}
+    assert end(case, ran, signal.SIGINT)[1].count("\n") == 2  # the first line, and that it was interrupted
+
+
+def test_kills_at_random_moments_lose_nothing(case):
+    rng, stored = random.Random(1), 0
+    for _ in range(10):
+        ran = begin(case, case.ACTS)
+        time.sleep(rng.uniform(0, 2))
+        one = rng.choice([*processes_in(case.folder)] or [ran.pid])
+        run("sh", "-c", 'kill -s KILL -- "$0"', rng.choice((-ran.pid, ran.pid, one)))  # -N is process group N
+        output, _ = end(case, ran)
+        assert ran.returncode in ((0, -9) if output else (1, 3, 4, -9))
+        assert output in (case.one, b"")
+        stored, before = case.solved(), stored
+        assert stored >= before
+        if ran.returncode == 0 or rng.randrange(4) == 0:
+            case.many(*SIGNALLED, by=case.ACTS, message=LOST.format(stored))
+            shutil.rmtree("work")
+            stored = 0
