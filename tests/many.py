@@ -12,6 +12,7 @@ from pathlib import Path
 
 import pytest
 
+from ffosolve._many import folder as many_folder
 from tests.support import ROOT, built, positions, processes_in, run, write
 
 BOARD = b"-OXXXXX-XXXXXXXOXXXXXXXXXXXXXXXXXXXOXXXXXXXXXXXXXXXXXXXXXXXXXXXX"  # two empty squares
@@ -133,15 +134,26 @@ class Case:
         assert files() == before
 
     def solved(self, folder="work"):
-        """Returns how many answers a folder has, for lines other than the known one. A run may be working there."""
+        """Returns how many answers to lines a folder has. A run may be working there. The answer to the known line has
+        several rows, and does not count."""
         with contextlib.suppress(sqlite3.Error), contextlib.closing(
                 sqlite3.connect(f"file:{folder}/answers?immutable=1", uri=True)) as store:
-            return max(0, store.execute("SELECT count(*) FROM answers").fetchone()[0] - 1)
+            return store.execute("SELECT count(*) FROM answers WHERE instr(row, x'0a') = 0").fetchone()[0]
         return 0
 
     def programs(self):
         """Returns the IDs of the processes that solve batches."""
         return {number for number, words in processes_in(self.folder).items() if "--max-empties" in words}
+
+
+def run_of(text, name="list.obf", **options):
+    """Returns a folder.Run for a list, in a new folder. `options` are those of the program, without --."""
+    write(name, text)
+    task = {"program": "ffosolve", "options": {"--max-empties": 20, "--scoring": "winner", "--complete": None}}
+    task["options"].update({f"--{option}".replace("_", "-"): value for option, value in options.items()})
+    one = many_folder.Run(Path.cwd() / os.urandom(4).hex(), task, Path(name), name, {}, None)
+    one.look_up()
+    return one
 
 
 def over(count, empties):

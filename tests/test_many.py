@@ -13,7 +13,7 @@ import pytest
 from ffosolve import __version__, _command_line
 from ffosolve._many import books, engine
 from ffosolve._many import folder as many_folder
-from tests.many import ACTING, BOARD, BRIEF, WORDS, files, over
+from tests.many import ACTING, BOARD, BRIEF, WORDS, files, over, run_of
 from tests.support import (NOBODY, ROOT, SECONDS, cannot_write, ends, limited, need, positions, run, stored, wait_until,
                            worked_rows, write)
 
@@ -88,6 +88,34 @@ def test_scores_and_status_are_those_of_one_run(case):
         for before in (0, count):
             case.many("--scores", *words, f"work{status}", "list.obf", status=status, output=one.stdout,
                       by=case.MANY if before else case.ACTS, message=f": {count} lines, {before} of them solved before")
+
+
+def test_cut_batches_are_solved_by_a_command_that_needs_only_python(case):
+    case.write_list(over(10, 24), "--max-empties=24")
+    os.mkdir("my work")
+    os.symlink("my work", "work")
+    line = "10 lines, {} of them solved; python3 'my work/solve.py' {} solves the others\n"
+    cut, script = (case.MANY, "--cut", "--max-empties=24", "my work", "list.obf"), Path("my work/solve.py").absolute()
+    ends((0, line.format(0, "0-9"), ""), *cut)
+    command = (sys.executable, "-IS", script)
+    for words in (("0000000",), ("2-4", "0000006-7")):
+        ends((0, "", ""), *command, *words, cwd="/", env={"PATH": "/usr/bin:/bin"})
+    before = files()
+    ends((0, "", ""), *command, "0-4")  # which solves batch 1 alone
+    assert len(before.keys() ^ files().keys()) == 1
+    assert before.items() <= files().items()
+    ends((0, line.format(7, "5 8-9"), ""), *cut)
+    for words in (("10",), ("-1",), (), ("3", "10-12"), ("4-3",), ("00000003",)):
+        error = f"solve.py {' '.join(words)}: name batches from 0 to 9, such as 0-9: '{' '.join(words)}'\n"
+        ends((1, "", error), *command, *words)
+    ends((0, "", ""), *command, "8-99", "5", "0-4")  # the results of others have been taken
+    ends((0, "10 lines, 10 of them solved\n", ""), *cut)
+    case.many("--max-empties=24", *WORDS, message=": 10 lines, 10 of them solved before")
+    cut = (case.MANY, "--cut", "--max-empties=24", "new", "list.obf")
+    run(*cut)
+    ends((0, "", ""), sys.executable, "new/solve.py", *range(0, 10, 2))
+    ends((0, "10 lines, 5 of them solved; python3 new/solve.py 1 3 5 7 9 solves the others\n", ""), *cut)
+    case.many("--max-empties=24", "new", *WORDS[1:], message=": 10 lines, 5 of them solved before")
 
 
 def test_a_book_goes_through_a_link_or_into_a_pipe_and_a_file_keeps_its_permissions(case):
@@ -423,12 +451,9 @@ EASY_SECONDS, HARD_SECONDS = 0.00001, 0.20  # for each line
 def work(text=None, works=()):
     """Returns an engine.Work (what is left to do) for a list, or for lines that are as much `works`, each a batch of its
     own if it is so much as the largest batch."""
-    write("list.obf", text or over(len(works), 20))
-    task = {"program": "ffosolve", "options": {"--max-empties": 20, "--scoring": "winner", "--complete": None}}
-    run = many_folder.Run(Path.cwd() / os.urandom(4).hex(), task, Path("list.obf"), "list.obf", {}, None)
-    run.look_up()
-    run.works = type(run.works)("f", works) if works else run.works
-    return engine.Work(run, mock.Mock(tries=3, trouble="", silent=0, running={}, threads=2, discounted=set(),
+    one = run_of(text or over(len(works), 20))
+    one.works = type(one.works)("f", works) if works else one.works
+    return engine.Work(one, mock.Mock(tries=3, trouble="", silent=0, running={}, threads=2, discounted=set(),
                                       most=mock.Mock(return_value=1)))
 
 
