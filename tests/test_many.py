@@ -3,7 +3,6 @@ import os
 import re
 import subprocess
 import sys
-import time
 from concurrent.futures import Future
 from pathlib import Path
 from unittest import mock
@@ -325,7 +324,8 @@ def test_the_numbers_in_the_help_are_those_that_are_taken(case):
     assert {option for option, *_ in ranges} == {"--jobs", "--max-empties"}
     for option, least, most in ranges:
         for number, is_taken in ((int(least) - 1, False), (least, True), (most, True), (int(most) + 1, False)):
-            for words in [(case.MANY, "missing"), *[(case.MANY.with_name("ffosolve"), "/dev/null")] * (option[2] == "m")]:
+            shared = [(case.MANY.with_name("ffosolve"), "/dev/null")] * (option != "--jobs")
+            for words in [(case.MANY, "missing"), *shared]:
                 assert (run(*words, f"{option}={number}").returncode != 2) == is_taken, (words, option, number)
 
 
@@ -449,8 +449,8 @@ EASY_SECONDS, HARD_SECONDS = 0.00001, 0.20  # for each line
 
 
 def work(text=None, works=()):
-    """Returns an engine.Work (what is left to do) for a list, or for lines that are as much `works`, each a batch of its
-    own if it is so much as the largest batch."""
+    """Returns an engine.Work (what is left to do) for a list, or for lines that are as much `works`, each a batch of
+    its own if it is so much as the largest batch."""
     one = run_of(text or over(len(works), 20))
     one.works = type(one.works)("f", works) if works else one.works
     return engine.Work(one, mock.Mock(tries=3, trouble="", silent=0, running={}, threads=2, discounted=set(),
