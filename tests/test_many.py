@@ -152,6 +152,13 @@ def test_a_book_that_cannot_be_written_keeps_its_old_content(case):
     assert Path("joined.book").read_bytes() == b""
 
 
+def test_a_book_that_cannot_be_written_is_refused_before_a_scheduler_is_asked(case):
+    if not any(run(python, "-c", "import distributed").returncode == 0 for python in (sys.executable, "/usr/bin/python3")):
+        pytest.skip("distributed is missing (Debian: python3-distributed)")
+    for name in ("none/book", "."):
+        case.refused(3, f"cannot write {name}: ", "--scheduler=tcp://127.0.0.1:1", *WORDS[:3], name)
+
+
 def test_progress_rises_in_a_log_and_on_a_terminal(case):
     by = case.install("often", *BRIEF, ("engine", "(1 if is_terminal else 60)", "(0.1 if is_terminal else 0.3)"),
                       ("engine", "due = now + (1 if sent else 0.2)", "due = now + 0.1"), script=ACTING)
@@ -354,8 +361,9 @@ def test_debians_python_takes_the_place_of_one_that_is_too_old(name):
 
 def test_a_lack_of_memory_is_told_without_a_traceback(case):
     for size in (20, 25, 30):
-        told = run(case.MANY, f"work{size}", "list.obf", preexec_fn=limited(RLIMIT_AS=size << 20)).stderr.decode()
-        assert "Traceback" not in told and re.search("^ffosolve-many: .*memory.*\n", told.splitlines(True)[-1])
+        ran = run(case.MANY, f"work{size}", "list.obf", preexec_fn=limited(RLIMIT_AS=size << 20))
+        told = ran.stderr.decode()
+        assert ran.returncode in (1, 3) and "Traceback" not in told and re.search("^ffosolve-many: .*memory.*\n", told.splitlines(True)[-1])
 
 
 @pytest.mark.parametrize("name", ["ffosolve-many", "ffosolve-games"])

