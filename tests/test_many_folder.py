@@ -787,7 +787,8 @@ def test_a_store_that_cannot_be_written_ends_the_run_at_once_while_other_batches
                      env={**os.environ, "LAST": "11"})
     wait_until(lambda: ran.poll() is not None, 30)
     output, errors = end(case, ran)
-    assert (ran.returncode, output) == (3, b"") and re.search(r"ffosolve-many: cannot write work/answers: .*\n\Z", errors)
+    assert (ran.returncode, output) == (3, b"")
+    assert re.search(r"ffosolve-many: cannot write work/answers: .*\n\Z", errors)
     case.many(*SIGNALLED, by=case.ACTS, message=LOST.format(case.solved()))
 
 
