@@ -3,7 +3,6 @@ import os
 import re
 import subprocess
 import sys
-import time
 from concurrent.futures import Future
 from pathlib import Path
 from unittest import mock
@@ -151,6 +150,14 @@ def test_a_book_that_cannot_be_written_keeps_its_old_content(case):
     case.many(*WORDS, by=by, status=3, output=case.one,
               message="cannot write joined.book: Permission denied\n", **NOBODY)
     assert Path("joined.book").read_bytes() == b""
+
+
+def test_a_book_that_cannot_be_written_is_refused_before_a_scheduler_is_asked(case):
+    pythons = sys.executable, "/usr/bin/python3"
+    if all(run(python, "-c", "import distributed").returncode for python in pythons):
+        pytest.skip("distributed is missing (Debian: python3-distributed)")
+    for name in ("none/book", "."):
+        case.refused(3, f"cannot write {name}: ", "--scheduler=tcp://127.0.0.1:1", *WORDS[:3], name)
 
 
 def test_progress_rises_in_a_log_and_on_a_terminal(case):
@@ -325,7 +332,8 @@ def test_the_numbers_in_the_help_are_those_that_are_taken(case):
     assert {option for option, *_ in ranges} == {"--jobs", "--max-empties"}
     for option, least, most in ranges:
         for number, is_taken in ((int(least) - 1, False), (least, True), (most, True), (int(most) + 1, False)):
-            for words in [(case.MANY, "missing"), *[(case.MANY.with_name("ffosolve"), "/dev/null")] * (option[2] == "m")]:
+            shared = [(case.MANY.with_name("ffosolve"), "/dev/null")] * (option != "--jobs")
+            for words in [(case.MANY, "missing"), *shared]:
                 assert (run(*words, f"{option}={number}").returncode != 2) == is_taken, (words, option, number)
 
 
@@ -354,8 +362,10 @@ def test_debians_python_takes_the_place_of_one_that_is_too_old(name):
 
 def test_a_lack_of_memory_is_told_without_a_traceback(case):
     for size in (20, 25, 30):
-        told = run(case.MANY, f"work{size}", "list.obf", preexec_fn=limited(RLIMIT_AS=size << 20)).stderr.decode()
-        assert "Traceback" not in told and re.search("^ffosolve-many: .*memory.*\n", told.splitlines(True)[-1])
+        ran = run(case.MANY, f"work{size}", "list.obf", preexec_fn=limited(RLIMIT_AS=size << 20))
+        told = ran.stderr.decode()
+        assert ran.returncode in (1, 3) and "Traceback" not in told
+        assert re.search("^ffosolve-many: .*memory.*\n", told.splitlines(True)[-1])
 
 
 @pytest.mark.parametrize("name", ["ffosolve-many", "ffosolve-games"])
@@ -449,8 +459,8 @@ EASY_SECONDS, HARD_SECONDS = 0.00001, 0.20  # for each line
 
 
 def work(text=None, works=()):
-    """Returns an engine.Work (what is left to do) for a list, or for lines that are as much `works`, each a batch of its
-    own if it is so much as the largest batch."""
+    """Returns an engine.Work (what is left to do) for a list, or for lines that are as much `works`, each a batch of
+    its own if it is so much as the largest batch."""
     one = run_of(text or over(len(works), 20))
     one.works = type(one.works)("f", works) if works else one.works
     return engine.Work(one, mock.Mock(tries=3, trouble="", silent=0, running={}, threads=2, discounted=set(),
