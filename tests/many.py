@@ -1,45 +1,55 @@
 """Fixtures for the tests of ffosolve-many: they install it, run it, and check its output and the files it leaves."""
+import contextlib
 import functools
 import os
 import random
 import re
 import shutil
+import sqlite3
 import sys
 import types
 from pathlib import Path
 
 import pytest
 
-from ffosolve._many import solve
+from ffosolve._many import folder as many_folder
 from tests.support import ROOT, built, positions, processes_in, run, write
 
 BOARD = b"-OXXXXX-XXXXXXXOXXXXXXXXXXXXXXXXXXXOXXXXXXXXXXXXXXXXXXXXXXXXXXXX"  # two empty squares
-WORDS = ("--lines=20", "work", "list.obf", "--book-out", "joined.book")  # a command for the folder of a `Case`
+WORDS = ("work", "list.obf", "--book-out", "joined.book")  # a command for the folder of a `Case`
+# Changes of `install`: batches have at most five lines, and each is stored at once.
+BRIEF = ("folder", "CHUNK = 10_000", "CHUNK = 5"), ("engine", "COMMIT_SECONDS = 1", "COMMIT_SECONDS = 0")
 INTERRUPTED = "ffosolve-many: interrupted; the same command goes on with what is solved\n"
-# A script that replaces the program @real@ and runs it. It appends its arguments to the file $WORDS. If its input has
-# DIE, FAIL or KILL, it kills itself, fails, or kills its parent. For a part of a list, it first sleeps $PAUSE seconds,
-# or 45 once $LAST parts are solved, and the Python function $SPOIL changes the output. $SPOIL_KNOWN changes that of all
-# other runs: for the line solve.KNOWN, for the version, or to test a book.
+# A script that replaces the program @real@ and runs it. It appends its arguments to the file $WORDS and, for a batch of
+# a list, its input to $ASKED. If that has DIE, FAIL or KILL, it kills itself, fails, or kills its parent. For a batch,
+# it first sleeps $PAUSE seconds, or 45 once $LAST batches have begun (which it counts in the file begun), and the
+# Python function $SPOIL changes the output. $SPOIL_KNOWN changes that of all other runs: for the line solve.KNOWN, for
+# the version, or to test a book.
 ACTING = """\
 #!@python@ -IS
-import glob, os, signal, subprocess, sys, time
+import os, signal, subprocess, sys, time
 places, text, command = os.environ, b"", ["@real@", *sys.argv[1:]]
+def add(name, text):
+    with open(name, "ab", 0) as file:
+        return file.write(text) and file.tell()
 if sys.stdin.seekable():  # not the pipe of a run for its version, or to test a book
     text = sys.stdin.buffer.read()
     os.lseek(0, 0, 0)
-is_part = text and b"H1:+62; A1:+52;" not in text
+is_batch = text and not text.endswith(b" H1:+62; A1:+52;\\n")
 if "WORDS" in places:
-    open(places["WORDS"], "a").write(" ".join(command[1:]) + "\\n")
+    add(places["WORDS"], " ".join(command[1:]).encode() + b"\\n")
+if is_batch and "ASKED" in places:
+    add(places["ASKED"], text + b"\\n")
 if b"DIE" in text:
     os.kill(os.getpid(), signal.SIGKILL)
 if b"FAIL" in text:
     sys.exit("ffosolve: out of memory")
 if b"KILL" in text:
     os.kill(os.getppid(), signal.SIGKILL)
-if is_part:
-    is_last = len(glob.glob("work/results/" + "?" * 64)) >= int(places.get("LAST", 10_000))
+if is_batch:
+    is_last = "LAST" in places and add("begun", b"?") > int(places["LAST"])
     time.sleep(45 if is_last else float(places.get("PAUSE", 0)))
-spoil = places.get("SPOIL" if is_part else "SPOIL_KNOWN")
+spoil = places.get("SPOIL" if is_batch else "SPOIL_KNOWN")
 if not spoil:
     os.execv("@real@", command)
 sys.stdout.buffer.write(eval(spoil)(subprocess.run(command, stdout=subprocess.PIPE).stdout))
@@ -77,8 +87,8 @@ def install(shared_folder):
 class Case:
     """A test in a folder with a list, `list.obf`, and the book that one run of ffosolve wrote for it, `one.book`. `one`
     is what that run printed, as bytes. MANY and ACTS are the paths of two copies of ffosolve-many; ACTS runs the script
-    ACTING instead of ffosolve and ffoscores. SMALL, the list at first, is 60 lines of 68 bytes. --lines is an average,
-    but with 20 SMALL has three parts of 20 lines, and with N from 3 to 7 as many as if each had N lines."""
+    ACTING instead of ffosolve and ffoscores, cuts batches of at most five lines, and stores answers at once. SMALL, the
+    list at first, is 60 lines of 68 bytes."""
 
     lines = positions(60, 1, 5).splitlines(keepends=True)
     random.Random(819489).shuffle(lines)
@@ -86,7 +96,7 @@ class Case:
 
     def __init__(self, install, folder, start):
         self.install, self.folder, self.start = install, folder, start
-        self.MANY, self.ACTS = install("plain"), install("acting prefix", script=ACTING)
+        self.MANY, self.ACTS = install("plain"), install("acting prefix", *BRIEF, script=ACTING)
         self.write_list(self.SMALL)
 
     def write_list(self, text, *options):
@@ -123,19 +133,39 @@ class Case:
         assert re.search(f"^ffosolve-many: .*{advice}", line)
         assert files() == before
 
-    def parts_solved(self):
-        return len(list(Path("work/results").glob("?" * 64)))
+    def solved(self, folder="work"):
+        """Returns how many answers to lines a folder has. A run may be working there. The answer to the known line has
+        several rows, and does not count."""
+        with contextlib.suppress(sqlite3.Error), contextlib.closing(
+                sqlite3.connect(f"file:{folder}/answers?immutable=1", uri=True)) as store:
+            return store.execute("SELECT count(*) FROM answers WHERE instr(row, x'0a') = 0").fetchone()[0]
+        return 0
 
     def programs(self):
-        """Returns the IDs of the processes that solve parts."""
+        """Returns the IDs of the processes that solve batches."""
         return {number for number, words in processes_in(self.folder).items() if "--max-empties" in words}
 
-    def record(self, number, folder="work"):
-        """Returns the path of a part's results in a folder with a list."""
-        task = solve.read_task(Path(folder))
-        with open(f"{folder}/list", "rb") as file:
-            text = [b"".join(lines) for lines in solve.parts_of(file, task["lines"])][number]
-        return Path(folder, "results", solve.digest_of(task, text))
+
+def run_of(text, name="list.obf", **options):
+    """Returns a folder.Run for a list, in a new folder. `options` are those of the program, without --."""
+    write(name, text)
+    task = {"program": "ffosolve", "options": {"--max-empties": 20, "--scoring": "winner", "--complete": None}}
+    task["options"].update({f"--{option}".replace("_", "-"): value for option, value in options.items()})
+    one = many_folder.Run(Path.cwd() / os.urandom(4).hex(), task, Path(name), name, {}, None)
+    one.look_up()
+    return one
+
+
+def over(count, empties):
+    """Returns lines of different finished games with that many empty squares. They are solved at once, but only a
+    program knows that: until then, they are as much work as any others with so many."""
+    rng, lines = random.Random(empties), set()
+    while len(lines) < count:
+        board = bytearray(b"X" * 64)
+        for at in rng.sample(range(64), empties):
+            board[at:at + 1] = b"-"
+        lines.add(bytes(board) + b" X;\n")
+    return b"".join(sorted(lines))
 
 
 def files():

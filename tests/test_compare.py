@@ -6,6 +6,7 @@ import os
 import re
 import shutil
 import signal
+import sqlite3
 import sys
 from pathlib import Path
 from unittest import mock
@@ -14,7 +15,7 @@ import pytest
 
 from bench import player
 from tests.games import NAMES, PROGRAM, book_of, discs_of_black, games, positions_of, random_games, reads, record, wthor
-from tests.many import files as everything
+from tests.many import ACTING, BRIEF, files as everything
 from tests.prefix import blocks_of
 from tests.support import NOBODY, ROOT, SECONDS, built, ends, limited, run, stored, unshared, wait_until, write
 from ffosolve import Game, ReadingWarning, read_games
@@ -365,10 +366,14 @@ def refused(*words, why):
     assert before.items() <= everything().items()
 
 
-def results():
-    """Returns {path: (inode, time)} for the results of all parts in the current folder."""
-    found = {str(path): path.stat() for path in Path().rglob(f"results/{'?' * 64}")}
-    return {name: (about.st_ino, about.st_mtime_ns) for name, about in found.items()}
+def results(place="."):
+    """Returns the keys of the answers that folders below a place have for positions, with their ids."""
+    found = set()
+    for path in Path(place).rglob("answers"):
+        with contextlib.suppress(sqlite3.Error), contextlib.closing(
+                sqlite3.connect(f"file:{path}?immutable=1", uri=True)) as store:
+            found |= {*store.execute("SELECT key, id FROM answers WHERE length(more) > 0")}
+    return found
 
 
 def test_check_solves_compares_and_fixes():
@@ -377,15 +382,15 @@ def test_check_solves_compares_and_fixes():
     write("it.wtb", wthor(RECORDS + RECORDS[2:3], empties=EMPTIES))
     write("other.wtb", wthor([record(PLAYED[1], exact + 1)], empties=6))
     os.mkdir("new")
-    games(*CHECK, "--fix=new", "--jobs", "2", "--lines=5", "other.wtb", status=1,
+    games(*CHECK, "--fix=new", "--jobs", "2", "other.wtb", status=1,
           out="".join((both(), difference(COUNT + 1, EXACT[2], -2), difference(1, exact, 1, "other.wtb"),
                        counts(COUNT + 2, 4))),
           err=f"new/it.wtb: theoretical scores changed 3 of {COUNT + 1}, not compared 0\n"
               "new/other.wtb: theoretical scores changed 1 of 1, not compared 0")
     assert Path("new/it.wtb").read_bytes() == wthor(EXACT_RECORDS + EXACT_RECORDS[2:3], empties=EMPTIES)
     assert Path("new/other.wtb").read_bytes() == wthor([record(PLAYED[1], exact)], empties=6)
-    for name, count in (("it.wtb", COUNT), ("other.wtb", 1)):  # each position once
-        assert Path(f"{name}.check/list").read_bytes().count(b"\n") == count
+    assert [len(results(f"{name}.check")) for name in ("it.wtb", "other.wtb")] == [COUNT, 1]  # each position once
+    assert {*os.listdir("it.wtb.check")} == {"answers", "run.lock"}
     for quiet, err in ((["--quiet"], ""), ([], f"{COUNT} positions left out: --max-empties 5 takes all")):
         reads("it.wtb", RIGHT, "check", *quiet, "--max-empties=4", "--folder=other", status=1, err=err,
               out=counts(0, 0, COUNT))
@@ -393,7 +398,7 @@ def test_check_solves_compares_and_fixes():
 
 
 @pytest.mark.parametrize("folder_named", ((), ("--folder=all",)))
-def test_each_check_solves_only_the_parts_that_hold_a_change(folder_named):
+def test_each_check_solves_only_positions_that_are_new(folder_named):
     """Game 1 of the file for 5 empty squares begins with an illegal move, until that is mended."""
     more = [game for game in random_games(60, seed=9) if {5, 6} <= positions_of(game).keys()]
     sixes, fives = ([record(game, discs_of_black(positions_of(game)[at])) for game in some]
@@ -401,42 +406,42 @@ def test_each_check_solves_only_the_parts_that_hold_a_change(folder_named):
     write("other.wtb", wthor(sixes, empties=6))
     whole, broken = RECORDS + fives, [RECORDS[0][:8] + b"\1" + RECORDS[0][9:], *RECORDS[1:], *fives]
     illegal, count = "it.wtb, game 1, move 1: 1 is not a square", len(whole)
-    for records, names, new in ((broken, ("it.wtb",), 99), (broken, ("it.wtb", "other.wtb"), 99),
-                                (broken, ("other.wtb", "it.wtb"), 0), (broken, ("other.wtb",), 2),
+    for records, names, new in ((broken, ("it.wtb",), count - 1), (broken, ("it.wtb", "other.wtb"), len(sixes)),
+                                (broken, ("other.wtb", "it.wtb"), 0), (broken, ("other.wtb",), 0),
                                 (broken, ("it.wtb", "./other.wtb", "other.wtb"), 0),
-                                (whole, ("it.wtb", "other.wtb"), 3),
-                                (whole[:9] + whole[10:], ("other.wtb", "it.wtb"), 3), (whole[:2], ("it.wtb",), 1)):
+                                (whole, ("it.wtb", "other.wtb"), 1),
+                                (whole[:9] + whole[10:], ("other.wtb", "it.wtb"), 0), (whole[:2], ("it.wtb",), 0)):
         write("it.wtb", wthor(records, empties=EMPTIES))
         before = results()
         is_broken = records is broken and "it.wtb" in names
         fives_counted = (len(records) - is_broken) * ("it.wtb" in names)
         wrong = (both() if len(records) > 9 else "") * ("it.wtb" in names)
         sixes_counted = len(sixes) * sum("other" in name for name in names)
-        games("check", "--quiet", *folder_named, "--lines=5", *names, err=illegal * is_broken,
-              status=int(bool(wrong) or is_broken),
+        games("check", "--quiet", *folder_named, *names, err=illegal * is_broken, status=int(bool(wrong) or is_broken),
               out=wrong + counts(fives_counted + sixes_counted, 2 * bool(wrong)))
         after = results()
-        assert before.items() <= after.items() and len(after) - len(before) <= new
-    assert len(after) > 20 and count > 30
-    games("check", "--quiet", "--prune", *folder_named, "--lines=5", "it.wtb", out=counts(2, 0))
-    assert len([name for name in results() if "other" not in name]) == 1
+        assert before <= after and len(after) - len(before) == new
+    games("check", "--quiet", "--prune", *folder_named, "it.wtb", out=counts(2, 0))
+    assert len(results("all" if folder_named else "it.wtb.check")) == 2
 
 
 def test_another_number_of_empty_squares_goes_on_in_the_same_folder():
-    for empties, added in ((5, True), (6, True), (5, False), (6, False)):
+    for empties, added in ((5, COUNT), (6, COUNT), (5, 0), (6, 0)):
         write("it.wtb", wthor([record(it, discs_of_black(positions_of(it)[empties])) for it in PLAYED], empties=0))
         before = len(results())
         games(*CHECK, f"--empties={empties}", out=counts(differ=0))
-        assert (len(results()) > before) == added
+        assert len(results()) == before + added
 
 
 @pytest.fixture
-def slow_check():
-    """The words of a command that checks 90 games, one after the other."""
+def slow_check(install, monkeypatch):
+    """The words of a command that checks 90 games, five at a time, which takes some seconds."""
     played = [game for game in random_games(110, seed=8) if EMPTIES in positions_of(game)][:90]
     exact = [discs_of_black(positions_of(game)[EMPTIES]) for game in played]
     write("it.wtb", wthor(list(map(record, played, exact)), empties=EMPTIES))
-    return sys.executable, PROGRAM, *CHECK, "--lines=1", "--jobs=1"
+    many = install("slow", *BRIEF, script=ACTING)
+    monkeypatch.setenv("PAUSE", "0.1")
+    return sys.executable, shutil.copy(PROGRAM, many.parent), *CHECK, "--jobs=1"
 
 
 @pytest.mark.parametrize("number, of_all", ((signal.SIGINT, True), (signal.SIGTERM, False), (signal.SIGKILL, False)))
@@ -446,9 +451,10 @@ def test_an_interrupted_check_goes_on(start, slow_check, number, of_all):
     (os.killpg if of_all else os.kill)(child.pid, number)
     child.communicate(timeout=SECONDS)
     assert child.returncode == -number
-    assert 0 < len(results()) < 90
+    before = results()
+    assert 0 < len(before) < 90
     games(*slow_check[2:], out=counts(90, 0))
-    assert len(results()) == 90
+    assert before <= results() and len(results()) == 90
 
 
 def test_a_second_check_in_one_folder_is_refused(start, slow_check):
@@ -462,10 +468,14 @@ def test_a_second_check_in_one_folder_is_refused(start, slow_check):
 
 
 def test_check_can_be_cut_for_another_scheduler():
-    ran = run(sys.executable, PROGRAM, *CHECK, "--lines=4", "--cut", text=True)
-    assert (ran.returncode, len(results())) == (0, 0) and "python3 it.wtb.check/solve.py 0-" in ran.stdout
+    write("other.wtb", WHOLE)
+    for names in (["it.wtb"], ["it.wtb", "other.wtb"]):
+        ran = run(sys.executable, PROGRAM, *CHECK[:1], *names, "--cut", text=True)
+        assert (ran.returncode, ran.stderr, len(results())) == (0, "", 0)
+        assert ran.stdout == "".join(f"{COUNT} lines, 0 of them solved; python3 {name}.check/solve.py 0 solves the "
+                                     "others\n" for name in names)
     run(sys.executable, "it.wtb.check/solve.py", "0-99", check=True)
-    games(*CHECK, "--lines=4", status=1, out=both() + counts())
+    games(*CHECK, status=1, out=both() + counts())
 
 
 def test_check_refuses_before_it_solves():
@@ -523,13 +533,13 @@ def alone(folder):
 
 
 @pytest.mark.parametrize("words, given, folder_named", (
-    *((options, " ".join(("--max-empties=60 --lines=10", *options)), "it.wtb.check") for options in (
-        (), ("--jobs=x", "--scheduler=h1:8786", "--cut", "--quiet", "--workers=2", "--table=0", "--book-in=a b"))),
-    (("--folder", "a", "22.wtb"), "--max-empties=60 --lines=10", "a"),
-    (("--max-empties=21", "22.wtb", "--lines=20", "--quiet"), "--max-empties=60 --lines=20 --quiet", "it.wtb.check"),
-    (("./it.wtb",), "--max-empties=60 --lines=10", "./it.wtb.check"),  # two names of one folder
-    (("link/it.wtb",), "--max-empties=60 --lines=10", "it.wtb.check"),
-    (("--max-empties=22", "22.wtb"), "--max-empties=60 --lines=10 --cut", "22.wtb.check"),  # two: each is first cut
+    *((options, " ".join(("--max-empties=60", *options)), "it.wtb.check") for options in (
+        (), ("--jobs=x", "--scheduler=h1:8786", "--cut", "--quiet", "--table=0", "--book-in=a b"))),
+    (("--folder", "a", "22.wtb"), "--max-empties=60", "a"),
+    (("--max-empties=21", "22.wtb", "--quiet"), "--max-empties=60 --quiet", "it.wtb.check"),
+    (("./it.wtb",), "--max-empties=60", "./it.wtb.check"),  # two names of one folder
+    (("link/it.wtb",), "--max-empties=60", "it.wtb.check"),
+    (("--max-empties=22", "22.wtb"), "--max-empties=60 --cut", "22.wtb.check"),  # two: each is first opened
 ))
 def test_ffosolve_many_gets_the_options(alone, words, given, folder_named):
     write("bin/ffosolve-many", '#!/bin/sh\necho "$*" >>words\necho output\nexit 3\n')

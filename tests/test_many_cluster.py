@@ -21,7 +21,9 @@ from ffosolve._many import solve
 from tests import many
 from tests.support import ROOT, SECONDS, limited, processes_in, run, stored, unshared, wait_until, write
 
-WORDS = ("--lines=4", "--book-in=one.book", *many.WORDS[1:])  # 15 parts
+WORDS = ("--book-in=one.book", *many.WORDS)
+# Changes of `install`: SMALL is 15 batches of 4 lines, and each is stored at once.
+BATCHES = ("folder", "CHUNK = 10_000", "CHUNK = 4"), many.BRIEF[1]
 
 
 @pytest.fixture(scope="module")
@@ -38,7 +40,7 @@ class Cluster:
 
     def __init__(self, case, python):
         self.case, self.python, self.daemons, self.port = case, python, {}, "0"
-        self.hasty = case.install("hasty", ("cluster", "LOST_SECONDS = 30", "LOST_SECONDS = 12"),
+        self.hasty = case.install("hasty", *BATCHES, ("cluster", "LOST_SECONDS = 30", "LOST_SECONDS = 12"),
                                   ("solve", "KNOWN_SECONDS = 30", "KNOWN_SECONDS = 5"),
                                   ("engine", "(1 if is_terminal else 60)", "1"), script=many.ACTING)
 
@@ -72,10 +74,10 @@ class Cluster:
 
     def begin(self, solved=0):
         """Starts ffosolve-many on the cluster, with its standard error in the file `messages`. Returns its process once
-        `solved` parts are solved."""
+        `solved` batches are solved."""
         with open("messages", "wb") as log:
             ran = self.case.start(self.hasty, "--scheduler=scheduler.json", *WORDS, stderr=log)
-        wait_until(lambda: self.case.parts_solved() >= solved)
+        wait_until(lambda: self.case.solved() >= 4 * solved)
         return ran
 
     def ended(self, ran, status=0):
@@ -91,10 +93,10 @@ class Cluster:
 
     def leaves_nothing(self):
         wait_until(lambda: not self.case.programs() and not self.packs())
-        assert {path.parts[0] for path in Path(".").rglob("ffosolve-?")} <= {"work", "scores"}
+        assert [*Path(".").rglob("ffosolve-?")] == []
 
     def programs(self, worker):
-        """Returns the IDs of the processes that solve parts on a worker."""
+        """Returns the IDs of the processes that solve batches on a worker."""
         below = psutil.Process(self.daemons[worker].pid).children(recursive=True)
         return self.case.programs() & {process.pid for process in below}
 
@@ -117,7 +119,7 @@ def cluster(case, dask_python):
 
 
 def test_report_book_and_scores_are_those_of_one_run(cluster, case):
-    """A worker solves as many parts at once as it has threads, and may lose its folder."""
+    """A worker solves as many batches at once as it has threads, and may lose its folder."""
     cluster.start_workers("worker1", options=["--nthreads=3"], PAUSE="1")
     cluster.start_workers("worker2", PAUSE="1")
     ran = cluster.begin()
@@ -134,9 +136,9 @@ def test_report_book_and_scores_are_those_of_one_run(cluster, case):
 
 def test_workers_are_waited_for_and_may_be_killed_or_fall_silent_or_join_late(cluster):
     ran = cluster.begin()
-    wait_until(lambda: "0%, no machine at work, parts 0 of 15" in messages())
+    wait_until(lambda: "0%, no machine at work, lines 0 of 60" in messages())
     cluster.start_workers("worker1", "worker2", "worker3", PAUSE="3")
-    wait_until(lambda: cluster.case.parts_solved() and cluster.programs("worker1") and cluster.programs("worker2"))
+    wait_until(lambda: cluster.case.solved() and cluster.programs("worker1") and cluster.programs("worker2"))
     cluster.signal(signal.SIGKILL, "worker1")
     cluster.signal(signal.SIGSTOP, "worker2")
     cluster.start_workers("worker1", PAUSE="0.1")
@@ -146,8 +148,8 @@ def test_workers_are_waited_for_and_may_be_killed_or_fall_silent_or_join_late(cl
 
 
 @pytest.mark.parametrize("names, told", [
-    (["worker1", "worker2"], "%, no machine at work, parts "),
-    (["scheduler"], r"%, the scheduler has been silent for \d+ s, parts \d+ of 15\n")])
+    (["worker1", "worker2"], "%, no machine at work, lines "),
+    (["scheduler"], r"%, the scheduler has been silent for \d+ s, lines \d+ of 60\n")])
 def test_all_workers_may_be_silent_for_longer_than_the_scheduler_waits_and_a_silent_scheduler_is_said_to_be(
         cluster, names, told):
     cluster.start_workers("worker1", "worker2", PAUSE="1")
@@ -158,7 +160,7 @@ def test_all_workers_may_be_silent_for_longer_than_the_scheduler_waits_and_a_sil
     cluster.ended(ran)
 
 
-def test_a_worker_that_is_not_fit_gets_no_part_until_it_is_started_again(cluster, case):
+def test_a_worker_that_is_not_fit_gets_no_batch_until_it_is_started_again(cluster, case):
     """Then it is the only fit one, which may be replaced."""
     cluster.start_workers("worker1", SPOIL_KNOWN="lambda text: text.replace(b'+', b'-')", options=["--worker-port=0"])
     cluster.start_workers("worker2", SPOIL_KNOWN="lambda text: time.sleep(60)")
@@ -168,7 +170,7 @@ def test_a_worker_that_is_not_fit_gets_no_part_until_it_is_started_again(cluster
         assert re.search(rf"\n.*: (tcp://127\.0\.0\.1:\d+) is left out: {why}\n", messages())
     port = re.search(r":(\d+) is left out: the program solves", messages())[1]
     cluster.start_workers("worker1", options=[f"--worker-port={port}"], PAUSE="0.5")
-    wait_until(lambda: case.parts_solved() >= 2)
+    wait_until(lambda: case.solved() >= 2)
     cluster.signal(signal.SIGKILL, "worker1")
     cluster.start_workers("worker3")
     assert "failed" not in cluster.ended(ran)
@@ -183,26 +185,36 @@ def test_a_silent_worker_keeps_none_that_joins_from_work(cluster, case, others):
     wait_until(lambda: messages().count(" is left out: ") == len(others) and cluster.programs("worker2"))
     cluster.signal(signal.SIGSTOP, "worker2")  # which alone has the program
     cluster.start_workers("worker3")
-    wait_until(lambda: case.parts_solved() == 15)
+    wait_until(lambda: case.solved() == 60)
     cluster.signal(signal.SIGCONT, "worker2")
     cluster.ended(ran)
 
 
-def test_a_worker_that_fails_three_parts_in_a_row_is_left_out_but_not_the_last_one(cluster):
-    cluster.start_workers("worker1", SPOIL="lambda text: text[:-5]")
+def test_a_worker_that_fails_three_batches_in_a_row_is_left_out_but_not_the_last_one_that_has_solved_some(cluster):
+    spoiled = "lambda text: text[:-5] if os.path.exists('spoiled') else text"
+    cluster.start_workers("worker1", SPOIL=spoiled, PAUSE="0.2")
+    ran = cluster.begin(solved=2)
+    write("spoiled", "")
+    told = cluster.ended(ran, 1)
+    assert (told.count(" is left out"), told.count(": not solved: line ")) == (0, 10)
     cluster.start_workers("worker2", PAUSE="1")
     told = cluster.ended(cluster.begin())
-    assert len(re.findall(r" failed part 00000\d\d \(lines \d+ to \d+\): its results are not complete\n", told)) == 3
-    assert told.count(" is left out: 3 parts failed in a row that others solve\n") == 1
-    shutil.rmtree("work")
-    cluster.signal(signal.SIGKILL, "worker2")
-    wait_until(lambda: "Remove worker" in Path("scheduler.log").read_text())
-    told = cluster.ended(cluster.begin(), 1)
-    assert "not solved: 15 of 15 parts: part 0000000 (lines 1 to " in told
-    assert told.count("failed part 0000000 ") == 3
+    assert len(re.findall(r" failed line \d+ and \d others?: its results are not complete\n", told)) >= 3
+    assert told.count(" is left out: 3 batches failed in a row") == 1
 
 
-def test_a_worker_whose_program_breaks_is_left_out_and_fails_no_part(cluster):
+def test_a_broken_worker_that_comes_first_uses_up_no_list(cluster):
+    """It solves the known line alone. Then the run waits for workers."""
+    cluster.start_workers("worker1", SPOIL="lambda text: text[:-5]")
+    ran = cluster.begin()
+    wait_until(lambda: " is left out: 3 batches failed in a row, and it has solved none\n" in messages())
+    wait_until(lambda: messages().endswith("%, no machine at work, lines 0 of 60\n"))
+    assert ran.poll() is None
+    cluster.start_workers("worker2")
+    assert "not solved" not in cluster.ended(ran)
+
+
+def test_a_worker_whose_program_breaks_is_left_out_and_fails_no_batch(cluster):
     broken = "lambda text: sys.exit('broken') if os.path.exists('broken') else text"
     cluster.start_workers("worker1", PAUSE="0.5", SPOIL=broken, SPOIL_KNOWN=broken)
     cluster.start_workers("worker2", PAUSE="1")
@@ -224,7 +236,7 @@ def test_a_worker_on_which_this_code_raises_an_error_is_left_out_and_one_without
 
 
 @pytest.mark.parametrize("allowed", ["0", "3"])
-def test_a_machine_whose_workers_end_before_they_solve_a_known_line_is_named_and_no_part_fails(cluster, allowed):
+def test_a_machine_whose_workers_end_before_they_solve_a_known_line_is_named_and_no_batch_fails(cluster, allowed):
     """All are on one machine, but the other worker has solved one."""
     cluster.start_scheduler(DASK_DISTRIBUTED__SCHEDULER__ALLOWED_FAILURES=allowed)
     cluster.start_workers("worker1", PAUSE="2")
@@ -233,7 +245,7 @@ def test_a_machine_whose_workers_end_before_they_solve_a_known_line_is_named_and
     told = cluster.ended(ran)
     assert (" failed " in told, " memory " in told) == (False, False)
     named = told.count("127.0.0.1 is left out: 4 workers ended before they had solved a known line")
-    assert named == 1 if allowed == "0" else named <= 1  # with 3, Dask may try the part again on worker1
+    assert named == 1 if allowed == "0" else named <= 1  # with 3, Dask may try the batch again on worker1
 
 
 def test_another_version_of_dask_is_refused_at_the_start_by_both_versions(cluster, case):
@@ -253,7 +265,7 @@ def test_a_folder_where_no_program_may_run_is_fine_and_a_finished_one_needs_no_s
              ' cmp report work.report && "$@" --scheduler=tcp://127.0.0.1:1')
     write("work.report", case.one)
     unshare, *words = unshared()
-    case.many(*words, "sh", "-c", mount, "sh", case.MANY, *WORDS, by=unshare, message=", 15 of them solved before")
+    case.many(*words, "sh", "-c", mount, "sh", case.MANY, *WORDS, by=unshare, message=", 60 of them solved before")
     cluster.leaves_nothing()
 
 
@@ -265,22 +277,25 @@ def test_a_worker_that_fails_now_and_then_is_not_left_out(cluster, case):
     assert told.count(" failed ") >= 3 and "left out" not in told
 
 
-def test_parts_that_fail_everywhere_take_no_worker_out(cluster, case):
+def test_batches_that_fail_everywhere_take_no_worker_out_that_has_solved_one(cluster, case):
+    """The lines that fail come last, since they are the least work."""
     cluster.start_workers("worker1", "worker2", "worker3", PAUSE="0.2")
-    write("list.obf", b"".join(b"%% FAIL %d\n" % number for number in range(24)) + case.SMALL)
-    told = cluster.ended(cluster.begin(), 1)
-    count = int(re.search(r": not solved: (\d) of \d\d parts: part 0000000 \(lines 1 to ", told)[1])
-    assert (told.count(" failed part "), "left out" in told, count > 3) == (3 * count, False, True)
-    for number in range(count):
-        assert len({*re.findall(rf"(\S+) failed part 000000{number} ", told)}) == 3
+    write("list.obf", b"".join(b"FAIL %d\n" % number for number in range(9)) + case.SMALL)
+    ran = cluster.begin()
+    told = cluster.ended(ran, 1)
+    assert {*re.findall(r": not solved: (line \d):", told)} == {f"line {number}" for number in range(1, 10)}
+    assert (case.solved(), "left out" in told) == (60, False)
+    for number in range(1, 10):  # each has failed as a batch of its own, or as the last one that is left of one
+        assert len(re.findall(rf"\S+ failed line {number}: ", told)) == 3
 
 
-def test_a_part_that_kills_its_worker_is_not_solved_and_the_others_are(cluster, case):
+def test_a_line_that_kills_its_worker_is_named_and_the_others_are_solved(cluster, case):
     cluster.start_workers("worker1", options=["--nthreads=2"])
-    write("list.obf", case.SMALL[:68 * 22] + b"% KILL\n" + case.SMALL[68 * 22:])
+    write("list.obf", case.SMALL + b"KILL\n")  # a batch of its own
     told = cluster.ended(cluster.begin(), 1)
-    (part,) = re.findall(r": not solved: 1 of \d+ parts: (part \d+ \(lines \d+ to \d+\))\. ", told)
-    assert told.count(f"failed {part}: 4 workers ended that had it\n") == 2
+    assert re.findall(": not solved: (.*)", told) == ["line 61: 4 workers ended that had it",
+                                                      "1 of 61 lines. The same command solves only these"]
+    assert (told.count("failed line 61: 4 workers ended that had it\n"), case.solved()) == (2, 60)
 
 
 def test_a_scheduler_that_is_back_at_once_goes_on_and_one_that_is_lost_ends_the_run(cluster):
@@ -316,11 +331,11 @@ def test_a_caller_that_a_signal_ends_leaves_nothing_on_the_workers(cluster):
 def test_a_full_disk_ends_the_run_and_it_goes_on_when_there_is_room(cluster, case):
     cluster.start_workers("worker1", "worker2")
     words = ("--scheduler=scheduler.json", *WORDS)
-    run(case.MANY, "--cut", *WORDS)
-    full = limited(RLIMIT_FSIZE=len(case.one) // 15 + 400)  # some records are longer
-    case.many(*words, preexec_fn=full, status=3, message="ffosolve-many: cannot write work/results/")
+    full = limited(RLIMIT_FSIZE=24_000)  # some answers fit
+    told = case.many(*words, by=cluster.hasty, preexec_fn=full, status=3)
+    assert told.splitlines()[-1].startswith("ffosolve-many: cannot write work/answers: ")
     cluster.leaves_nothing()
-    case.many(*words, message=f"in 15 parts, {case.parts_solved()} of them solved before")
+    case.many(*words, message=f": 60 lines, {case.solved()} of them solved before")
 
 
 def test_what_is_sent_needs_no_certain_python_and_no_package_but_dask():
@@ -350,7 +365,7 @@ def one(monkeypatch):
             patch.setattr(what, mock.Mock())
         patch.setattr(cluster.Cluster, "ask", mock.Mock())
         patch.setattr(cluster, "client_of", mock.Mock(return_value=mock.Mock(status="running")))
-        one = cluster.Cluster("tcp://h1:1", mock.Mock(statuses={}, pack=solve.Pack("", {"files": {}}, {})))
+        one = cluster.Cluster("tcp://h1:1", mock.Mock(each=None, pack=solve.Pack("", {"files": {}}, {})))
     one.workers, one.count, one.threads, one.key = {(name, name): 1 for name in "abc"}, 3, 3, "ffosolve-key"
     one.about = {name: {"local_directory": name, "nthreads": 2, "host": "h1", "last_seen": 0, "metrics": {}}
                  for name in "abcd"}
@@ -361,31 +376,34 @@ def one(monkeypatch):
     return one
 
 
-# What the workers make of parts (as in `a1 b1+`: a fails part 1, then b solves it), which of them get more, and which
-# are left out.
+# What the workers make of batches (as in `a1 b1+`: a fails batch 1, then b solves it), which of them get more, and
+# which are left out.
 @pytest.mark.parametrize("made, chosen, left_out", [
-    ("a1 a2", "abc", ""), ("a1 a2 a9+ a3", "abc", ""), ("a1 a2 a3", "bc", ""), ("a1 a2 a3 b1+ c2+", "bc", ""),
-    ("a1 a2 a3 b1+ c2+ c3+", "bc", "a"), ("a1 a2 a3 a4 b1+ c2+ c3+ a9+", "bc", "a"), ("a1 a2 a3 b1+ b2+ b3", "abc", ""),
-    ("a1 a2 a3 b1", "abc", ""), ("b9 a1 a2 a3 b1", "bc", ""), ("a1 a2 a3 b4 b5 b6", "c", ""),
-    ("a1 a2 a3 b4 b5 b6 c7 c8 c9", "abc", "")])
-def test_workers_are_left_out_for_parts_that_others_solve_not_for_those_that_fail_for_all(one, made, chosen, left_out):
-    failed = set()
-    for name, part, *solved in made.split():
-        one.run.statuses.update({int(part): 0} if solved else {})
-        one.counts((name, name), int(part), bool(solved), part in failed)
-        failed.add(part)
+    ("a1 a2", "abc", ""), ("a1 a2 a9+ a3", "abc", ""), ("a9+ a1 a2 a3", "bc", ""), ("a9+ a1 a2 a3 b1+ c2+", "bc", ""),
+    ("a9+ a1 a2 a3 b1+ c2+ c3+", "bc", "a"), ("a9+ a1 a2 a3 a4 b1+ c2+ c3+ a8+", "bc", "a"),
+    ("a9+ a1 a2 a3 b1+ b2+ b3", "abc", ""), ("a9+ a1 a2 a3 b1", "abc", ""), ("b9 a8+ a1 a2 a3 b1", "bc", ""),
+    ("a9+ b8+ a1 a2 a3 b4 b5 b6", "c", ""), ("a9+ b8+ c7+ a1 a2 a3 b4 b5 b6 c10 c11 c12", "abc", ""),
+    ("a1 a2 a3", "bc", "a"), ("b9+ a1 a2 a3", "bc", "a"), ("a1 a2 b1 a3", "abc", "")])
+def test_workers_are_left_out_for_batches_that_others_solve_and_those_that_solve_none_but_not_if_these_fail_for_all(
+        one, made, chosen, left_out):
+    failed, batch, words = set(), mock.Mock(number=0), (b"", 1, None)
+    for name, number, solved in re.findall(r"(\w)(\d+)(\+?)", made):
+        is_counted = one.counts((name, name), int(number), bool(solved), number in failed)
+        failed.add(number)
     said = "".join(call[0][0][0] for call in one.said.call_args_list)
     assert ("".join(sorted(one.chosen())), said) == (chosen, left_out)
+    has_solved_none = f"{left_out}" != "" and f"{left_out}9+" not in made
+    assert (one.discounted, is_counted) == ({left_out} if has_solved_none else set(), not has_solved_none)
     for name in "bbc":
         one.answer = mock.AsyncMock(return_value=((name, name), "unfit", b"", ""))
-        assert asyncio.run(one.solve("part", [])) == ("part", None, "", [])
+        assert asyncio.run(one.solve(batch, words, [])) == (batch, None, "", [])
     assert one.chosen(["a"]) == ({*"a"} - {*left_out})  # the last one that is fit, if any
     assert [call[0][0] for call in one.said.call_args_list[-2:]] == ["b is left out: unfit", "c is left out: unfit"]
 
 
-def test_a_worker_that_is_silent_or_not_fit_gets_no_part_and_the_only_pack_is_not_left_to_it(one):
+def test_a_worker_that_is_silent_or_not_fit_gets_no_batch_and_the_only_pack_is_not_left_to_it(one):
     one.client.processing.return_value = {"a": ["ffosolve-other-5-x", "ffosolve-key-3-x"], "b": ["ffosolve-key-7-x"]}
-    one.left_out, one.signs, begun = {("c", "c")}, {("b", "b"): (0, time.monotonic() - 31)}, set()
+    one.left_out, one.signs, begun = {("c", "c")}, {(("b", "b"), "silent"): (0, time.monotonic() - 31)}, set()
     del one.about["d"]
     for holders in ("b", "bc", "ab"):
         one.pack = pack = mock.Mock(key="pack", status="finished")
@@ -395,11 +413,11 @@ def test_a_worker_that_is_silent_or_not_fit_gets_no_part_and_the_only_pack_is_no
         assert one.places == {"ffosolve-key-3-x": ("a", "a"), "ffosolve-key-7-x": ("b", "b")}
         assert (one.silent, one.pack is pack) == (1, holders != "b")
         begun.add(one.running[3])
-    assert len(begun) == 1  # a part goes on
+    assert len(begun) == 1  # a batch goes on
 
 
-def test_a_worker_that_begins_none_of_its_parts_is_stuck_and_named(clock, one):
-    """Its parts are for others, until it begins one. The others have no parts, or are at work, or have brief parts, or
+def test_a_worker_that_begins_none_of_its_batches_is_stuck_and_named(clock, one):
+    """Its batches are for others, until it begins one. The others have none, or are at work, or have brief ones, or
     wait for another Pack."""
     packs = mock.Mock(), mock.Mock()
     for clock.now in range(0, 150, 5):
@@ -412,7 +430,19 @@ def test_a_worker_that_begins_none_of_its_parts_is_stuck_and_named(clock, one):
         asyncio.run(one.ask())
         assert (("a", "a") in one.workers) == (not is_stuck) and {("b", "b"), ("c", "c")} < one.workers.keys()
     (told,) = one.said.call_args_list
-    assert told[0] == ("a begins no part: is its memory too small for the program and any --book-in?",)
+    assert told[0] == ("a begins no batch: is its memory too small for the program and any --book-in?",)
+
+
+def test_a_worker_that_falls_silent_while_it_is_idle_is_given_up_after_30_seconds_and_not_said_to_lack_memory(
+        clock, one):
+    one.about["a"].update(metrics={"task_counts": {"executing": 0}})
+    one.client.processing.return_value = {"a": ["ffosolve-key-1-x"]}
+    for clock.now in range(0, 200, 5):
+        one.about["a"]["last_seen"] = min(clock.now, 10)
+        asyncio.run(one.ask())
+        assert (("a", "a") in one.workers) == (clock.now <= 40)
+        assert one.silent == (clock.now > 40)
+    assert one.said.call_args_list == []
 
 
 def test_a_question_that_fails_is_asked_again_and_the_seconds_in_which_this_process_is_stopped_do_not_count(clock, one):
@@ -436,7 +466,7 @@ def test_a_question_that_fails_is_asked_again_and_the_seconds_in_which_this_proc
 
 @pytest.mark.parametrize("workers, count, most, alone", [
     ("", 0, 100, 1), ("", 2, 0, 0), ("ab", 2, 104, 1), ("abcd", 4, 108, 2), ("ab", 3, 4, 1)])
-def test_parts_are_sent_ahead_unless_some_workers_may_not_have_them(one, workers, count, most, alone):
+def test_batches_are_sent_ahead_unless_some_workers_may_not_have_them(one, workers, count, most, alone):
     one.workers, one.count, one.threads = {(name, name): 1 for name in workers}, count, len(workers)
     assert (one.most(is_alone=False), one.most(is_alone=True)) == (most, alone)
     one.client.status = "connecting"
@@ -446,10 +476,10 @@ def test_parts_are_sent_ahead_unless_some_workers_may_not_have_them(one, workers
 @pytest.mark.parametrize("workers, count, is_new, at, copies", [
     ("a", 3, False, "", 0), ("ab", 3, False, "", 1), ("a", 3, True, "", 1), ("ab", 3, False, "a", 0),
     ("a", 3, True, "a", 1), ("ab", 1, False, "", 0), ("ab", 3, False, "c", 1), ("", 3, False, "c", 0)])
-def test_a_part_is_sent_after_the_pack_and_again_if_no_fit_worker_has_it(one, workers, count, is_new, at, copies):
+def test_a_batch_is_sent_after_the_pack_and_again_if_no_fit_worker_has_it(one, workers, count, is_new, at, copies):
     """Only the worker a is fit, then these `workers` are, and the Pack may be a new one. The worker `at`, which is fit
-    or not, has the part, or it waits. The first answer counts; then the others are cancelled."""
-    class Sent(asyncio.Future):  # what Dask's client returns for a part
+    or not, has the batch, or it waits. The first answer counts; then the others are cancelled."""
+    class Sent(asyncio.Future):  # what Dask's client returns for a batch
         async def cancel(self):
             super().cancel()
 
@@ -457,41 +487,43 @@ def test_a_part_is_sent_after_the_pack_and_again_if_no_fit_worker_has_it(one, wo
         if not key:
             packs.append(mock.Mock(status="pending", **how))
             return packs[-1]
-        parts.append(Sent())
-        parts[-1].key, parts[-1].how = key, how
-        return parts[-1]
+        copies_sent.append(Sent())
+        copies_sent[-1].key, copies_sent[-1].how = key, how
+        return copies_sent[-1]
 
     async def first_seconds():
-        sent = [asyncio.ensure_future(one.solve(mock.Mock(number=7), failed)) for failed in ([], ["a"], ["a", "b"])]
+        sent = [asyncio.ensure_future(one.solve(mock.Mock(number=7), (b"", 1, None), failed))
+                for failed in ([], ["a"], ["a", "b"])]
         await asyncio.sleep(0.5)
-        one.workers, one.places = {(name, name): 1 for name in workers}, {part.key: (at, at) for part in parts if at}
+        one.workers = {(name, name): 1 for name in workers}
+        one.places = {copy.key: (at, at) for copy in copies_sent if at}
         one.pack = mock.Mock(status="pending") if is_new else one.pack
         await asyncio.sleep(0.8)
         assert not any(future.done() for future in sent)
-        parts[-1].set_result((("a", "a"), "unfit", b"", ""))
-        await asyncio.sleep(0.1)
-        assert (sent[-1].done(), sum(part.cancelled() for part in parts)) == (True, copies)
+        copies_sent[-1].set_result((("a", "a"), "unfit", b"", ""))
+        await asyncio.wait_for(asyncio.shield(sent[-1]), SECONDS)
+        assert sum(copy.cancelled() for copy in copies_sent) == copies
 
-    packs, parts = [], []
+    packs, copies_sent = [], []
     one.client.submit.side_effect = submit
     one.workers, one.count, one.ask = {("a", "a"): 1}, count, mock.AsyncMock()
     asyncio.run(first_seconds())
-    assert (len(parts), one.ask.call_count) == (3 + 3 * copies, 2)
-    assert [part.how["priority"] for part in parts[:3]] == [0, 1, 2] and packs[0].priority > 2
-    assert [part.how["workers"] for part in parts[:3]] == [["a"] if count > 1 else None] * 3
+    assert (len(copies_sent), one.ask.call_count) == (3 + 3 * copies, 2)
+    assert [copy.how["priority"] for copy in copies_sent[:3]] == [0, 1, 2] and packs[0].priority > 2
+    assert [copy.how["workers"] for copy in copies_sent[:3]] == [["a"] if count > 1 else None] * 3
 
 
 @pytest.mark.parametrize("allowed, count", [(0, 4), (1, 2), (3, 1), (9, 1)])
-def test_no_part_is_to_blame_before_four_workers_have_ended_and_a_machine_whose_workers_solve_no_known_line_is(
+def test_no_batch_is_to_blame_before_four_workers_have_ended_and_a_machine_whose_workers_solve_no_known_line_is(
         one, allowed, count):
-    """A Pack that ended workers counts once for all parts that waited. If none solves such a line, the run ends."""
+    """A Pack that ended workers counts once for all batches that waited. If none solves such a line, the run ends."""
     import distributed
-    part, ends = mock.Mock(digest="it"), (allowed + 1) * count
+    batch, words, ends = mock.Mock(number=7), (b"", 1, None), (allowed + 1) * count
     worker = mock.Mock(address="tcp://h1:1", local_directory="a", host="h1")
     for place, why, at in (("new", "", []), ("a", f"{ends} workers ended that had it", 2 * ["tcp://h1:1"])):
         worker.local_directory = place
         one.tested = {("tcp://h1:1", "a")}
-        told = [one.blame(part, distributed.KilledWorker(f"ffosolve-key-7-{place}{number}", worker, allowed))
+        told = [one.blame(7, distributed.KilledWorker(f"ffosolve-key-7-{place}{number}", worker, allowed))
                 for number in range(count)]
         assert told == [("", [])] * (count - 1) + [(why, at)]
     (said,), = (call[0] for call in one.said.call_args_list)
@@ -501,16 +533,20 @@ def test_no_part_is_to_blame_before_four_workers_have_ended_and_a_machine_whose_
     assert one.workers == {("a", "a"): 2}  # which has solved one
     one.ends.clear()
     for _ in range(100):
-        assert one.blame(part, distributed.KilledWorker("pack", worker, 0)) == ("", [])
+        assert one.blame(7, distributed.KilledWorker("pack", worker, 0)) == ("", [])
     assert one.ends == {"h1": {"pack": 1}}
     one.tested, one.answer = set(), mock.AsyncMock(side_effect=distributed.KilledWorker("pack", worker, 3))
     with pytest.raises(Refusal, match="^h1: 4 workers ended before .* memory too small"):
-        asyncio.run(one.solve(part, []))
+        asyncio.run(one.solve(batch, words, []))
     one.tested = {("tcp://h1:1", "a")}
     one.answer.side_effect = distributed.KilledWorker("ffosolve-key-7-x", worker, 3)
-    assert asyncio.run(one.solve(part, [])) == (part, None, "4 workers ended that had it", 2 * ["tcp://h1:1"])
+    assert asyncio.run(one.solve(batch, words, [])) == (
+        batch, None, "4 workers ended that had it", 2 * ["tcp://h1:1"])
     one.answer.side_effect = ValueError("Dask can't run it\nat all")
-    assert asyncio.run(one.solve(part, [])) == (part, None, "Dask can't run it", ["a worker"])
+    assert asyncio.run(one.solve(batch, words, [])) == (batch, None, "Dask can't run it", ["a worker"])
+    for lost in (ConnectionResetError("in <TCP>"), BrokenPipeError()):  # while the result is fetched
+        one.answer.side_effect = lost
+        assert asyncio.run(one.solve(batch, words, [])) == (batch, None, "", [])
 
 
 def test_the_adaptive_cluster_of_the_document_starts_and_ends_workers_by_need(case, dask_python):

@@ -1,460 +1,580 @@
-"""ffosolve-many cuts a list into parts, goes on after any interruption, and uses only complete results of a part."""
+"""ffosolve-many solves each line once, goes on after any interruption, and uses only intact answers to that line."""
 import ast
 import errno
-import io
+import json
 import os
 import random
 import re
 import shutil
 import signal
+import sqlite3
 import stat
 import sys
 import threading
 import time
-import zlib
-from collections import Counter
 from pathlib import Path
-from unittest import mock
 
 import pytest
 
 from ffosolve._command_line import counted
-from ffosolve._many import folder, solve
-from tests.many import ACTING, BOARD, INTERRUPTED, WORDS, files
+from ffosolve._many import folder, rows, solve, store
+from tests.many import ACTING, BOARD, BRIEF, INTERRUPTED, WORDS, files, over, run_of
 from tests.support import (MOST_BYTES, NOBODY, SECONDS, ends, limited, positions, preload, processes_in, run, unshared,
                            wait_until, write)
 
 SOLVE = (sys.executable, "work/solve.py")
+LOST = "lines, {} of them solved before"
 
 
-@pytest.mark.parametrize("program, book, whole", [
-    ("ffosolve", b"%", b"[1]\n1 +02 A1 agree\nsolved 1 refused 0\n"),
-    ("ffoscores", b"", b"A1:+02;\n%\n% blank and comment\n\n% blank\n\r\n")])
-def test_results_are_complete_with_a_row_for_each_line_and_on_the_disk_if_they_took_a_second(
-        tmp_path, program, book, whole):
-    task = {"program": program, "options": {"--max-empties": 20}, "lines": 9}
-    text = BOARD + b" X;\n\n%\n \t% X\n\r\n \t\r"
-    (part,) = folder.cut(io.BytesIO(text), "list", task)
-    one = folder.Run.__new__(folder.Run)
-    one.folder, one.place, one.task, one.statuses = tmp_path, tmp_path, task, {}
-    write(tmp_path / "list", text)
-    (tmp_path / "results").mkdir()
-    for output in (whole, whole[:-1], b"", whole + b"\n", whole.partition(b"\n")[2]):
-        for seconds in (0.9, 1.0):
-            record = solve.sealed(part.digest, b"0 %d %.3f\n" % (len(output), seconds) + output + book)
-            with mock.patch.object(os, "fsync") as synced:
-                assert bool(one.keep(part, record, "")[0]) == (output == whole)
-            assert synced.call_count == (output == whole and seconds == 1)
+def record_of(text, output, book=b"", program="ffosolve"):
+    """Returns a record as solve.Pack.solve makes it."""
+    options = {"--max-empties": 20, "--scoring": "winner", "--complete": None}
+    about = {"program": program, "options": options, "sizes": [len(text), len(output)], "seconds": 1.5}
+    return solve.sealed(json.dumps(about).encode() + b"\n" + text + output + book)
 
 
-def test_a_side_that_goes_on_with_letters_is_named_once(capfd):
-    task = {"program": "ffosolve", "options": {"--max-empties": 20}, "lines": 1}
+@pytest.mark.parametrize("program", ["ffosolve", "ffoscores"])
+def test_results_are_used_only_if_each_line_has_its_row_and_each_row_its_entry(case, program):
+    other = positions(1, 3, 3).rstrip()
+    text = b"\n".join([BOARD + b" X; A1:+52; % X", b"", b"%", b"-X", other])
+    write("list.obf", text)
+    words = ["--book-out=a.book"] * (program == "ffosolve")
+    output = run(case.MANY.with_name(program), *words, "list.obf").stdout
+    book = Path("a.book").read_bytes() if words else b""
+    head, *lines = output.splitlines(keepends=True)
+    header, *entries = book.splitlines(keepends=True) or [b""]
+    answers, seconds = rows.answers_in(record_of(text, output, book, program))
+    assert (len(answers), seconds) == (3, 1.5)
+    spoiled = [(output[:-1], book), (b"", book), (output + b"\n", book), (output.partition(b"\n")[2], book),
+               (head + b"".join(lines[1:]), book), (head + b"".join(lines[:1] + lines), book)]
+    if program == "ffosolve":
+        last = entries[0].replace(b":+", b":-", 1) if b":+" in entries[0] else entries[0].replace(b":-", b":+", 1)
+        spoiled += [(head + b"".join([lines[0], lines[2], lines[1], lines[3]]), book), (output, b""),
+                    (output, header + entries[0]), (output, header + entries[1]), (output, header + last + entries[1]),
+                    (output, book + entries[0][:63] + b"X" + entries[0][64:]),
+                    (output.replace(b"\n5 ", b"\n6 "), book), (output.replace(b"[1]", b"[2]"), book)]
+    for output, book in spoiled:
+        with pytest.raises(ValueError):
+            rows.answers_in(record_of(text, output, book, program))
+    for bad in (b"", record_of(text, output, book)[:-1], record_of(text, output, book).replace(b"-X", b"-O")):
+        with pytest.raises(ValueError):
+            rows.answers_in(bad)
+
+
+def test_a_side_that_goes_on_with_letters_is_named_once(folder, capfd):
     fit = ((side, "", "") for side in (" black;", " WHITE", "XA1:+02;", "ops:-02;", " * blanc"))
     for side, word, colour in ((" blanc;", "blanc", "Black"), ("\tbianco", "bianco", "Black"),
                                ("Weiss % X", "Weiss", "White"), ("OX O;", "OX", "White"), *fit):
         text = f"% {BOARD.decode()} blanc\n\n{BOARD.decode()} X\n  {BOARD.decode()}{side}\n"
-        assert len([*folder.cut(io.BytesIO(2 * text.encode()), "list", task)]) == 8
-        told = f"ffosolve: list line 4: the side {word} is read as {colour}: only its first letter counts\n"
+        assert run_of(2 * text.encode()).count == 4
+        told = f"ffosolve: list.obf line 4: the side {word} is read as {colour}: only its first letter counts\n"
         assert capfd.readouterr().err == (told if word else "")
 
 
 def test_the_lock_of_a_run_that_ends_is_waited_for_and_a_folder_that_takes_its_place_is_not_used(tmp_path):
-    place = folder.lock(tmp_path / "new/work")
+    place, has_locks = folder.lock(tmp_path / "new/work")
     (lock,) = (path for path in Path("/proc/self/fd").iterdir() if path.resolve().name == folder.LOCK)
     threading.Timer(0.5, os.close, [int(lock.name)]).start()
-    assert folder.lock(tmp_path / "new/work") == place
+    assert folder.lock(tmp_path / "new/work") == (place, has_locks) == (place, True)
     (tmp_path / "new").rename(tmp_path / "old")
     write(tmp_path / "new/work/task", "")
     assert os.listdir(place) == [folder.LOCK]
 
 
-def test_a_file_system_without_locks_is_named(tmp_path, capfd):
+def test_a_file_system_without_locks_is_named_and_used(case):
+    """No file system here lacks flock, so flock fails."""
     for number in (errno.ENOSYS, errno.ENOLCK, errno.EOPNOTSUPP):
-        writing = mock.patch.object(os, "listdir", return_value=[folder.LOCK, "a file that a run is writing"])
-        with mock.patch("fcntl.flock", side_effect=OSError(number, os.strerror(number))), writing:
-            folder.lock(tmp_path)
-        assert (f"cannot lock {tmp_path}, since its file system has no flock ({os.strerror(number)}): let no other run "
-                "work there, or name another folder\n") in capfd.readouterr().err
+        fail = f"import fcntl\ndef flock(*_): raise OSError({number}, 'no locks')\nfcntl.flock = flock\n"
+        by = case.install(f"lockless {number}", ("command", "import argparse\n", f"import argparse\n{fail}"))
+        for before in (0, 60):
+            told = case.many(f"work{number}", *WORDS[1:], by=by, message=LOST.format(before))
+            assert (f"cannot lock work{number}, since its file system has no flock (no locks): let no other run work "
+                    "there, or name another folder\n") in told
+
+
+def asked():
+    """Returns the lines that programs have been asked since the last call, sorted."""
+    text = Path("asked").read_bytes() if Path("asked").exists() else b""
+    Path("asked").unlink(missing_ok=True)
+    return sorted(text.split(b"\n")[:-1])
+
+
+class Lines:
+    """Lists of lines without ends, solved in one folder. `solve` asserts which are asked, and the two numbers in the
+    first message."""
+
+    def __init__(self, case, is_scores):
+        self.case, self.is_scores, self.many = case, is_scores, case.install("asked", script=ACTING)
+
+    def solve(self, lines, new, *words, end=b"\n"):
+        """Solves a list with options. Asserts that only the lines `new` of it are asked, each once, and that report,
+        book and status are those of one run."""
+        case, text = self.case, b"".join(line + end for line in lines)
+        write("list.obf", text)
+        program = case.MANY.with_name("ffoscores" if self.is_scores else "ffosolve")
+        one = run(program, *words, "list.obf", *["--book-out=one.book"] * (not self.is_scores))
+        count = sum(not re.match(b"[ \t\r]*(%|$)", line) for line in lines)
+        solved = count - sum(line in {*new} for line in lines)
+        many = ("--scores", *WORDS[:2]) if self.is_scores else WORDS
+        case.many(*many, *words, by=self.many, places={"ASKED": "asked"}, status=one.returncode, output=one.stdout,
+                  message=f"list.obf: {counted(count, 'line')}, {solved} of them solved before; folder work\n")
+        assert asked() == sorted(new)
+
+
+@pytest.mark.parametrize("is_scores", [False, True])
+def test_each_line_is_solved_once_whatever_becomes_of_its_list(case, is_scores):
+    """A comment belongs to a line for ffoscores, which prints it, and to one that ffosolve refuses for its form."""
+    wrong = [b"-XO % ?", b"?%", b"-" * 64, b"-" * 65 + b" X; % 1", BOARD + b"\r\r"]
+    lines = [line.rstrip() for line in case.lines] + [b"-" * 63 + b"x w"] + wrong
+    others = [line.rstrip() for line in positions(20, 1, 5, 6).splitlines()] + [b"XO", BOARD + b" X; H1:+62;"]
+    commented = [line + b" %% %d" % at for at, line in enumerate(lines)]
+    claimed = [line + b" A1:+02;" * (at % 9 == 3) for at, line in enumerate(lines[:60])]
+    it = Lines(case, is_scores)
+    it.solve(lines, lines)
+    it.solve(lines, [])
+    it.solve(sorted(lines), [])
+    it.solve(lines[::2], [])
+    it.solve([], [])
+    it.solve(lines[::3] + others + lines[1::3], others)
+    it.solve(2 * lines + others[:1] * 3, [])
+    it.solve(lines[:30] + [b"", b"% a comment", b" \t%", b" "] + lines[30:], [])
+    it.solve(lines[:-1], [], end=b"\r\n")
+    it.solve(commented, commented if is_scores else commented[61:])
+    it.solve(claimed, claimed[3::9])
+    it.solve([line + b" " for line in lines[:60]], [line + b" " for line in lines[:60]] if is_scores else [])
+    it.solve(commented + others + lines + claimed, [])
+    assert it.case.solved() == len({*lines, *others, *claimed, *(commented if is_scores else commented[61:])}) + (
+        60 * is_scores)
+
+
+def test_what_a_line_is_asked_with_is_part_of_it(case):
+    """A limit of empty squares is only part of lines that have more; table, threads and book are of none."""
+    lines = [line.rstrip() for line in case.lines] + [b"?"]
+    it, scores = Lines(case, False), Lines(case, True)
+    it.solve(lines, lines)
+    it.solve(lines, lines, "--scoring=discs")
+    it.solve(lines, lines, "--scoring=sign")
+    it.solve(lines, lines, "--complete")
+    it.solve(lines, lines, "--complete", "--scoring=discs")
+    scores.solve(lines, lines)
+    scores.solve(lines, lines, "--scoring=discs")
+    scores.solve(lines, lines, "--complete")
+    above = {limit: [line for line in lines if line.count(b"-") > limit] for limit in range(6)}
+    assert [len(some) for some in above.values()] == [60, 48, 36, 24, 12, 0]
+    for limit in (3, 4, 20, 3, 2, 1, 4, 60):
+        it.solve(lines, above.pop(limit, []), f"--max-empties={limit}")
+    scores.solve(lines, above[5], "--max-empties=5")
+    write("in.book", Path("one.book").read_bytes())
+    it.solve(lines, [], "--book-in=in.book", "--table=9")
+    it.solve(lines, [], "--complete")
+    it.solve(lines, [], "--scoring=discs", "--complete")
+    scores.solve(lines, [], "--complete")
+    case.write_list(positions(30, 4, 5, 8))
+    case.many("low", *WORDS[1:], "--max-empties=4", output=run(
+        case.MANY.with_name("ffosolve"), "--max-empties=4", "--book-out=one.book", "list.obf").stdout)
+    case.write_list(positions(30, 4, 5, 8))
+    case.many("low", *WORDS[1:], message=": 30 lines, 15 of them solved before")  # the higher limit lets in the others
+
+
+def test_equal_positions_of_other_spellings_are_solved_together(case):
+    """Their rows are in each one's own orientation."""
+    (line,) = positions(1, 14, 14).splitlines()
+    board = line[:64]
+    images = [board, board[::-1], b"".join(board[at:at + 8][::-1] for at in range(0, 64, 8)),
+              bytes(board[at % 8 * 8 + at // 8] for at in range(64))]
+    swapped = bytes.maketrans(b"XO", b"OX")
+    texts = [image + line[64:] for image in images] + [
+        image.translate(swapped) + line[64:].translate(swapped) for image in images]
+    easy = [text for text in positions(7, 5, 5).splitlines()]
+    write("list.obf", b"\n".join(text for pair in zip(texts, [*easy, b"?"]) for text in pair))
+    one = run(case.MANY.with_name("ffosolve"), "--book-out=one.book", "list.obf").stdout
+    case.many(*WORDS, output=one, places={"ASKED": "asked"}, by=case.install("asked", script=ACTING))
+    together = Path("asked").read_bytes().split(b"\n")
+    first = together.index(texts[0])
+    assert together[first:first + 8] == texts
+
+
+# Runs ffosolve-many, the program of the first argument, with the others in each of the folders on standard input, one
+# after the other: each in a process of its own, which is a copy of this one. There, the text `prepare` in a file
+# `prepare.py` is run first, if there is one. Standard output goes to the file report, standard error to messages.
+# Prints the statuses.
+EACH = """\
+import os, sys
+del sys.argv[0]
+sys.path.insert(0, os.path.join(os.path.dirname(sys.argv[0]), "../python/src"))
+from ffosolve._many import command
+for name in sys.stdin.read().split():
+    if not (child := os.fork()):
+        os.chdir(name)
+        for number, file in enumerate((os.devnull, "report", "messages")):
+            os.dup2(os.open(file, os.O_RDWR | os.O_CREAT | os.O_TRUNC), number)
+        if os.path.exists("prepare.py"):
+            exec(open("prepare.py").read())
+        command.main()
+    print(os.waitstatus_to_exitcode(os.waitpid(child, 0)[1]))
+"""
+
+
+def each(by, names, *words):
+    """Runs `by` with `words` in each of the folders. Returns [(status, report, messages)]."""
+    code = write("each.py", EACH)
+    statuses = run(sys.executable, code, by, *words, input="\n".join(names), text=True, check=True, timeout=900).stdout
+    return [(int(status), Path(name, "report").read_bytes(), Path(name, "messages").read_text())
+            for status, name in zip(statuses.split(), names)]
+
+
+EACH_WORDS = ("--jobs=1", "work", "../list.obf", "--book-out=joined.book")
+
+
+def all_right(case, names, ran, message=""):
+    """Asserts that each run printed the report and the book, and had `message`. Returns how many lines each found, at
+    last if it found its store damaged."""
+    for name, (status, report, told) in zip(names, ran):
+        assert (status, report) == (0, case.one) and message in told, (name, told)
+        case.same_book(f"{name}/joined.book")
+    return [int(re.findall(r": \d+ lines, (\d+) of them solved before", told)[-1]) for _, _, told in ran]
+
+
+def copies(folder, count):
+    """Makes folders 0, 1, .. in which `work` is a copy of a folder. Returns their names."""
+    for at in range(count):
+        shutil.rmtree(str(at), ignore_errors=True)
+        shutil.copytree(folder, f"{at}/work") if folder else os.mkdir(str(at))
+    return [*map(str, range(count))]
+
+
+LOCK, FLIPS = folder.LOCK, 40
+PAGE = 4096
+LEAF, INDEX = b"\r", (b"\2", b"\n")  # how a page begins that has rows, and one that has keys alone
+
+
+def most_lost(whole, at):
+    """Returns how many lines at most may have to be solved again once the byte at that place of a store is wrong."""
+    page = whole[at // PAGE * PAGE:][:PAGE]
+    if at < PAGE or page[:1] in INDEX:
+        return 0  # the first page is always the same, and keys are in the table, too
+    if page[:1] == LEAF and at % PAGE >= int.from_bytes(page[5:7], "big"):
+        return 16  # a row, maybe with those that follow it
+    return 60
+
+
+def test_wrong_bytes_in_the_store_cost_no_more_than_their_rows(case):
+    """A wrong byte in the text of a row costs that row alone."""
+    case.many(*WORDS)
+    whole, rng = Path("work/answers").read_bytes(), random.Random(1)
+    row = whole.index(b"agree") if b"agree" in whole else whole.index(b"unlisted")
+    places = [row] + [rng.randrange(2 * PAGE if at % 4 == 0 else len(whole)) for at in range(1, FLIPS)]
+    names = copies("work", FLIPS)
+    for name, at in zip(names, places):
+        damaged = bytearray(whole)
+        damaged[at] ^= rng.choice([1, 16, 128, 255, rng.randrange(1, 256)])
+        write(f"{name}/work/answers", bytes(damaged))
+    found = all_right(case, names, each(case.MANY, names, *EACH_WORDS))
+    assert found[0] == 59
+    for at, count in zip(places, found):
+        assert 60 - count <= most_lost(whole, at), at
+    assert all_right(case, names, each(case.MANY, names, *EACH_WORDS)) == [60] * FLIPS
+
+
+def test_a_store_that_is_cut_or_of_other_bytes_gives_no_wrong_row(case):
+    case.many(*WORDS)
+    whole, size = Path("work/answers").read_bytes(), os.path.getsize("work/answers")
+    spoiled = [whole[:size * part // 8] for part in range(8)] + [
+        whole[:50], whole[:PAGE], whole[:-1], bytes(size), os.urandom(size), b"a text\n", whole + whole, whole[PAGE:]]
+    names = copies("work", len(spoiled) + 2)
+    for name, text in zip(names, spoiled):
+        write(f"{name}/work/answers", text)
+    (one,) = sqlite3.connect("work/answers").execute("SELECT count(*) FROM answers").fetchone()
+    with sqlite3.connect(f"{names[-2]}/work/answers") as database:  # whose rows belong to other keys
+        keys = [key for key, in database.execute("SELECT key FROM answers ORDER BY id")]
+        database.execute("UPDATE answers SET key = id")
+        database.executemany("UPDATE answers SET key = ? WHERE id = ?", zip(keys[1:] + keys[:1], range(1, one + 1)))
+    database.close()
+    with sqlite3.connect(f"{names[-1]}/work/answers") as database:
+        database.execute("CREATE TABLE others(id INT)")
+    database.close()
+    found = all_right(case, names, each(case.MANY, names, *EACH_WORDS))
+    assert found[10] >= 30 and found[7] >= 20 and found[-2:] == [0, 60]
+    assert all_right(case, names, each(case.MANY, names, *EACH_WORDS)) == [60] * len(names)
+
+
+def test_an_answer_to_another_question_is_not_used(case):
+    """Each row is right in itself, but its key is that of another line, limit, scoring or program."""
+    case.many(*WORDS)
+    case.many("--scores", *WORDS[:2], output=run(case.MANY.with_name("ffoscores"), "list.obf").stdout)
+    with sqlite3.connect("work/answers") as database:
+        found = database.execute("SELECT * FROM answers ORDER BY id").fetchall()
+        database.execute("DELETE FROM answers")
+        keys = [key for _, key, *_ in found]
+        database.executemany("INSERT INTO answers VALUES (?, ?, ?, ?, ?)", [
+            (number, key, row, more, store.sum_of(number, old, row, more))
+            for key, (number, old, row, more, _) in zip(keys[-1:] + keys[:-1], found)])
+    database.close()
+    case.many(*WORDS, message=LOST.format(60))  # as it seems from the keys
+    case.many(*WORDS, message=LOST.format(60))
+
+
+DIE = """\
+import signal
+count = 0
+def trace(frame, event, argument):
+    global count
+    if frame.f_code.co_filename.endswith("/store.py"):
+        count += event == "line" and frame.f_code.co_name in {names}
+        if count == {number}:
+            os.kill(os.getpid(), signal.SIGKILL)
+        return trace
+sys.settrace(trace)
+"""
+
+
+def killed(case, folder, numbers, words, names=("__init__", "opened", "make_anew", "add", "walk", "prune")):
+    """Runs ffosolve-many in copies of a folder, and kills it at the lines of store.py with these numbers, counted as
+    they are run. Returns the names of the copies and the statuses."""
+    copied = copies(folder, len(numbers))
+    for name, number in zip(copied, numbers):
+        write(f"{name}/prepare.py", DIE.format(names=names, number=number))
+    statuses = [status for status, *_ in each(case.MANY, copied, *words)]
+    for name in copied:
+        os.unlink(f"{name}/prepare.py")
+    return copied, statuses
+
+
+def test_a_kill_at_any_line_of_the_store_loses_nothing_that_was_stored(case):
+    """Once in a new folder, once in one that is damaged, and once while other answers are removed."""
+    names, statuses = killed(case, "", range(2, 60, 6), EACH_WORDS)
+    assert statuses.count(-9) >= 5
+    all_right(case, names, each(case.MANY, names, *EACH_WORDS))
+    case.write_list(case.SMALL + positions(40, 2, 4, 9))
+    case.many(*WORDS)
+    case.write_list(case.SMALL)
+    shutil.copytree("work", "damaged")
+    with open("damaged/answers", "r+b") as file:
+        file.write(b"?")
+    for place, words in (("damaged", EACH_WORDS), ("work", (*EACH_WORDS, "--prune"))):
+        names, statuses = killed(case, place, range(3, 90, 11), words)
+        assert statuses.count(-9) >= 5
+        assert {*all_right(case, names, each(case.MANY, names, *EACH_WORDS))} == {60}
+        assert {file for name in names for file in os.listdir(f"{name}/work")} == {LOCK, "answers"}
+
+
+def test_a_full_disk_ends_the_run_and_it_goes_on_with_what_was_stored(case):
+    """At a limit on the size of files, each write beyond it fails: of a new store, and of one that is made anew."""
+    sizes, limit = range(2048, 24576, 2048), "import resource, signal\nsignal.signal(signal.SIGXFSZ, signal.SIG_IGN)\n"
+    limit += "resource.setrlimit(resource.RLIMIT_FSIZE, (BYTES, resource.RLIM_INFINITY))\n"
+    case.write_list(case.SMALL + positions(60, 2, 4, 9))
+    case.many("done", *WORDS[1:])
+    shutil.copytree("done", "damaged")
+    with open("damaged/answers", "r+b") as file:
+        file.write(b"?")
+    for place, least in (("", 0), ("damaged", 120)):
+        names = copies(place, len(sizes))
+        for name, size in zip(names, sizes):
+            write(f"{name}/prepare.py", limit.replace("BYTES", str(size)))
+        for name, (status, report, told) in zip(names, each(case.ACTS, names, *EACH_WORDS[:3])):
+            assert (status, report) in ((0, case.one), (3, b"")), told
+            assert status == 0 or re.search(r"^ffosolve-many: cannot write work(/answers)?: .*\n\Z", told, re.M), told
+            os.unlink(f"{name}/prepare.py")
+        stored = [case.solved(f"{name}/work") for name in names]
+        found = all_right(case, names, each(case.MANY, names, *EACH_WORDS))
+        assert min(found) == least and max(found) > 60 and (place or found == stored)
 
 
 def test_a_folder_of_another_user_or_that_others_may_write_is_refused_and_not_used(case):
     case.folder.chmod(0o777)
-    run(case.ACTS, "--cut", *WORDS, **NOBODY)
+    run(case.ACTS, "--cut", *WORDS[:2], **NOBODY)
     if NOBODY:
         case.refused(2, "work belongs to another user: name another folder\n", *WORDS, places={"WORDS": "words"})
         shutil.rmtree("work")
+    run(case.ACTS, "--cut", *WORDS[:2], umask=0, check=True)
     case.many(*WORDS, umask=0)
     assert not [path for path in Path().glob("work/**/*") if path.lstat().st_mode & 0o022]
     os.rename("work", "-my work")
-    for path, mode in (("", 0o775), ("", 0o757), ("/ffosolve-0", 0o777), ("/task", 0o646)):
+    for path, mode in (("", 0o775), ("", 0o757), ("/ffosolve-0", 0o777), ("/answers", 0o646)):
         os.chmod(f"-my work{path}", mode)
         command = f"chmod go-w './-my work{path}'\n"
-        words = ("--lines=20", "--", "-my work", "list.obf")
+        words = ("--", "-my work", "list.obf")
         message = f"other users may write -my work{path}: name another folder, or type {command}"
         case.refused(2, message, *words, by=case.ACTS, places={"WORDS": f"{case.folder}/words"})  # runs no program
         run("sh", "-c", command, check=True)
-        case.many(*words, message=", 3 of them solved before")
+        case.many(*words, message=LOST.format(60))
     if NOBODY:
-        os.chown("-my work/solve.py", NOBODY["user"], 0)
-        case.refused(2, "-my work/solve.py belongs to another user: name another folder\n", *words)
+        os.chown("-my work/answers", NOBODY["user"], 0)
+        case.refused(2, "-my work/answers belongs to another user: name another folder\n", *words)
 
 
-def test_a_group_that_may_write_the_results_solves_parts_of_a_folder(case):
-    run(case.MANY, "--cut", *WORDS)
-    os.chmod("work/results", 0o2775)
-    if NOBODY:
-        os.chown("work/results", 0, NOBODY["group"])
-    ends((0, "", ""), *SOLVE, "0-1", umask=0o077, **NOBODY)
-    assert {path: stat.S_IMODE(path.stat().st_mode) for path in Path("work/results").iterdir()} == {
-        case.record(0): 0o644, case.record(1): 0o644}
-    case.many(*WORDS, message="in 3 parts, 2 of them solved before;")
-
-
-def test_a_part_whose_results_are_not_complete_is_solved_again(case):
+def test_a_list_of_others_options_and_programs_share_a_folder_and_only_what_is_its_own_stays_after_prune(case):
+    case.write_list(case.SMALL + positions(40, 2, 4, 9))
     case.many(*WORDS)
-    path, task = case.record(1), solve.read_task(Path("work"))
-    whole, text = path.read_bytes(), case.SMALL[68 * 20:68 * 40]
-    found = solve.read_record(path.name, whole)
-
-    def record(text=text, found=found, **options):
-        """Returns a record, with the right digest, of other results or for other lines or options."""
-        head = b"%d %d %.3f\n" % (found.status, len(found.output), found.seconds)
-        changed = {**task, "options": {**task["options"], **options}}
-        return solve.sealed(solve.digest_of(changed, text), head + found.output + found.book)
-
-    assert record() == whole
-    for spoiled in (None, b"", whole[:-1], whole[:whole[:-1].rindex(b"\n") + 1], bytes(len(whole)), whole + b"\n",
-                    whole.replace(b"+", b"-", 1), case.record(0).read_bytes(),
-                    record(text=text[:-1]), record(**{"--complete": ""}), record(found=found._replace(book=b"")),
-                    record(found=found._replace(output=found.output + b"\n")), "sparse"):
-        path.unlink() if spoiled is None else path.write_bytes(b"" if spoiled == "sparse" else spoiled)
-        os.truncate(path, 1 << 40) if spoiled == "sparse" else None
-        case.many(*WORDS, message="in 3 parts, 2 of them solved before;")
-        assert path.read_bytes().endswith(found.output + found.book)
-
-
-def test_files_that_are_damaged_or_missing_or_links_or_pipes_are_written_again_and_others_stay(case):
-    words = (*WORDS, "--book-in=one.book")
-    case.many(*words)
-    record = case.record(1)
-    for name in ("other", "work/notes", "work/list.new", "work/results/mine.txt"):
+    case.many("--scores", *WORDS[:2], output=run(case.MANY.with_name("ffoscores"), "list.obf").stdout)
+    run(case.MANY, "--cut", "--scoring=sign", *WORDS[:2], check=True)
+    for name in ("work/notes", "work/results/mine.txt", "work/batches/mine", f"work/answers.new.{7 * '0'}"):
         write(name, "?")
-    before, paths = files(), [Path("work", name) for name in ("list", "ffosolve-0", "book-in", "solve.py", "task")]
-    for spoiled in (paths, *zip(paths), [record]):
-        for spoil in (lambda path: os.truncate(path, path.stat().st_size - 5), os.unlink,
-                      lambda path: (path.unlink(), os.mkfifo(path)),
-                      lambda path: (path.unlink(), path.symlink_to(case.folder / "other"))):
-            for path in spoiled:
-                spoil(path)
-            case.many(*words, message=f"in 3 parts, {2 if record in spoiled else 3} of them solved before;")
-            before[record] = files()[record] if record in spoiled else before[record]
-            assert files() == before
-    for task in (Path("work/task").read_bytes(), b""):
-        write("work/list", b"%" + case.SMALL[1:])
-        write("work/task", task)
-        case.many(*words, message="in 3 parts, 3 of them solved before;")
-        assert files() == before
-    shutil.rmtree("work/results")
-    case.many(*words, message="in 3 parts, 0 of them solved before;")
-
-
-def least_last(lines, usual):
-    """Returns the parts of a list, by their definition: each ends with the last line of the least checksum among those
-    that may be its last one, if the list goes on after these."""
-    parts, most = [], max(1, 7 * usual // 4)
-    while len(lines) > most:
-        sums = [zlib.crc32(line) for line in lines[:most]]
-        end = max(at for at in range(most) if sums[at] == min(sums)) + 1
-        parts.append(lines[:end])
-        lines = lines[end:]
-    return parts + [lines] * bool(lines)
-
-
-@pytest.mark.parametrize("usual", [1, 2, 3, 10, 40])
-def test_parts_end_by_what_the_lines_are_and_have_as_many_as_asked_on_average(usual):
-    rng = random.Random(1)
-    lines = [b"%x\n" % rng.getrandbits(99) for _ in range(60 * usual)]
-    parts = [*solve.parts_of(iter(lines), usual)]
-    assert parts == least_last(lines, usual)
-    assert max(map(len, parts)) <= 2 * usual and 0.8 < 60 / len(parts) < 1.2
-    assert [*solve.parts_of(iter([b"% X\n"] * 70), 20)] == [[b"% X\n"] * 35] * 2
-    assert [*solve.parts_of(iter([]), usual)] == []
-
-
-def test_a_changed_line_costs_one_part():
-    """On average, hardly more: the line may be the last one of a part."""
-    rng = random.Random(1)
-    lines = [b"%x\n" % rng.getrandbits(99) for _ in range(2000)]
-    before, costs = {*map(tuple, solve.parts_of(iter(lines), 20))}, Counter()
-    for at in (rng.randrange(2000) for _ in range(60)):
-        for name, new in (("removed", lines[:at] + lines[at + 1:]), ("claimed", [*lines[:at], b"%", *lines[at + 1:]]),
-                          ("inserted", [*lines[:at], b"%", *lines[at:]]), ("moved", lines[at:] + lines[:at]),
-                          ("added", lines + [b"%"])):
-            costs[name] += len({*map(tuple, solve.parts_of(iter(new), 20))} - before)
-    assert max(costs[name] for name in ("removed", "claimed", "inserted", "added")) < 60 * 1.3
-    assert costs["moved"] < 60 * 5
-
-
-def test_a_list_may_change_and_only_the_parts_that_hold_the_change_are_solved(case):
-    """The other results stay until they are pruned. Files that are not results stay always."""
-    case.many(*WORDS, message=": 60 lines in 3 parts, 0 of them solved before")
-    changed = case.SMALL.replace(case.lines[29], case.lines[29][:-1] + b" A1:+02;\n")
-    for text, parts, solved in ((changed, 3, 2), (case.SMALL, 3, 3), (case.SMALL[68:], 3, 2),
-                                (case.SMALL + case.SMALL, 6, 4), (case.SMALL[68 * 20:], 2, 2),
-                                (case.SMALL[68 * 20:] + case.SMALL[:68 * 20], 3, 3), (b"% X\n", 1, 0), (b"", 0, 0)):
-        case.write_list(text)
-        case.many(*WORDS, message=f" in {counted(parts, 'part')}, {solved} of them solved before")
-    case.write_list(case.SMALL)
-    results = {*Path("work/results").iterdir()}
-    write("work/results/mine.txt", "?")
-    for name in ("list", f"results/{'0' * 64}"):
-        write(f"work/{name}.01234567.new", "?")  # of a process that was killed
-    case.many(*WORDS, message=", 3 of them solved before")
-    assert {*Path("work/results").iterdir()} == results | {Path("work/results/mine.txt")}
-    assert not [*Path("work").glob("*.new")]
-    case.write_list(case.SMALL + b"% FAIL\n")
+    case.write_list(case.SMALL[68 * 10:] + b"FAIL 1\n")
     case.many("--prune", *WORDS, by=case.ACTS, status=1)
-    case.many("--prune", *WORDS)
-    kept = {case.record(number) for number in range(len(os.listdir("work/results")) - 1)}
-    assert {*Path("work/results").iterdir()} == kept | {Path("work/results/mine.txt")} and len(kept) < len(results)
-    case.many(*WORDS, message=f", {len(kept)} of them solved before")
-    end = BOARD.replace(b"X", b"O", 1) + b" X;"
-    for text in (case.SMALL + end, case.SMALL + end + b" A1:+02;\n"):  # the former without an end of its last line
-        case.write_list(text)
-        case.many(*WORDS, message=", 2 of them solved before")
-    assert b" differ\n" in case.one
-    by = case.install("changing", ("folder", "{str(path): file}", "{str(path): [b'?' * 9999]}"))  # while it is copied
-    case.many(WORDS[0], "changed", "list.obf", by=by, status=1, message="not solved: 3 of 3 parts")
-    case.many(WORDS[0], "changed", "list.obf", message=", 0 of them solved before")
-
-
-def test_equal_parts_are_solved_once(case):
-    case.write_list(case.SMALL[:68] * 100 + case.SMALL[68:136] * 10)
-    case.many(*WORDS, by=case.ACTS, places={"WORDS": "words"}, message=" in 4 parts, 0 of them solved before")
-    assert Path("words").read_text().count("--book-out=") == 1 + 3  # the first one is for the known line
-    assert case.parts_solved() == 3
-    case.many(*WORDS, message=" in 4 parts, 4 of them solved before")
-    cut = run(case.MANY, "--cut", "other", *WORDS[2:], "--lines=20", text=True).stdout
-    assert cut == "4 parts, 0 of them solved; python3 other/solve.py 0-3 solves the others\n"
-    ends((0, "", ""), sys.executable, "other/solve.py", "0-3")
-    assert len(os.listdir("other/results")) == 3
-
-
-def test_options_that_change_results_keep_theirs_beside_and_others_change_nothing(case):
-    write("other.book", b"% ffobook 2 winner\n")
-    for words in ((), ("--complete",), ("--scoring=sign",)):
-        case.write_list(case.SMALL, *words)
-        for before in (0, 3):
-            case.many(*WORDS, *words, message=f", {before} of them solved before")
-    for words in ((), ("--complete",)):
-        scores = run(case.MANY.with_name("ffoscores"), *words, "list.obf").stdout
-        for before in (0, 3):
-            case.many("--scores", *words, *WORDS[:3], output=scores, message=f", {before} of them solved before")
+    assert case.solved() == 200
+    case.many("--prune", *WORDS, message=": 51 lines, 50 of them solved before")
+    assert case.solved() == 51
+    left = {str(path.relative_to("work")) for path in Path("work").rglob("*") if path.is_file()}
+    assert left >= {LOCK, "answers", "notes", "results/mine.txt", "batches/mine"}
+    assert not [name for name in left if re.search("answers.new|batches/0|results/[0-9a-f]{64}", name)]
+    case.many(*WORDS, message=": 51 lines, 51 of them solved before")
     case.write_list(case.SMALL)
-    for words in (("--book-in=one.book",), ("--book-in=other.book",), ("--table=9", "--workers=1", "--jobs=3"), ()):
-        case.many(*WORDS, *words, message=", 3 of them solved before")
-    case.many("--lines=6", *WORDS[1:], message=" in 10 parts, 0 of them solved before")
-    case.many(*WORDS, message=" in 3 parts, 3 of them solved before")
-    assert {path.name for path in Path("work").iterdir()} == {
-        folder.LOCK, "list", "ffosolve-0", "ffoscores-0", "book-in", "results", "solve.py", "task"}
+    case.many(*WORDS, message=": 60 lines, 50 of them solved before")
 
 
-def test_another_limit_of_empty_squares_takes_over_the_parts_in_which_no_line_is_refused_for_it(case):
-    """The first parts have at most 2 empty squares. A line that is refused for another reason has no limit."""
-    wrong = b"-" * 64 + b" ?\n" + b"-" * 63 + b" X\n" + b"-" * 65 + b" X\n"
-    text = wrong + positions(60, 2, 2) + case.SMALL
-    parts = [b"".join(part) for part in least_last(text.splitlines(keepends=True), 20)]
-    most = [max(line.count(b"-") for line in part.splitlines() if line not in wrong) for part in parts]
-    assert len({*most}) > 1
-    known = set()
-    for limit in (3, 4, 20, 3, 2, 1, 4):
-        new = {(at, limit if most[at] > limit else None) for at in range(len(parts))}
-        case.write_list(text, f"--max-empties={limit}")
-        case.many(*WORDS, f"--max-empties={limit}", message=f", {len(new & known)} of them solved before")
-        known |= new
+FAILING = r"not solved: (line \d+[^:]*): (.*)\n"
+# Fails if its input has FAIL, kills itself if that has DIE, and otherwise does what the program does.
+FAILS = """#!/bin/sh
+grep -q FAIL /proc/self/fd/0 && echo "ffosolve: out of memory" >&2 && exit 1
+grep -q DIE /proc/self/fd/0 && kill -s KILL $$
+exec "@real@" "$@"
+"""
 
 
-def test_only_the_parts_that_failed_are_solved_again(case):
-    case.write_list(case.SMALL + b"% FAIL\n" + case.SMALL + b"% DIE\n")
-    part = r"part (\d{7}) \(lines \d+ to \d+\)"
-    message = rf"not solved: 2 of (\d) parts: {part}, {part}\. The same command solves only these\n"
-    for _ in range(2):
-        errors = case.many(*WORDS, by=case.ACTS, status=1)
-        count, *failed = map(int, re.search(message, errors).groups())
-        for why in ("ffosolve: out of memory", "killed by SIGKILL"):
-            assert re.search(f": this machine failed {part}: {why}\n", errors)
-        assert [number for number in range(count) if not case.record(number).exists()] == failed
+def test_lines_that_fail_are_named_and_all_others_are_solved(case):
+    """A batch that fails three times is cut into eight, and so on."""
+    case.write_list(case.SMALL + b"FAIL 1\n" + positions(400, 2, 4, 9) + b"%\nDIE 1\n")
+    by = case.install("failing", script=FAILS)
+    for before, most in ((0, 3 + 3 * 2 * 3), (460, 3 + 3 * 2)):
+        errors = case.many("--jobs=1", *WORDS, by=by, status=1, message=f": 462 lines, {before} of them solved before")
+        assert sorted(re.findall(FAILING, errors)) == [
+            ("line 463", "killed by SIGKILL"), ("line 61", "ffosolve: out of memory")]
+        assert errors.endswith("not solved: 2 of 462 lines. The same command solves only these\n")
         assert not os.path.exists("joined.book")
-    case.many(*WORDS, message=f", {count - 2} of them solved before")
-    case.many("--scores", "--lines=20", "work2", "list.obf", by=case.ACTS, status=3,
-              message=f"not solved: 2 of {count} parts: ")
+        assert errors.count(": this machine failed line ") <= most
+    head, *rest = case.one.splitlines(keepends=True)
+    assert (b"61 refused: bad square at column 1\n", b"463 refused: bad square at column 1\n") == (rest[60], rest[461])
+    partial = [line for line in rest if b" refused: bad" not in line][:-1]
+    partial[60:60], partial[461:461] = [b"61 unsolved\n"], [b"463 unsolved\n"]
+    output = b"".join([head, *partial, b"solved 460 refused 0 unsolved 2\n"])
+    told = case.many("--partial", *WORDS, by=by, status=1, output=output)
+    assert len(re.findall(FAILING, told)) == 2
+    entries = Path("joined.book").read_bytes()
+    assert entries == Path("one.book").read_bytes()  # a line that is refused has no entry
+    scores = run(case.MANY.with_name("ffoscores"), "list.obf").stdout.splitlines(keepends=True)
+    case.many("--scores", "work2", "list.obf", by=by, status=3, message="not solved: 2 of 462 lines.")
+    scores[60], scores[462] = b"% unsolved: FAIL 1\n", b"% unsolved: DIE 1\n"
+    case.many("--scores", "--partial", "work2", "list.obf", by=by, status=3, output=b"".join(scores))
+    case.many(*WORDS, message=": 462 lines, 460 of them solved before")
 
 
-def test_a_record_that_is_damaged_late_is_solved_again(case):
-    late = "    open(run.path(run.parts[1]), 'r+').write('?'), os.unlink(run.path(run.parts[2]))\n"
-    printed = "    print_all(run.output())\n"
-    by = case.install("damaging", ("command", printed, late + printed), script=ACTING)
-    for message in (", 0 of them", ", 3 of them"):
-        case.many(*WORDS, by=by, message=message)
-        case.many(*WORDS, message=", 3 of them solved before")
-    spoil = f"lambda text: text[:-5] if open('{case.record(1)}').read(1) == '?' else text"
-    ran = run(by, *WORDS, env={**os.environ, "SPOIL": spoil})
-    why = b"was changed meanwhile, and can't be solved again: its results are not complete\n"
-    assert (ran.returncode, case.one.startswith(ran.stdout)) == (3, True)
-    assert ran.stderr.endswith(b"part 0000001 (lines 21 to 40) " + why)
+def test_no_more_than_ten_lines_that_fail_are_looked_for(case):
+    case.write_list(b"".join(b"FAIL %d\n" % number for number in range(70)) + case.SMALL)
+    by = case.install("failing", script=FAILS)
+    errors = case.many("--jobs=1", *WORDS, by=by, status=1, message="not solved: 70 of 130 lines.")
+    named = re.findall(FAILING, errors)
+    assert 10 <= len([name for name, _ in named if "other" not in name]) <= 17  # seven may have been cut with the tenth
+    assert len([name for name, _ in named if "other" in name]) <= 16
+    case.write_list(case.SMALL)
+    case.many(*WORDS, message=": 60 lines, 60 of them solved before")
 
 
-def test_a_part_is_solved_with_the_options_and_the_program_of_the_folder_or_not_at_all(case):
-    run(case.ACTS, "--cut", *WORDS)
-    for place, old, new, why in (
-            ("task", b'"--max-empties": 20', b'"--max-empties": 0', "damaged: run ffosolve-many again"),
-            ("task", b'"parts": 3', b'"parts": 7', "damaged: run ffosolve-many again"),
-            ("task", Path("work/task").read_bytes(), b"[]", "damaged: run ffosolve-many again"),
-            ("ffosolve-0", b"real", b"rear", "the program is damaged")):
-        whole = Path("work", place).read_bytes()
-        Path("work", place).write_bytes(whole.replace(old, new, 1))
-        assert Path("work", place).read_bytes() != whole
-        ran = run(*SOLVE, "0", text=True)
-        assert (ran.returncode, ran.stdout, os.listdir("work/results")) == (1, "", [])
-        assert re.search(f"^solve.py 0: .*{why}\n$", ran.stderr)
-        Path("work", place).write_bytes(whole)
-    places = {**os.environ, "SPOIL_KNOWN": "lambda text: text.replace(b'H1', b'A1')"}
-    ends((1, "", "solve.py 0: the program solves a known line wrong\n"), *SOLVE, "0", env=places)
-    ends((0, "", ""), *SOLVE, "0")
-    case.many(*WORDS, by=case.ACTS, message="in 3 parts, 1 of them")
+def test_a_line_that_takes_too_long_is_given_up_and_named(case):
+    """A hard line is a batch of its own; others are found by cutting their batch."""
+    slow = b"SLOW 1\n"
+    script = ACTING.replace("if is_batch:\n", "if b'SLOW' in text:\n    time.sleep(45)\nif is_batch:\n")
+    case.write_list(case.SMALL + slow + over(3, 24), "--max-empties=24")
+    by = case.install("slow", script=script)
+    begun = time.monotonic()
+    errors = case.many("--each=1", "--max-empties=24", *WORDS, by=by, status=1)
+    assert re.findall(FAILING, errors) == [("line 61", "takes more than 1 s")] and " failed " not in errors
+    assert errors.endswith("not solved: 1 of 64 lines. The same command solves only these\n")
+    assert time.monotonic() < begun + 40
+    case.many("--max-empties=24", *WORDS, message=": 64 lines, 63 of them solved before")
 
 
-def test_a_part_is_not_solved_in_vain(case):
-    run(case.ACTS, "--cut", *WORDS)
-    for how, why in (({"preexec_fn": limited(RLIMIT_FSIZE=4000)}, "File too large"), (NOBODY, "Permission denied")):
-        words = write(case.folder / "words", "", 0o666)
-        ran = run(*SOLVE, "1-2", text=True, env={**os.environ, "WORDS": str(words)}, **how)
-        failed = re.findall(r"^part (.*): .*: (.*)\n", ran.stderr, re.M)
-        assert (ran.returncode, failed) == (1, [("0000001", why), ("0000002", why)])
-        assert words.read_text().count("\n") == 1  # the program has run for the known line alone
+def test_a_list_that_changes_while_it_is_solved_gives_no_wrong_report(case):
+    by = case.install("changing", *BRIEF, ("engine", "batch, threads = work.take()", "batch, threads = work.take(); "
+                      "open(run.name, 'r+b').write(run.list.seek(0) * b'' + b'?' * 68)"))
+    case.many(*WORDS, by=by, status=1, message="not solved: ")
+    case.write_list(case.SMALL)
+    case.many(*WORDS, message=LOST.format(59))
+    made = "    report: IO[bytes] = "
+    by = case.install("changed", ("command", made, f"    open(run.name, 'ab').write(b'?')\n{made}"))
+    case.many("--scores", *WORDS[:2], by=by, status=3, message="list.obf has changed meanwhile; the same ")
 
 
-def test_results_are_new_files_once_they_are_on_the_disk_and_files_that_may_not_be_read_are_named(case):
-    run(case.MANY, "--cut", *WORDS, "--book-in=one.book")
-    write("other", "?")
-    os.chmod("work/results", 0o777)
-    os.symlink(case.folder / "other", case.record(0))
-    write(case.record(1), "", 0o600 if NOBODY else 0o100)
-    ran = run(*SOLVE, "0-2", env=preload(case.folder, WATCHED=""), text=True, **NOBODY)
-    why = f"part 0000001: results/{case.record(1).name}: Permission denied\n"
-    assert (ran.returncode, ran.stderr) == (1, f"sync rename sync rename {why}")
-    assert [case.record(number).lstat().st_size > 99 for number in range(3)] == [True, False, True]
-    assert Path("other").read_text() == "?"
-    path = case.record(2)
-    os.remove(path)
-    os.mkdir(path)
-    ends((1, "", f"part 0000002: results/{path.name}: Is a directory\n"), *SOLVE, "2")
-    case.many(*WORDS, "--book-in=one.book", status=3, message=f"cannot write {path}: Is a directory\n")
-    for name, why in (("book-in", "the program can't solve a known line: ffosolve: cannot read book-in"),
-                      ("ffosolve-0", "[Errno 13] Permission denied: 'ffosolve-0'")):
-        Path("work", name).chmod(0o111)
-        ends((1, "", f"solve.py 0: {why}\n"), *SOLVE, "0", **NOBODY)
-
-
-def test_an_interrupt_or_a_lack_of_memory_or_an_old_python_ends_solve_py_without_a_traceback(case):
-    run(case.ACTS, "--cut", *WORDS)
-    ran = case.start(*SOLVE, "0-2", env={**os.environ, "LAST": "0"})
-    wait_until(lambda: [*Path("work/results").glob(f"{case.record(0).name}.*.new")])
-    assert (end(case, ran, signal.SIGINT), ran.returncode) == ((b"", ""), -signal.SIGINT)
-    case.many(*WORDS)
-    assert len(os.listdir("work/results")) == 3
-    os.truncate("work/ffosolve-0", 1 << 30)
-    ends((1, "", "solve.py 0: out of memory\n"), *SOLVE, "0", preexec_fn=limited(RLIMIT_AS=200 << 20))
-    ast.parse(Path(solve.__file__).read_text(), feature_version=(3, 7))
-    code = "import runpy, sys; sys.version_info = (3, 7, 1); runpy.run_path('work/solve.py', run_name='__main__')"
-    error = f"solve.py needs Python 3.8 or later, and this is {sys.version.split()[0]}\n"
-    ends((1, "", error), sys.executable, "-c", code)
-
-
-def test_a_folder_where_no_program_may_run_is_refused(case):
+def test_a_folder_where_no_program_may_run_solves_a_list_with_programs_in_memory(case):
     mount = 'mkdir work && mount -t tmpfs -o noexec,mode=755 none work && exec "$0" "$@"'
     unshare, *words = unshared()
-    case.many(*words, "sh", "-c", mount, case.MANY, *WORDS, by=unshare, status=4,
-              message="can't solve a known line: setpriv: failed to execute ffosolve-0: Permission denied\n")
+    case.many(*words, "sh", "-c", mount, case.MANY, *WORDS, by=unshare)
 
 
-def test_a_program_that_fails_for_a_part_and_then_for_a_known_line_ends_the_run(case):
+def test_a_program_that_fails_for_a_batch_and_then_for_a_known_line_ends_the_run(case):
     script = '#!/bin/sh\necho >>runs; [ $(wc -l <runs) -le 5 ] || { echo broken >&2; exit 9; }; exec "@real@" "$@"\n'
-    by = case.install("breaking", script=script)
-    errors = case.many("--jobs=1", "--lines=1", *WORDS[1:], by=by, status=4)
-    assert " failed part " not in errors
+    by = case.install("breaking", *BRIEF, script=script)
+    errors = case.many("--jobs=1", *WORDS, by=by, status=4)
+    assert " failed " not in errors
     assert errors.endswith("on this machine the program can't solve a known line: broken\n")
-    assert case.parts_solved() == 3
-    failing = b"".join(b"%% FAIL %d\n" % number for number in range(7))
-    case.write_list(case.SMALL[:68 * 3] + failing + case.SMALL[68 * 3:68 * 6])
-    errors = case.many("--jobs=1", "--lines=1", "other", *WORDS[2:], by=case.ACTS, status=1)
-    assert (errors.count(" failed part "), "not solved: 7 of 13 parts" in errors) == (7, True)
+    assert case.solved() == 15
 
 
-def test_copies_of_files_that_others_may_not_read_may_not_be_read_by_others(case):
+@pytest.mark.parametrize("spoil, status, message", [
+    ("lambda text: text.replace(b'+62', b'-62')", 4, "on this machine the program solves a known line wrong\n"),
+    ("lambda text: sys.exit('broken')", 4, "the program can't solve a known line: broken\n")])
+def test_a_program_of_other_results_solves_nothing_in_a_folder_with_right_ones(case, spoil, status, message):
+    """What is solved stays, and the right program goes on."""
+    case.write_list(case.SMALL[:680])
+    case.many(*WORDS)
+    case.write_list(case.SMALL)
+    spoiled = {"SPOIL_KNOWN": spoil.replace("lambda text: ", "lambda text: text if b'H1' not in text else (") + ")"}
+    case.many(*WORDS, by=case.ACTS, places=spoiled, status=status, message=message)
+    case.many(*WORDS, message=LOST.format(10))
+
+
+def test_files_that_others_may_not_read_stay_so_in_the_store_and_after_cut(case):
     for name in ("list.obf", "one.book"):
         os.chmod(name, 0o600)
-    case.many(*WORDS, "--book-in=one.book")
+    run(case.MANY, "--cut", *WORDS[:2], "--book-in=one.book", check=True)
     modes = {path.name: stat.S_IMODE(path.stat().st_mode) for path in Path("work").rglob("*") if path.is_file()}
-    secret = {"list", "book-in", *(case.record(number).name for number in range(3))}
-    assert {name for name, mode in modes.items() if not mode & 0o077} == secret
-    shutil.rmtree("work/results")
-    run(case.MANY, "--cut", *WORDS, "--book-in=one.book")
-    run(*SOLVE, "1")
-    assert stat.S_IMODE(case.record(1).stat().st_mode) == 0o600
+    assert {name for name, mode in modes.items() if not mode & 0o077} == {"answers", "book-in", "0000000"}
+    run(*SOLVE, "0", check=True)
+    (result,) = Path("work/results").iterdir()
+    assert stat.S_IMODE(result.stat().st_mode) == 0o600
+    watching = case.install("watching", ("store", 'self.db.execute("COMMIT")\n        self.next',
+                                         "print(oct(os.stat(f'{self.path}-journal').st_mode), file=__import__('sys')"
+                                         '.stderr)\n            self.db.execute("COMMIT")\n        self.next'))
+    case.many("new", *WORDS[1:], by=watching, message="0o100600\n")
+    with open("new/answers", "r+b") as file:
+        file.write(b"?")
+    case.many("new", *WORDS[1:], message=LOST.format(60))
+    os.chmod("list.obf", 0o644)
+    case.many("--prune", "new", *WORDS[1:])
+    assert stat.S_IMODE(os.stat("new/answers").st_mode) == 0o600
 
 
 def test_a_finished_folder_that_may_not_be_written_prints_its_report(case):
-    case.many(*WORDS[:3])
-    Path("work", folder.LOCK).unlink()
-    case.many(*WORDS, message=", 3 of them solved before")
-    write("work/solve.py", "of an earlier version")
-    Path("work", folder.LOCK).unlink()
+    case.many(*WORDS[:2])
     case.folder.chmod(0o777)
+    write("joined.book", "", 0o666)
     os.chmod("work", 0o555)
     before = files()
-    case.many(*WORDS, message=", 3 of them solved before", **NOBODY)
-    assert files() == before
-    case.record(1).unlink()
-    case.refused(3, "cannot write work: Permission denied\n", "--quiet", *WORDS, **NOBODY)
+    ran = run(case.MANY, *WORDS[:2], **NOBODY)
+    assert (ran.returncode, ran.stdout, files()) == (0, case.one, before) and LOST.format(60) in ran.stderr.decode()
+    case.write_list(case.SMALL + b"?\n")
+    case.refused(3, "cannot write work", "--quiet", *WORDS[:2], **NOBODY)
     os.chmod("work", 0o755)
 
 
-def test_a_full_disk_ends_the_run_and_it_goes_on_when_there_is_room(case):
-    full, text = {"preexec_fn": limited(RLIMIT_FSIZE=1000)}, b"3 parts, 3 of them solved\n"
-    case.many("--cut", *WORDS, status=3, message="cannot write work: File too large\n", **full)
-    case.many(*WORDS)
-    Path("work/list").unlink()
-    case.many("--cut", *WORDS[:3], output=text, **full)
-    shutil.rmtree("work")
-    is_late, storing = "len(os.listdir(self.place / 'results')) == 5", "write_whole({str(self.path(part))"
-    by = case.install("full", ("folder", storing, f"{is_late} and open('/dev/full', 'wb', 0).write(b'?'), {storing}"))
-    words = ("--jobs=1", "--lines=5", *WORDS[1:])
-    case.many(*words, by=by, status=3, message=": No space left on device\n")
-    done = len([path for path in Path("work/results").iterdir() if path.stat().st_size])
-    assert done >= 5  # a part that was begun may have been solved meanwhile
-    case.many(*words, message=f", {done} of them solved before")
-
-
 def test_a_list_is_read_from_standard_input_from_where_it_stands_and_from_a_pipe(case):
-    case.many("--lines=20", "work", "-", message="-: 60 lines in 3 parts", input=case.SMALL, umask=0o022)
-    assert stat.S_IMODE(os.stat("work/list").st_mode) == 0o644
-    case.many("--lines=20", "work", "/dev/stdin", message=", 3 of them solved before", input=case.SMALL)
-    assert {*os.listdir("work")} == {folder.LOCK, "list", "ffosolve-0", "results", "solve.py", "task"}
+    case.many("work", "-", message="-: 60 lines, 0 of them", input=case.SMALL, umask=0o022)
+    assert stat.S_IMODE(os.stat("work/answers").st_mode) == 0o644
+    case.many("work", "/dev/stdin", message=LOST.format(60), input=case.SMALL)
+    assert {*os.listdir("work")} == {LOCK, "answers"}
     with open("list.obf", "rb") as file:
-        case.many("--lines=20", "work", "-", message=", 3 of them solved before", stdin=file)
+        case.many("work", "-", message=LOST.format(60), stdin=file)
     case.refused(3, f"cannot copy - to {os.environ['TMPDIR']}: File too large", "work", "-", input=case.SMALL,
                  preexec_fn=limited(RLIMIT_FSIZE=1000))
     ends((3, "", "ffosolve-many: cannot read -: standard input is closed\n"), "sh", "-c", '"$0" work - <&-', case.MANY)
     write("whole.obf", b"%\n\n" + case.SMALL)
     for command in ('{ read a; read b; "$0" in - --book-out "$1"; } <whole.obf',
                     '"$0" pipe <(cat list.obf) --book-in <(cat one.book) --book-out "$1"'):
-        case.many("-c", command, case.MANY, "joined.book", by="bash", message=": 60 lines in 1 part")
-    assert Path("pipe", "book-in").read_bytes() == Path("one.book").read_bytes()
+        case.many("-c", command, case.MANY, "joined.book", by="bash", message=": 60 lines, 0 of them")
     assert os.listdir(os.environ["TMPDIR"]) == []
 
 
-def test_texts_that_are_not_lists_are_refused_and_no_part_has_more_bytes_than_a_file_may_have(case):
+def test_texts_that_are_not_lists_are_refused_and_no_batch_has_more_bytes_than_a_file_may_have(case):
     for text, message in ((b"\xef\xbb\xbf" + case.SMALL, "it begins with a byte-order mark"),
                           (case.SMALL.decode().encode("utf-16"), "it begins with a byte-order mark"),
                           (case.SMALL.replace(b"\r", b"").replace(b"\n", b"\r"), "its lines end with CR alone"),
@@ -468,9 +588,11 @@ def test_texts_that_are_not_lists_are_refused_and_no_part_has_more_bytes_than_a_
     for name in ("a/b/work", "empty"):
         case.refused(3, "cannot read -: its line 1 has more than 1048576 bytes\n", name, "-",
                      input=b"%" * (MOST_BYTES + 1))
-    half = b"%" * (MOST_BYTES // 2 - 1) + b"\n"
-    for text, parts in (half * 4, b"2 parts,"), (b"%" + half * 4, b"3 parts,"), ((b"%" + half) * 3, b"3 parts,"):
-        assert run(case.MANY, "--cut", "--lines=10", "work", "-", input=text).stdout.startswith(parts)
+    half = b"?" * (MOST_BYTES // 2 - 2)
+    for text, count in ([half + b"1\n", half + b"2\n"], 1), ([half + b"1\n", half + b"?2\n", b"??\n"], 2):
+        one = run_of(b"".join(text))
+        batches = [*one.cut(one.to_solve(), folder.MOST_WORK)]
+        assert len(batches) == count and max(len(one.text(batch.lines)) for batch in batches) <= MOST_BYTES
 
 
 def test_a_folder_with_other_files_or_of_an_earlier_version_is_refused_and_untouched(case):
@@ -478,18 +600,22 @@ def test_a_folder_with_other_files_or_of_an_earlier_version_is_refused_and_untou
     message = ("{} has files that are not ffosolve-many's, or those of an earlier version, such as {}: name a new "
                "or an empty folder\n")
     for place, names, first in (("one", "copy", "copy"), ("two", "lock copy", "copy"), ("a.new", "a.new", "a.new"),
-                                ("three", "results/0000000 task list", "list"),
+                                ("three", "results/0000000 task list", "list"), ("mine", "run.lock", "run.lock"),
+                                ("ours", "answers run.lock", "answers"), ("own", "answers", "answers"),
                                 ("work", "lock asked.json run-0123456789ab/list", "asked.json")):
         for name in names.split():
             write(Path(place, name), "the work of ffosolve-many, form 1")
         case.refused(2, message.format(place, first), place, "list.obf")
     case.refused(2, message.format(".", "a.new"), ".", "list.obf")
     Path("empty").mkdir()
-    for place, *names in (["empty"], ["locked", folder.LOCK], ["copying", folder.LOCK, "list"],
-                          ["begun", folder.LOCK, "task"]):
-        for name in names:
-            write(Path(place, name), "[]")
+    write("locked/run.lock", "")
+    write("begun/run.lock", folder.SIGN)
+    write("opened/run.lock", folder.SIGN)
+    write("opened/answers", "")
+    for place in ("empty", "locked", "begun", "opened"):
         case.many(place, "list.obf")
+        Path(place, LOCK).unlink()
+        case.many(place, "list.obf", message=LOST.format(60))
     fails = {"SPOIL_KNOWN": "lambda text: sys.exit('broken') if b'H1' in text else text"}
     for place, text in (("new", case.SMALL), ("other", case.SMALL[68:])):  # a list without results may change
         case.many(place, "list.obf", by=case.ACTS, places=fails, status=4, message="solve a known line: broken\n")
@@ -497,19 +623,137 @@ def test_a_folder_with_other_files_or_of_an_earlier_version_is_refused_and_untou
         case.many(place, "list.obf")
 
 
-SIGNALLED = ("--jobs=2", "--lines=5", *WORDS[1:])
+def test_a_store_that_is_no_file_of_its_own_is_named_and_what_it_leads_to_stays(case):
+    write("precious", "mine\n")
+    for place, make in (("link", lambda path: path.symlink_to("../precious")), ("folder", os.mkdir),
+                        ("nowhere", lambda path: path.symlink_to("none/answers"))):
+        write(f"{place}/run.lock", folder.SIGN)
+        make(Path(place, "answers"))
+        case.refused(3, f"cannot write {place}/answers: ", place, "list.obf")
+
+
+CUT = ("--cut", "--max-empties=24", *WORDS[:2])
+
+
+def cut(case, count=3, *words, by=None):
+    """Cuts a list of finished games with 24 empty squares, as many batches as lines."""
+    case.write_list(over(count, 24), "--max-empties=24")
+    return run(by or case.ACTS, *CUT, *words, text=True, check=True).stdout
+
+
+def results():
+    return sorted(path for path in Path("work/results").iterdir() if re.fullmatch("[0-9a-f]{64}", path.name))
+
+
+def test_a_group_that_may_write_the_results_solves_batches_of_a_folder(case):
+    cut(case)
+    os.chmod("work/results", 0o2775)
+    if NOBODY:
+        os.chown("work/results", 0, NOBODY["group"])
+    ends((0, "", ""), *SOLVE, "0-1", umask=0o077, **NOBODY)
+    assert [stat.S_IMODE(path.stat().st_mode) for path in results()] == [0o644] * 2
+    case.many("--max-empties=24", *WORDS, message="3 lines, 2 of them solved before;")
+
+
+def test_a_batch_is_solved_with_the_options_and_the_program_of_the_folder_or_not_at_all(case):
+    cut(case)
+    for place, old, new, why in (
+            ("task", b'"--max-empties": 24', b'"--max-empties": 0', "damaged: run ffosolve-many --cut again"),
+            ("task", b'"batches": 3', b'"batches": 7', "damaged: run ffosolve-many --cut again"),
+            ("task", Path("work/task").read_bytes(), b"[]", "damaged: run ffosolve-many --cut again"),
+            ("batches/0000000", b"X", b"-", "batch 0000000: it is damaged: run --cut again"),
+            ("ffosolve-0", b"real", b"rear", "the program is damaged")):
+        whole = Path("work", place).read_bytes()
+        Path("work", place).write_bytes(whole.replace(old, new, 1))
+        assert Path("work", place).read_bytes() != whole
+        ran = run(*SOLVE, "0", text=True)
+        assert (ran.returncode, ran.stdout, results()) == (1, "", [])
+        assert re.search(f"^(solve.py 0: )?.*{why}\n$", ran.stderr)
+        Path("work", place).write_bytes(whole)
+    places = {**os.environ, "SPOIL_KNOWN": "lambda text: text.replace(b'H1', b'A1')"}
+    run(*SOLVE, "0", check=True)
+    case.many("--max-empties=24", *WORDS, by=case.ACTS, message="3 lines, 1 of them")
+    cut(case, 5)
+    ends((1, "", "solve.py 3: the program solves a known line wrong\n"), *SOLVE, "3", env=places)
+
+
+def test_results_of_a_batch_are_used_only_if_they_are_whole_and_other_files_stay(case):
+    cut(case)
+    run(*SOLVE, "0-2", check=True)
+    first, second, third = results()
+    whole = first.read_bytes()
+    first.write_bytes(whole[:-1])
+    second.write_bytes(second.read_bytes().replace(b"X", b"O", 1))
+    write("work/results/mine.txt", "?")
+    case.many("--max-empties=24", *WORDS, message="3 lines, 1 of them solved before;")
+    assert sorted(os.listdir("work/results")) == sorted([first.name, second.name, "mine.txt"])
+    first.write_bytes(whole)
+    case.many("--max-empties=24", *WORDS, message="3 lines, 3 of them solved before;")
+    assert not first.exists()
+
+
+def test_a_batch_is_not_solved_in_vain(case):
+    cut(case)
+    for how, why in (({"preexec_fn": limited(RLIMIT_FSIZE=1000)}, "File too large"), (NOBODY, "Permission denied")):
+        words = write(case.folder / "words", "", 0o666)
+        ran = run(*SOLVE, "1-2", text=True, env={**os.environ, "WORDS": str(words)}, **how)
+        failed = re.findall(r"^batch (.*): .*: (.*)\n", ran.stderr, re.M)
+        assert (ran.returncode, failed) == (1, [("0000001", why), ("0000002", why)])
+        assert words.read_text().count("\n") == 1  # the program has run for the known line alone
+
+
+def test_results_are_new_files_once_they_are_on_the_disk_and_files_that_may_not_be_read_are_named(case):
+    cut(case, 3, "--book-in=one.book", by=case.MANY)
+    run(*SOLVE, "0-2", check=True)
+    paths = results()
+    for path in paths:
+        path.unlink()
+    write("other", "?")
+    os.chmod("work/results", 0o777)
+    os.symlink(case.folder / "other", paths[0])
+    write(paths[1], "", 0o600 if NOBODY else 0o100)
+    ran = run(*SOLVE, "0-2", env=preload(case.folder, WATCHED=""), text=True, **NOBODY)
+    (why,) = re.findall(r"^(?:sync rename )*(batch \d{7}: .*)\n\Z", ran.stderr)
+    assert (ran.returncode, ran.stderr.count("sync rename ")) == (1, 2) and why.endswith(
+        f": results/{paths[1].name}: Permission denied")
+    assert [path.lstat().st_size > 99 for path in paths] == [True, False, True]
+    assert Path("other").read_text() == "?"
+    for name, why in (("book-in", "the program can't solve a known line: ffosolve: cannot read book-in"),
+                      ("ffosolve-0", "[Errno 13] Permission denied: 'ffosolve-0'")):
+        Path("work", name).chmod(0o111)
+        ran = run(*SOLVE, "0", text=True, **NOBODY)
+        assert ran.returncode == 1 and "ermission denied" in ran.stderr and name in ran.stderr
+
+
+def test_an_interrupt_or_a_lack_of_memory_or_an_old_python_ends_solve_py_without_a_traceback(case):
+    cut(case)
+    ran = case.start(*SOLVE, "0-2", env={**os.environ, "LAST": "0"})
+    wait_until(lambda: [*Path("work/results").glob("*.new")])
+    assert (end(case, ran, signal.SIGINT), ran.returncode) == ((b"", ""), -signal.SIGINT)
+    case.many("--max-empties=24", *WORDS)
+    os.truncate("work/ffosolve-0", 1 << 30)
+    ends((1, "", "solve.py 0: out of memory\n"), *SOLVE, "0", preexec_fn=limited(RLIMIT_AS=200 << 20))
+    ast.parse(Path(solve.__file__).read_text(), feature_version=(3, 7))
+    code = "import runpy, sys; sys.version_info = (3, 7, 1); runpy.run_path('work/solve.py', run_name='__main__')"
+    error = f"solve.py needs Python 3.8 or later, and this is {sys.version.split()[0]}\n"
+    ends((1, "", error), sys.executable, "-c", code)
+
+
+SIGNALLED = ("--jobs=2", *WORDS)
 
 
 def begin(case, *program, last=99):
-    """Starts `program` with SIGNALLED in a new session. case.ACTS takes 45 s per part after the first `last` parts."""
+    """Starts `program` with SIGNALLED in a new session. case.ACTS takes 45 s per batch after the first `last`."""
+    Path("begun").unlink(missing_ok=True)
     places = {**os.environ, "PAUSE": "0.15", "LAST": str(last)}
     return case.start(*program, *SIGNALLED, start_new_session=True, env=places)
 
 
 def at_work(case, done):
-    """Starts a run of 12 parts; returns its process once `done` parts are solved and two are being solved."""
+    """Starts a run; returns its process once `done` batches of five lines are solved and two are being solved."""
+    before = case.solved()
     ran = begin(case, case.ACTS, last=done)
-    wait_until(lambda: case.parts_solved() >= done and len(case.programs()) == 2)
+    wait_until(lambda: case.solved() >= min(60, before + 5 * done) and len(case.programs()) == 2)
     return ran
 
 
@@ -528,11 +772,24 @@ def test_a_signal_or_two_together_end_all_processes_within_a_second_and_the_comm
     together = [(signal.SIGSTOP, *pair, signal.SIGCONT) for pair in pairs]  # so that both come at once
     alone = [(number,) for number in (signal.SIGTERM, signal.SIGINT, signal.SIGHUP, signal.SIGKILL)]
     for at, numbers in enumerate(alone + 2 * together):
-        ran = at_work(case, min(8, 2 + 2 * at))
+        ran = at_work(case, 1)
         output, errors = end(case, ran, *numbers)
         assert (-ran.returncode in numbers, output) == (True, b"")
         assert re.search(f"^.*\n{'' if signal.SIGKILL in numbers else INTERRUPTED}$", errors)  # no traceback
-    case.many(*SIGNALLED, by=case.ACTS, message=f"lines in 12 parts, {case.parts_solved()} of them solved before")
+        assert case.solved() == 5 * at + 5
+    case.many(*SIGNALLED, by=case.ACTS, message=LOST.format(50))
+    assert {*os.listdir("work")} == {LOCK, "answers"}
+
+
+def test_a_store_that_cannot_be_written_ends_the_run_at_once_while_other_batches_are_solved(case):
+    """It has 12,288 bytes at first."""
+    ran = case.start(case.ACTS, *SIGNALLED, preexec_fn=limited(RLIMIT_FSIZE=12288), start_new_session=True,
+                     env={**os.environ, "LAST": "11"})
+    wait_until(lambda: ran.poll() is not None, 30)
+    output, errors = end(case, ran)
+    assert (ran.returncode, output) == (3, b"")
+    assert re.search(r"ffosolve-many: cannot write work/answers: .*\n\Z", errors)
+    case.many(*SIGNALLED, by=case.ACTS, message=LOST.format(case.solved()))
 
 
 def test_a_signal_ends_the_run_while_python_ignores_exceptions_or_starts(case):
@@ -549,14 +806,13 @@ def test_a_signal_ends_the_run_while_python_ignores_exceptions_or_starts(case):
     importing = case.install("starting", ("command", "import argparse\n", slow))
     for by, number, told in ((by, signal.SIGTERM, INTERRUPTED), (by, signal.SIGINT, INTERRUPTED),
                              (importing, signal.SIGINT, "")):
-        Path("begun").unlink(missing_ok=True)
         ran = begin(case, by)
         wait_until(Path("begun").exists)
         assert (end(case, ran, number), ran.returncode) == ((b"", told), -number)
 
 
 def test_a_program_does_not_start_once_its_caller_has_ended(case):
-    run(case.MANY, "--cut", *WORDS)
+    run(case.MANY, "--cut", *WORDS[:2], check=True)
     code = "import solve as it; print(*it.GUARD, it.opened('.') / 'ffosolve-0', sep='\\n')"
     words = run(sys.executable, "-c", code, cwd="work", text=True).stdout.splitlines()
     ran = run(*words, text=True)
@@ -567,10 +823,11 @@ MAY_USE = sorted(os.sched_getaffinity(0))
 
 
 @pytest.mark.parametrize("words, processors", [((), MAY_USE), ((), MAY_USE[:1]), (("--jobs=20",), MAY_USE[:1])])
-def test_as_many_parts_are_solved_at_once_as_there_are_jobs_by_default_one_for_each_processor_that_may_be_used(
+def test_as_many_batches_are_solved_at_once_as_there_are_jobs_by_default_one_for_each_processor_that_may_be_used(
         case, words, processors):
-    ran = case.start("taskset", "-c", ",".join(map(str, processors)), case.ACTS, *words, "--lines=1", *WORDS[1:],
-                     env={**os.environ, "PAUSE": "45"})
+    write("list.obf", over(max(30, 2 * len(processors)), 20))
+    ran = case.start("taskset", "-c", ",".join(map(str, processors)), case.install("asked", script=ACTING), *words,
+                     *WORDS, env={**os.environ, "PAUSE": "45"})
     count = 20 if words else len(processors)
     wait_until(lambda: len(case.programs()) == count)
     time.sleep(0.5)  # in which more might begin
@@ -598,7 +855,7 @@ def test_control_c_on_a_terminal_is_no_signal_for_the_programs_and_they_end_firs
 
 
 def test_kills_at_random_moments_lose_nothing(case):
-    rng = random.Random(1)
+    rng, stored = random.Random(1), 0
     for _ in range(10):
         ran = begin(case, case.ACTS)
         time.sleep(rng.uniform(0, 2))
@@ -607,6 +864,9 @@ def test_kills_at_random_moments_lose_nothing(case):
         output, _ = end(case, ran)
         assert ran.returncode in ((0, -9) if output else (1, 3, 4, -9))
         assert output in (case.one, b"")
+        stored, before = case.solved(), stored
+        assert stored >= before
         if ran.returncode == 0 or rng.randrange(4) == 0:
-            case.many(*SIGNALLED, by=case.ACTS)
+            case.many(*SIGNALLED, by=case.ACTS, message=LOST.format(stored))
             shutil.rmtree("work")
+            stored = 0

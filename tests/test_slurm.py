@@ -46,16 +46,14 @@ def slurm(case, monkeypatch):
     wait_until(lambda: b"idle" in run("sinfo", "-h", "-o", "%T").stdout)
 
 
-def test_the_job_array_of_the_document_solves_all_parts_and_shows_why_some_fail(case, slurm):
-    write("part.sh", ARRAY.replace(b"100", b"6").replace(b"99", b"5"))
-    case.write_list(case.SMALL + b"% FAIL\n")
-    words = ("--lines=3", *WORDS[1:])
-    run(case.ACTS, "--cut", *words, check=True)
+def test_the_job_array_of_the_document_solves_all_batches_and_shows_why_some_fail(case, slurm):
+    write("part.sh", ARRAY.replace(b"100", b"4").replace(b"99", b"3"))
+    case.write_list(case.SMALL + b"FAIL\n")
+    run(case.ACTS, "--cut", *WORDS, check=True)
     run("sbatch", "--wait", "--array=0-3", "part.sh", timeout=5 * SECONDS)
     (log,) = Path(".").glob("parts-*.log")
-    assert log.read_text() == "part 0000019: ffosolve: out of memory\n"
-    Path("work/ffosolve-0").unlink()
-    case.many(*words, message="in 20 parts, 19 of them solved before")
+    assert log.read_text() == "batch 0000012: ffosolve: out of memory\n"
+    case.many(*WORDS, message=": 61 lines, 60 of them solved before")
 
 
 def test_the_job_of_the_document_waits_for_its_own_scheduler_ends_it_and_has_the_status(folder):
@@ -75,11 +73,11 @@ def test_the_job_of_the_document_solves_a_list_on_its_own_cluster_and_ends_with_
     need("dask")
     os.symlink(case.ACTS.parent, "bin")
     job = JOB.replace(b"--nodes=4", b"--nodes=1").replace(b"--cpus-per-task=8", b"--cpus-per-task=2")
-    write("job.sh", job.replace(b"list.obf", b"--lines=3 list.obf"))
+    write("job.sh", job)
     for number, (text, status) in enumerate(((case.SMALL, 0), (case.SMALL + b"% FAIL\n", 1)), 1):
         case.write_list(text)
         write(f"scheduler-{number}.json", '{"address": "tcp://127.0.0.1:1"}')  # of a start that was killed
         ran = run("sbatch", "--wait", "--output=job.log", "job.sh", timeout=5 * SECONDS)
         log = Path("job.log").read_text()
         assert (ran.returncode, Path("list.report").read_bytes()) == (status, b"" if status else case.one), log
-        assert f"in 20 parts, {19 * status} of them solved before" in log
+        assert f": {60 + status} lines, {60 * status} of them solved before" in log

@@ -20,7 +20,6 @@ from ._text import NotText, shown
 Name = Union[str, int, "os.PathLike[str]"]  # of a file, or a descriptor
 DONE, REMARKED, MISUSED, UNREADABLE, MISSING = range(5)
 DEFAULT_EMPTIES = 20  # of --max-empties
-MOST_LINES = 10_000  # in a part of ffosolve-many
 name = "ffosolve"  # of the program, which `run` sets
 _unfinished: Set[str] = set()  # the files that `write_whole` is writing, by their temporary names
 

@@ -9,7 +9,7 @@ import sys
 import warnings
 from typing import Any, Callable, Dict, Iterable, Iterator, List, NamedTuple, NoReturn, Optional
 
-from ._command_line import DONE, MISSING, MISUSED, MOST_LINES, REMARKED, UNREADABLE
+from ._command_line import DONE, MISSING, MISUSED, REMARKED, UNREADABLE
 from ._command_line import Parser, Refusal, counted, file_of, number, print_all, refusing, run, say, write_whole
 from ._games import Game, GameRefused, corrected, discs_of_black, games_in, position_with, positions_of
 from ._library import MOST_EMPTIES, LibraryNotFound, load
@@ -110,9 +110,8 @@ def parser_of() -> Parser:
                        help="keeps what is solved of all FILEs [default: FILE.check for each FILE]")
     group.add_argument("--max-empties", metavar="N", type=number(0, MOST_EMPTIES),
                        help="solve only positions with at most N empty squares")
-    group.add_argument("--lines", metavar="N", type=number(1, MOST_LINES), help="[default: 10]")
     for name, value in (("--jobs", "N"), ("--scheduler", "ADDRESS"), ("--cut", None), ("--prune", None),
-                        ("--quiet", None), ("--workers", "N"), ("--table", "N"), ("--book-in", "FILE")):
+                        ("--quiet", None), ("--table", "N"), ("--book-in", "FILE")):
         how: Dict[str, Any] = {"action": "append_const", "const": name}
         if value:
             how = {"action": "append", "metavar": value, "type": f"{name}={{}}".format}
@@ -129,7 +128,7 @@ def read_options(words: List[str]) -> argparse.Namespace:
     options = parser.parse_intermixed_args(words[task is not None:end], argparse.Namespace(task=task))
     named = options.files + words[end + 1:]
     options.book, options.files = named[:task == "compare"], named[task == "compare":]
-    of_check = [f"--{name}" for name in ("folder", "max-empties", "lines")
+    of_check = [f"--{name}" for name in ("folder", "max-empties")
                 if getattr(options, name.replace("-", "_")) is not None]
     of_check += [word.partition("=")[0] for word in options.many]
     fixes = options.fix is not None
@@ -260,7 +259,7 @@ def check(options: argparse.Namespace, messages: Messages) -> Iterator[bytes]:
     more = [it.position.empties for it in found if it.position and it.position.empties > most]
     if more and "--quiet" not in options.many:
         say(f"{counted(len(more), 'position')} left out: --max-empties {max(more)} takes all")
-    scores = exact_scores(folders, options.lines or 10, options.many) if folders else {}
+    scores = exact_scores(folders, options.many) if folders else {}
     if "--cut" not in options.many:
         yield from compared(found, copies, scores, options, messages)
 
@@ -321,19 +320,19 @@ def folders_of(found: List[Found], options: argparse.Namespace) -> Dict[str, Lis
     return {folder: [*positions] for folder, positions in folders.items()}
 
 
-def exact_scores(folders: Dict[str, List[Position]], lines: int, words: List[str]) -> Dict[Position, int]:
-    """Lets ffosolve-many solve the positions that belong to each folder, with parts of `lines` lines and the options
-    `words`. Returns {canonical position: score for its mover}, {} with --cut. Refuses a folder before any is solved."""
+def exact_scores(folders: Dict[str, List[Position]], words: List[str]) -> Dict[Position, int]:
+    """Lets ffosolve-many solve the positions that belong to each folder, with the options `words`. Returns {canonical
+    position: score for its mover}, {} with --cut. Refuses a folder before any is solved."""
     here = os.path.dirname(os.path.realpath(sys.argv[0]))
     program = shutil.which(os.path.join(here, SOLVER)) or shutil.which(SOLVER)
     if program is None:
         raise Refusal(f"{SOLVER} is missing: it has to be next to ffosolve-games, in {here}, or on the path", MISSING)
-    command = ["setpriv", "--pdeathsig", "TERM", program, f"--max-empties={MOST_EMPTIES}", f"--lines={lines}"]
+    command = ["setpriv", "--pdeathsig", "TERM", program, f"--max-empties={MOST_EMPTIES}"]
     scores: Dict[Position, int] = {}
-    for options in [["--cut"]] * (len(folders) > 1) + [words]:
-        is_shown = options is words and "--cut" in words
+    for options in [["--cut"]] * (len(folders) > 1 and "--cut" not in words) + [words]:
+        is_shown = "--cut" in words
         for folder, positions in folders.items():
-            text = "".join(f"{position.to_obf('X')}\n" for position in positions)
+            text = "".join(f"{position.to_obf('X')}\n" for position in positions if options is words)
             with refusing("run", SOLVER):
                 ran = subprocess.run([*command, *options, "--", folder, "-"], input=text, encoding="utf-8",
                                      errors="surrogateescape", stdout=None if is_shown else subprocess.PIPE)

@@ -1,5 +1,7 @@
 """Runs ffosolve-many: reads its command line, and then solves a list and prints the results, or merges books."""
 import argparse
+import contextlib
+import gc
 import io
 import itertools
 import os
@@ -9,63 +11,70 @@ import subprocess
 import sys
 import tempfile
 from pathlib import Path
-from typing import Any, Dict, List, Tuple
+from typing import IO, Any, Dict, List, Tuple
 
-from .._command_line import (DEFAULT_EMPTIES, DONE, MISSING, MOST_LINES, REMARKED, UNREADABLE, Name, Parser, Refusal,
-                             counted, is_same, misused, number, path_of, print_all, refusing, regular, replace,
+from .._command_line import (DEFAULT_EMPTIES, DONE, MISSING, REMARKED, UNREADABLE, Name, Parser, Refusal, counted,
+                             is_same, misused, number, path_of, print_all, refusing, regular, replace,
                              run as run_program, say)
 from .._library import MOST_EMPTIES, MOST_ENTRIES
 from .._text import BOOK_HEADER, shown, typed
 from .books import merged
-from .engine import Threads, solve_parts
+from .engine import Engine, Threads, solve_lines
 from .folder import Files, Run, inspect
+from .rows import unpacked
 from .solve import GUARD, Task, opened, without_folder
+from .store import Damaged
 
 NAME = "ffosolve-many"
-EXCLUDED = {"scheduler": {"jobs", "cut"}, "scores": {"book_in", "book_out"}, "cut": {"prune"}}  # {option: not with it}
+EXCLUDED = {"scheduler": {"jobs", "cut"}, "scores": {"book_in", "book_out"},
+            "cut": {"prune", "each"}}  # {option: not with it}
+GONE = {"--lines": "batches are cut by their work", "--workers": "--jobs N says how many processors to use",
+        "--hosts": "--scheduler names a cluster of machines", "--sweep": "nothing is left on other machines"}
+MOST_DAMAGED = 3  # times that a database is found damaged, and is made anew
+SPOOLED = 1 << 24  # bytes of a report that are kept in memory until it is whole
 
 USAGE = f"""{NAME} [OPTIONS] [FOLDER] LIST
        {NAME} --merge-books [--book-out FILE] BOOK.."""
 WHAT = """\
-Solves a list of any length in parts, several at a time, on this machine or on
-many, and prints one report.
+Solves a list of any length on all processors of this machine, or on many
+machines, and prints one report.
 """
 MORE = f"""\
-FOLDER keeps the list and the results [default: LIST.parts]: a command solves
-only what it does not have, after an interruption or a change of the list, too.
+FOLDER keeps the answers to lines [default: LIST.parts]: a command solves only
+lines without an answer there, after an interruption or a change of LIST, too.
 Options may stand anywhere; `--` ends them. `-` is standard input.
 
 examples:
-  {NAME} list.obf --max-empties 24 --lines 10 >list.report
+  {NAME} list.obf --max-empties 24 >list.report
   {NAME} --scheduler tcp://h1:8786 list.obf --book-out list.book
 
 status:
   0  done
-  1  not all parts are solved; with --scores instead: there is a remark or a
+  1  not all lines are solved; with --scores instead: there is a remark or a
      refused line in the output
   2  the command line is refused
   3  a file can't be read or written, another run works in FOLDER, or the
-     scheduler is lost; with --scores also: not all parts are solved
+     scheduler is lost; with --scores also: not all lines are solved
   4  a tool is missing, or the program can't be built
 """
-RANGES = {"--jobs": number(1, 999), "--lines": number(1, MOST_LINES), "--max-empties": number(0, MOST_EMPTIES),
-          "--workers": number(0, 64), "--table": number(0, MOST_ENTRIES)}
+RANGES = {"--jobs": number(1, 999), "--each": number(1, 9_999_999), "--max-empties": number(0, MOST_EMPTIES),
+          "--table": number(0, MOST_ENTRIES)}
 CHOICES = {"--scoring": ("winner", "discs", "sign")}
 OPTIONS = {
     "how the list is solved": (
-        ("--jobs", "N", "parts solved at a time on this machine, 1 to 999 [default: one for each of its processors]"),
-        ("--lines", "N", "lines of a part on average, 1 to 10000 [default: 1000]"),
+        ("--jobs", "N", "processors of this machine to use, 1 to 999 [default: all that it may use]"),
         ("--scheduler", "ADDRESS", "solve on the workers of this Dask scheduler; also the file that it writes"),
-        ("--scores", None, "solve the parts with ffoscores instead of ffosolve"),
+        ("--scores", None, "solve the lines with ffoscores instead of ffosolve"),
         ("--complete", None, "report lines that list moves but omit a best one"),
-        ("--cut", None, "only cut the list, for another scheduler"),
-        ("--prune", None, "at the end, remove other results from FOLDER, such as those of lines that LIST has no more"),
+        ("--each", "SECONDS", "give up a line that takes longer"),
+        ("--partial", None, "print what is solved, even if some lines are not"),
+        ("--cut", None, "only cut the unsolved lines into batches, for another scheduler"),
+        ("--prune", None, "at the end, remove other answers from FOLDER, such as those to lines that LIST has no more"),
         ("--merge-books", None, "solve nothing, and merge books of one scoring into one"),
         ("--quiet", None, "write only failures to standard error")),
     "options of ffosolve, with the same meaning": (
         ("--max-empties", "N", f"solve positions with at most N empty squares, 0 to 60 [default: {DEFAULT_EMPTIES}]"),
-        ("--workers", "N", "extra threads per part, beyond its own, 0 to 64 [default: 0]"),
-        ("--table", "N", "entries of the transposition table for each part, 32 bytes each"),
+        ("--table", "N", "entries of the transposition table of each program, 32 bytes each"),
         ("--scoring", "NAME", "how a finished game is scored [default: winner] [possible values: winner, discs, sign]"),
         ("--book-in", "FILE", "a book of claimed answers, which are tested before they are used"),
         ("--book-out", "FILE", "write all solved positions to FILE as a book"))}
@@ -85,6 +94,8 @@ def parse(words: List[str]) -> argparse.Namespace:
     end = words.index("--") if "--" in words else len(words)
     command, others = parser.parse_known_args(words[:end])
     for word in others:
+        if instead := GONE.get(word.partition("=")[0]):
+            raise misused(f"{word.partition('=')[0]} is gone: {instead}")
         if word.startswith("-") and word != "-":
             raise misused(f"'{shown(word)}' is not an option; a file of that name is ./{shown(word)}")
     given = {name for name, values in vars(command).items() if values}
@@ -157,6 +168,8 @@ def run_of(command: argparse.Namespace, programs: str) -> Run:
     folder, path, name = Path(named[0] if named else f"{word}.parts"), path_of(word), shown(word)
     if not named and (path.is_fifo() or path.parts[1:2] in (("dev",), ("proc",)) or len(os.fsencode(path.name)) > 249):
         raise misused(f"'{name}' has no folder of its own: name a FOLDER before it")
+    if folder.is_symlink() and not folder.exists():
+        raise misused(f"{shown(folder)} is a link that leads nowhere: name another FOLDER")
     if folder.exists() and not folder.is_dir():
         raise misused(f"'{shown(folder)}' is not a folder: name one FOLDER and one LIST")
     if is_same(path, 1):
@@ -171,11 +184,9 @@ def run_of(command: argparse.Namespace, programs: str) -> Run:
         raise misused(f"{name} is a book of the scoring {scoring}: use --scoring {scoring}")
     program = Path(programs, "ffoscores" if command.scores else "ffosolve")
     most = DEFAULT_EMPTIES if command.max_empties is None else command.max_empties
-    task: Task = {"program": program.name, "lines": command.lines or 1000,
+    task: Task = {"program": program.name, "speed": {"--table": command.table},
                   "options": {"--max-empties": most, "--scoring": command.scoring or "winner",
-                              "--complete": "" if command.complete else None},
-                  # The parts keep all processors busy, so none of them needs more than one thread.
-                  "speed": {"--workers": command.workers or 0, "--table": command.table}}
+                              "--complete": "" if command.complete else None}}
     files = files_of(program)
     if command.book_in:
         book = regular(command.book_in)
@@ -183,44 +194,83 @@ def run_of(command: argparse.Namespace, programs: str) -> Run:
         check_book(program, shown(command.book_in), files["book-in"][0])
     if command.book_out:
         check_book_out(command.book_out, (path, "the list"), (command.book_in or os.devnull, "the --book-in"))
-    return Run(folder, task, source, name, files, is_remote=bool(command.scheduler))
+    return Run(folder, task, source, name, files, command.each)
 
 
 def print_cut(run: Run) -> int:
-    """Prints how many parts are solved, and the command that solves the others. Returns a status."""
-    groups = itertools.groupby(enumerate(run.unsolved()), lambda pair: pair[1].number - pair[0])
-    ranges = [[part.number for _, part in group] for _, group in groups]
+    """Prints how many lines are solved, and the command that solves the others. Returns a status."""
+    run.prepare()
+    groups = itertools.groupby(enumerate(run.write_batches()), lambda pair: pair[1] - pair[0])
+    ranges = [[number for _, number in group] for _, group in groups]
     words = [f"{one[0]}-{one[-1]}" if one[1:] else str(one[0]) for one in ranges]
     rest = f"; python3 {typed(run.folder / 'solve.py')} {' '.join(words)} solves the others" if words else ""
-    print_all([os.fsencode(f"{counted(len(run.parts), 'part')}, {run.solved_count} of them solved{rest}\n")])
+    print_all([os.fsencode(f"{counted(run.count, 'line')}, {run.count - run.unsolved} of them solved{rest}\n")])
     return DONE
+
+
+def solve(command: argparse.Namespace, run: Run) -> None:
+    """Takes what solve.py has solved, and solves what is unsolved."""
+    run.take_results()
+    run.look_up()
+    if not command.quiet and not command.cut:
+        say(f"{run.name}: {counted(run.count, 'line')}, {run.count - run.unsolved} of them solved before; folder "
+            f"{shown(run.folder)}")
+    if run.unsolved and not command.cut:
+        run.prepare()
+        if command.scheduler:
+            from .cluster import Cluster
+            engine: Engine = Cluster(command.scheduler, run)
+        else:
+            engine = Threads(run, command.jobs or len(os.sched_getaffinity(0)))
+        unsolved = solve_lines(run, engine, command.quiet)
+        run.look_up()
+        if run.unsolved and len(run.to_solve()) > unsolved:
+            raise Damaged("answers are gone")
+
+
+def results(command: argparse.Namespace, run: Run) -> Tuple[IO[bytes], List[bytes]]:
+    """Returns the report, once all of it is known to be right, and the packed entries of any --book-out."""
+    report: IO[bytes] = tempfile.SpooledTemporaryFile(SPOOLED)
+    entries: List[bytes] = []
+    if command.partial or not run.unsolved:
+        with refusing("write", tempfile.gettempdir()):
+            report.writelines(run.scores() if command.scores else run.report(entries if command.book_out else None))
+            report.seek(0)
+    entries.sort()
+    return report, entries
+
+
+def found_results(command: argparse.Namespace, run: Run) -> Tuple[IO[bytes], List[bytes]]:
+    """Solves what is unsolved, and returns `results`. Does so again if the database turns out to be damaged."""
+    for _ in range(MOST_DAMAGED):
+        with contextlib.suppress(Damaged):
+            solve(command, run)
+            return results(command, run)
+        run.store.make_anew()
+        run.forget()
+    raise Refusal(f"{shown(run.store.name)} is damaged again and again: is its disk sound?")
 
 
 def solve_list(command: argparse.Namespace, programs: str) -> int:
     """Solves a command's list, prints results, writes any --book-out; --cut: only cuts the list. Returns the status."""
     if command.scheduler:
-        from .cluster import Cluster  # refuses if its package is missing
+        from . import cluster  # noqa: F401  # refuses if its package is missing
     run = run_of(command, programs)
-    if command.cut:
-        return print_cut(run)
-    parts = counted(len(run.parts), "part")
-    if not command.quiet:
-        say(f"{run.name}: {counted(run.count, 'line')} in {parts}, {run.solved_count} of them solved before; folder "
-            f"{shown(run.folder)}")
-    if run.unsolved():
-        jobs = command.jobs or len(os.sched_getaffinity(0))
-        solve_parts(run, Cluster(command.scheduler, run) if command.scheduler else Threads(run, jobs), command.quiet)
-    if failed := run.unsolved():
-        named = ", ".join(map(str, failed[:3])) + (", .." if len(failed) > 3 else "")
-        raise Refusal(f"not solved: {len(failed)} of {parts}: {named}. The same command solves only these",
-                      UNREADABLE if command.scores else REMARKED)
-    print_all(run.output())
-    if command.book_out:
-        header = f"{BOOK_HEADER}{run.task['options']['--scoring']}\n".encode()  # all of the book if there are no lines
-        books = ((str(part), io.BytesIO(found.book)) for part, found in run.solved())
-        replace(command.book_out, merged([("", io.BytesIO(header)), *books]))
-    run.clean(command.prune)
-    return max(run.statuses.values(), default=DONE)
+    with contextlib.closing(run.store):
+        report, entries = found_results(command, run)
+        if command.cut:
+            return print_cut(run)
+        print_all(iter(lambda: report.read(1 << 20), b""))
+        if command.book_out and (command.partial or not run.unsolved):
+            header = f"{BOOK_HEADER}{run.task['options']['--scoring']}\n".encode()
+            distinct = (unpacked(entry) for entry, _ in itertools.groupby(entries))
+            replace(command.book_out, itertools.chain([header], distinct))
+        if run.unsolved:
+            raise Refusal(f"not solved: {run.unsolved} of {counted(run.count, 'line')}. The same command solves only "
+                          "these", UNREADABLE if command.scores else REMARKED)
+        if command.prune:
+            run.prune()
+    return run.status
 
 
 def merge_books(command: argparse.Namespace, programs: str) -> int:
@@ -244,6 +294,8 @@ def merge_books(command: argparse.Namespace, programs: str) -> int:
 
 def main() -> None:
     """Runs ffosolve-many, and ends this process. ffosolve and ffoscores are next to the script that runs."""
+    gc.set_threshold(100_000)  # to look for cycles more often takes a tenth of the time of a large list
+
     def carry_out() -> int:
         command, programs = parse(sys.argv[1:]), os.path.dirname(os.path.realpath(sys.argv[0]))
         return (merge_books if command.merge_books else solve_list)(command, programs)

@@ -1,8 +1,9 @@
-"""Solves parts of a list: on a thread of ffosolve-many, on a worker of a cluster, or as `python3 solve.py PARTS`.
+"""Solves batches of lines: on a thread of ffosolve-many, on a worker of a cluster, or as `python3 solve.py BATCHES`.
 This file needs only Python 3.8 and util-linux, so it works on machines without the rest of the package."""
 import signal
 if __name__ == "__main__" and signal.getsignal(signal.SIGINT) is signal.default_int_handler:
     signal.signal(signal.SIGINT, signal.SIG_DFL)  # without a traceback, even while modules are imported
+import errno
 import functools
 import hashlib
 import json
@@ -12,85 +13,38 @@ import sys
 import tempfile
 import threading
 import time
-import zlib
 from pathlib import Path
 from subprocess import PIPE, Popen, TimeoutExpired
-from typing import Any, BinaryIO, Callable, Dict, Iterable, Iterator, List, NamedTuple, Optional, Set, Tuple
+from typing import Any, BinaryIO, Callable, Dict, Iterator, List, Optional, Set, Tuple
 
-FORM = "task 2"  # what the file `task` is about; each version that changes a run's folder has its own
+FORM = "task 3"  # what the files of `--cut` are about; each version that changes them has its own
 KNOWN = b"-OXXXXX-XXXXXXXOXXXXXXXXXXXXXXXXXXXOXXXXXXXXXXXXXXXXXXXXXXXXXXXX X; H1:+62; A1:+52;\n"
 KNOWN_SECONDS = 30  # in which a machine has to solve it; that takes 0.01, but a busy machine starts programs late
 GUARD = ("setpriv", "--pdeathsig", "KILL")  # before the path of a program, which is then killed when this process ends
-PART_BYTES = 1_048_576  # in a part; the programs take as many
-MOST_READ = PART_BYTES << 9  # bytes of a file in a folder, if it is not the list
-# Of each line that is not blank and no comment: its 64 squares if a side follows, and two letters if these come next.
-LETTER = b"*XxOoBbWw"  # of a disc or of a side; without regard to case, the pattern would take twice as long
-FRONT = re.compile(rb"^(?![ \t]*(?:%%|\r?$))[ \t]*((?:[-.%b]{64}(?=[ \t]*[%b])(?:[ \t]*[A-Za-z]{2})?)?)"
-                   % (LETTER, LETTER), re.M)
+BATCH_BYTES = 1_048_576  # the most in a batch; the programs take as many
+MOST_READ = BATCH_BYTES << 9  # bytes of a file in a folder
+LATE = "takes more than "  # how the reason begins why a batch is given up after some seconds
+BUSY = os.strerror(errno.EAGAIN)  # how the reason ends if no more processes are allowed
 
-# What a run's file `task` has. "program", its name; "options": {option that decides the results: value}, "" for one
-# without value, None for one not given; "speed", the like for others, except --book-in; "lines" of a part on average;
-# "parts", their number; "files", {name: SHA-256} of the builds and any book-in; "known", {digest of KNOWN: results}.
+# What a Pack is for. "program", its name; "options": {option that decides the results: value}, "" for one without
+# value, None for one not given; "speed", the like for --table; "files", {name: SHA-256} of the builds and any book-in;
+# "known", the results for KNOWN, or "" if there are none yet. In a folder also "batches", their number after --cut.
 Task = Dict[str, Any]
-
-Solved = NamedTuple("Solved", [("status", int), ("output", bytes), ("book", bytes), ("seconds", float)])  # of a part
 
 
 def sha256(content: bytes) -> str:
     return hashlib.sha256(content).hexdigest()
 
 
-def sealed(about: str, content: bytes) -> bytes:
-    """Returns a content after a line with a digest: the SHA-256 of what it is `about` and of the content."""
-    return sha256(about.encode() + content).encode() + b"\n" + content
+def sealed(content: bytes) -> bytes:
+    """Returns a content after a line with the SHA-256 of it and its FORM."""
+    return sha256(FORM.encode() + content).encode() + b"\n" + content
 
 
-def unsealed(about: str, text: bytes) -> bytes:
-    """Returns the content in a text from `sealed`, or b"" if it is damaged or about something else."""
+def unsealed(text: bytes) -> bytes:
+    """Returns the content in a text from `sealed`, or b"" if it is damaged or has another form."""
     content = text.partition(b"\n")[2]
-    return content if text == sealed(about, content) else b""
-
-
-def parts_of(lines: Iterable[bytes], usual: int) -> Iterator[List[bytes]]:
-    """Cuts a list by what its lines are, so that few parts end elsewhere after a change. Unless the list ends before, a
-    part ends with the line of the least checksum among those that fit: 7/4 of the `usual` number, and PART_BYTES."""
-    found: List[bytes] = []
-    sums: List[int] = []
-    size, most = 0, max(1, 7 * usual // 4)
-    for line in lines:
-        size += len(line)
-        while found and (len(found) == most or size > PART_BYTES):
-            sums += map(zlib.crc32, found[len(sums):])
-            end = len(sums) - sums[::-1].index(min(sums))
-            size -= sum(map(len, found[:end]))
-            yield found[:end]
-            del found[:end], sums[:end]
-        found.append(line)
-    if found:
-        yield found
-
-
-def empties_of(fronts: List[bytes]) -> List[int]:
-    return [front.count(b"-") + front.count(b".") for front in fronts]
-
-
-def digest_of(task: Task, text: bytes, most: Optional[int] = None) -> str:
-    """Returns what the results of lines are kept under: a SHA-256 of the lines and of what decides the results, such as
-    the limit of empty squares if a line has more. `most` is the greatest number in them, found if it is not given."""
-    most = max(empties_of(FRONT.findall(text)), default=0) if most is None else most
-    options = {**task["options"]}
-    if most <= options["--max-empties"]:
-        del options["--max-empties"]
-    return sha256(json.dumps([task["program"], options], sort_keys=True).encode() + text)
-
-
-def read_record(digest: str, record: bytes) -> Optional[Solved]:
-    """Returns the results in a record from `solve`, or None if it is damaged or of a part with another `digest_of`."""
-    head, _, results = unsealed(digest, record).partition(b"\n")
-    if not head:
-        return None
-    status, size, seconds = head.split()
-    return Solved(int(status), results[:int(size)], results[int(size):], float(seconds))
+    return content if text == sealed(content) else b""
 
 
 def unnamed(content: bytes) -> BinaryIO:
@@ -109,13 +63,13 @@ def place_of(file: int) -> str:
 
 
 class Pack:
-    """A run's programs and --book-in, which solve parts on this machine: files in its folder, `place`, or `contents` in
-    memory. Each worker of a Dask cluster has one, and drops it when the client ends. They pass it on as built-in types,
-    so they need no package of ours, and no certain Python: `source` is the text of this module."""
+    """A run's programs and --book-in, which solve batches on this machine: `contents`, which become files in memory.
+    Each worker of a Dask cluster has one, and drops it when the client ends. They pass it on as built-in types, so they
+    need no package of ours, and no certain Python: `source` is the text of this module."""
 
-    def __init__(self, source: str, task: Task, contents: Dict[str, bytes], place: Path = Path()) -> None:
+    def __init__(self, source: str, task: Task, contents: Dict[str, bytes]) -> None:
         self.source, self.task, self.contents = source, task, contents
-        self.files = {name: str(place / name) for name in task["files"]}
+        self.files: Dict[str, str] = {}
         self.memory: List[BinaryIO] = []
         self.program, self.fault, self.lock = "", "", threading.Lock()
 
@@ -125,19 +79,22 @@ class Pack:
         names = {"source": self.source, "names": {"__name__": "ffosolve"}, "task": self.task, "contents": contents}
         return eval, ("exec(source, names) or names['Pack'](source, task, contents)", {}, names)
 
-    def __call__(self, topic: str, text: bytes, most: int) -> Tuple[Tuple[str, str], str, bytes, str]:
-        """Solves a part unless Dask cancels it. Returns the worker (address, folder), its fault, and what `solve` does.
-        If the worker solves KNOWN, first tells those who asked for the topic."""
+    def __call__(self, topic: str, text: bytes, threads: int, seconds: Optional[int]
+                 ) -> Tuple[Tuple[str, str], str, bytes, str]:
+        """Solves a batch, with no more threads than the worker has, unless Dask cancels it. Returns the worker
+        (address, folder), its fault, and what `solve` does. If it solves KNOWN, first tells those who asked for the
+        topic."""
         from distributed import get_worker
         worker, record, why = get_worker(), b"", ""
         name = worker.address, worker.local_directory
-        key, tasks = worker.get_current_task(), getattr(worker, "state", worker).tasks
+        state = getattr(worker, "state", worker)
+        key, tasks, most = worker.get_current_task(), state.tasks, state.nthreads
         try:
             if not self.test():
                 worker.log_event(topic, name)
-                record, why = self.solve(self.program, text, most,
+                record, why = self.solve(self.program, text, min(threads, most), seconds,
                                          lambda: getattr(tasks.get(key), "state", None) == "executing")
-            if why:
+            if why and not why.startswith(LATE):
                 self.test(is_due=True)
         except Exception as fault:  # such as a lack of memory
             self.fault = repr(fault)
@@ -167,44 +124,49 @@ class Pack:
         KNOWN_SECONDS, with the results in the task's "known", where the first ones are noted."""
         if sha256(Path(program).read_bytes()) not in self.task["files"].values():
             return "is damaged"
-        end = time.monotonic() + KNOWN_SECONDS
-        record, why = self.solve(program, KNOWN, is_wanted=lambda: time.monotonic() < end)
-        if time.monotonic() > end:
+        record, why = self.solve(program, KNOWN, seconds=KNOWN_SECONDS)
+        if why.startswith(LATE):
             return f"needs more than {KNOWN_SECONDS} seconds for a known line"
-        results = record.partition(b"\n")[2].partition(b"\n")[2].decode("latin-1")
-        if not record or results == self.task["known"].setdefault(digest_of(self.task, KNOWN), results):
+        results = record.partition(KNOWN)[2].decode()
+        self.task["known"] = self.task["known"] or results
+        if not record or results == self.task["known"]:
             return why and f"can't solve a known line: {why}"
         return "solves a known line wrong"
 
-    def solve(self, program: str, text: bytes, most: Optional[int] = None,
+    def solve(self, program: str, text: bytes, threads: int = 1, seconds: Optional[float] = None,
               is_wanted: Callable[[], bool] = lambda: True) -> Tuple[bytes, str]:
-        """Solves the lines `text` of a part with the program of that path, and kills it once `is_wanted` returns false.
-        Returns (record, "") or, if the program fails, (b"", the reason). A record has the results under their digest.
-        For `most`, see `digest_of`."""
+        """Solves lines with the program of that path, and kills it after some `seconds`, or once `is_wanted` returns
+        false. Returns (record, "") or, if the program fails, (b"", the reason). A record is sealed, and has a line of
+        JSON, the lines, what the program printed and any book; "sizes" in the JSON are those of the first two."""
         task, start = self.task, time.monotonic()
-        given = {**task["options"], **task["speed"], "--book-in": self.files.get("book-in")}
+        given = {**task["options"], **task["speed"], "--workers": threads - 1, "--book-in": self.files.get("book-in")}
         words = [name if value == "" else f"{name}={value}" for name, value in given.items() if value is not None]
         command = ["choom", "-n", "1000", "--", *GUARD, program, *words]  # out of memory, it is killed first
-        has_book = task["program"] == "ffosolve"
+        has_book, end = task["program"] == "ffosolve", start + (seconds or 1e9)
+        output = errors = b""
         try:  # after a timeout, `communicate` loses the rest of the input, so the lines are a file
             with unnamed(text) as lines, unnamed(b"") as book:
                 command += [f"--book-out={place_of(book.fileno())}"] * has_book
                 process = Popen(command, start_new_session=True, stdin=lines, stdout=PIPE, stderr=PIPE)
                 while process.returncode is None:
                     try:
-                        output, errors = process.communicate(timeout=0.5)
+                        output, errors = process.communicate(timeout=max(0.01, min(0.5, end - time.monotonic())))
                     except TimeoutExpired:
-                        if not is_wanted():
+                        if time.monotonic() >= end or not is_wanted():
                             process.kill()
-                results = output + book.read()
+                            end = -1 if time.monotonic() >= end else end
+                book_text = book.read()
         except OSError as fault:
-            return b"", without_folder(f"{fault.filename or 'part'}: {fault.strerror}")
+            return b"", without_folder(f"{fault.filename or 'batch'}: {fault.strerror}")
         status = process.returncode
+        if end < 0:
+            return b"", f"{LATE}{seconds} s"
         if status not in ((0,) if has_book else (0, 1)):
             name = f"status {status}" if status >= 0 else f"killed by {signal.Signals(-status).name}"
             return b"", without_folder((errors.decode(errors="replace").strip() or name).splitlines()[0])
-        head = b"%d %d %.3f\n" % (status, len(output), time.monotonic() - start)
-        return sealed(digest_of(task, text, most), head + results), ""
+        about = {"program": task["program"], "options": task["options"], "sizes": [len(text), len(output)],
+                 "seconds": time.monotonic() - start}
+        return sealed(json.dumps(about).encode() + b"\n" + text + output + book_text), ""
 
 
 def content_of(path: Path) -> bytes:
@@ -216,8 +178,8 @@ def content_of(path: Path) -> bytes:
 
 
 def read_task(folder: Path) -> Task:
-    """Returns the task in a folder, or {} if its file is missing, damaged, or of an earlier version."""
-    return dict(json.loads(unsealed(FORM, content_of(folder / "task")) or b"{}"))
+    """Returns the task that --cut left in a folder, or {} if it is missing, damaged, or of another version."""
+    return dict(json.loads(unsealed(content_of(folder / "task")) or b"{}"))
 
 
 @functools.lru_cache(maxsize=None)
@@ -232,25 +194,25 @@ def without_folder(message: str) -> str:
     return re.sub("/proc/[0-9]+/fd/[0-9]+/", "", message)
 
 
-def parts_in(words: List[str], count: int) -> Set[int]:
-    """Returns the parts that `words` name, such as 0000003 or 0-99. Raises ValueError for a word that names none."""
+def numbers_in(words: List[str], count: int) -> Set[int]:
+    """Returns the numbers below `count` in `words` such as 0000003 or 0-99. Raises ValueError for a word without."""
     found = [re.fullmatch("([0-9]{1,7})(?:-([0-9]{1,7}))?", word) for word in words]
     ranges = [range(int(word[1]), min(count, int(word[2] or word[1]) + 1)) for word in found if word]
-    if not words or len(ranges) < len(words) or not all(ranges):
-        raise ValueError(f"name parts from 0 to {count - 1}, such as 0-{count - 1}: '{' '.join(words)}'")
-    return {part for some in ranges for part in some}
+    if not words or len(ranges) < len(words) or count and not all(ranges):
+        raise ValueError(f"name batches from 0 to {count - 1}, such as 0-{count - 1}: '{' '.join(words)}'")
+    return {number for some in ranges for number in some}
 
 
 def solve_into(folder: Path, mode: int, pack: Pack, text: bytes) -> str:
-    """Solves a part unless its record is in the folder of results. Returns "", or why it isn't. A new file takes the
-    place of a damaged one, or of a link. Makes room for the record first, so that no part is solved in vain."""
-    path = folder / digest_of(pack.task, text)
+    """Solves a batch unless its record is in the folder. Returns "", or why it isn't. A new file takes the place of a
+    damaged one, or of a link. Makes room for it first, so that no batch is solved in vain."""
+    path = folder / sha256(json.dumps([pack.task["program"], pack.task["options"]]).encode() + text)
     new = f"{path}.{os.urandom(4).hex()}.new"
     try:
-        if path.is_file() and path.stat().st_size < MOST_READ and read_record(path.name, path.read_bytes()):
+        if path.is_file() and path.stat().st_size < MOST_READ and unsealed(path.read_bytes()):
             return ""
         with open(os.open(new, os.O_WRONLY | os.O_CREAT | os.O_EXCL, 0o600), "wb") as file:
-            os.posix_fallocate(file.fileno(), 0, 4 * len(text) + 1000)
+            os.posix_fallocate(file.fileno(), 0, 5 * len(text) + 2000)
             record, why = pack.solve(pack.program, text)
             file.truncate(file.write(record))
             os.fchmod(file.fileno(), mode)
@@ -265,21 +227,22 @@ def solve_into(folder: Path, mode: int, pack: Pack, text: bytes) -> str:
 
 
 def main(folder: Path, words: List[str]) -> Iterator[str]:
-    """Solves parts of the list in a run's folder, unless they are solved. Yields an error for each that fails."""
+    """Solves batches in a folder, unless that is done. Yields an error for each that fails."""
     place = opened(folder)
     task = read_task(place)
     if not task:
-        raise ValueError(f"{folder / 'task'} is damaged: run ffosolve-many again")
-    parts, pack = parts_in(words, task["parts"]), Pack("", task, {}, place)
+        raise ValueError(f"{folder / 'task'} is damaged: run ffosolve-many --cut again")
+    numbers = numbers_in(words, task["batches"])
+    pack = Pack("", task, {name: (place / name).read_bytes() for name in task["files"]})
     if pack.test():
         raise ValueError(pack.fault)
-    with (place / "list").open("rb") as source:
-        mode = os.fstat(source.fileno()).st_mode & 0o644
-        for part, lines in zip(range(1 + max(parts)), parts_of(source, task["lines"])):
-            if part in parts:
-                why = solve_into(place / "results", mode, pack, b"".join(lines))
-                if why:
-                    yield f"part {part:07d}: {without_folder(why)}"
+    for number in sorted(numbers):
+        path = place / "batches" / f"{number:07d}"
+        if path.exists():  # otherwise, its results have been taken
+            text, mode = unsealed(content_of(path)), path.stat().st_mode & 0o644
+            why = solve_into(place / "results", mode, pack, text) if text else "it is damaged: run --cut again"
+            if why:
+                yield f"batch {number:07d}: {without_folder(why)}"
 
 
 if __name__ == "__main__":
