@@ -485,9 +485,8 @@ def test_a_long_line_is_refused_without_reading_it_all(words, before, out):
     ("compare text it.wtb --fix=-", "--fix takes a file or a folder, not standard output"),
     ("compare text it.wtb --real", "--real goes with --fix"),
     *((f"{it}=2", f"{it.split()[-1]} goes with check, which has to be the first word")
-      for it in ("compare text it.wtb --jobs", "it.wtb --folder", "it.wtb --max-empties", "it.wtb --lines")),
+      for it in ("compare text it.wtb --jobs", "it.wtb --folder", "it.wtb --max-empties")),
     ("check it.wtb --max-empties=61", "--max-empties: takes a number from 0 to 60, not '61'"),
-    *((f"check it.wtb --lines={it}", f"--lines: takes a number from 1 to 10000, not '{it}'") for it in ("0", "10001")),
     ("check", "check takes WTHOR files"),
     ("fix it.wtb", "fix is now the option --fix PLACE of check and compare"),
     ("check it.wtb --cut --fix new.wtb", "--fix does not go with --cut"),

@@ -375,7 +375,8 @@ def test_zsh_completes_options_values_files_and_commands_and_describes_options_i
              "ffosolve-games com": "ffosolve-games compare", "ffosolve-games che": "ffosolve-games check",
              "ffosolve-games compare com": "ffosolve-games compare com", "ffosolve-many com": "ffosolve-many com",
              "ffosolve-games compare --re": "ffosolve-games compare --real",
-             "ffosolve-many --jobs k": "ffosolve-many --jobs k", "ffosolve-games --lines k": "ffosolve-games --lines k"}
+             "ffosolve-many --jobs k": "ffosolve-many --jobs k",
+             "ffosolve-games --max-empties k": "ffosolve-games --max-empties k"}
     before = f"fpath=('{texts}/share/zsh/site-functions' $fpath)"
     assert completed_by_zsh(lines, before=before)[0] == list(lines.values())
     for name in COMMANDS:
