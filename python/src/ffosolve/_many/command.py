@@ -1,6 +1,7 @@
 """Runs ffosolve-many: reads its command line, and then solves a list and prints the results, or merges books."""
 import argparse
 import contextlib
+import gc
 import io
 import itertools
 import os
@@ -293,6 +294,8 @@ def merge_books(command: argparse.Namespace, programs: str) -> int:
 
 def main() -> None:
     """Runs ffosolve-many, and ends this process. ffosolve and ffoscores are next to the script that runs."""
+    gc.set_threshold(100_000)  # to look for cycles more often takes a tenth of the time of a large list
+
     def carry_out() -> int:
         command, programs = parse(sys.argv[1:]), os.path.dirname(os.path.realpath(sys.argv[0]))
         return (merge_books if command.merge_books else solve_list)(command, programs)

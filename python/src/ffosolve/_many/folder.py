@@ -15,7 +15,7 @@ from .._obf import SIDE, side_as_read
 from .._text import shown, text_lines, typed
 from .rows import Answer, Keys, answers_in, asked, images_of, without_end
 from .solve import BATCH_BYTES, KNOWN, Pack, Task, content_of, opened, sealed, sha256, unsealed
-from .store import MARK, NAMED, Damaged, Row, Store
+from .store import MARK, NAMED, Damaged, Store
 
 LOCK, SIGN = "run.lock", b"ffosolve-many works here\n"
 GROWTH = 2.35  # factor of the work for each further empty square, as measured from 14 to 22 of them
@@ -233,43 +233,43 @@ class Run:
                 return found
         return None
 
-    def chunks(self) -> Iterator[List[Tuple[int, Answer]]]:
-        """Yields, in pieces, each line's number and answer; for one that is not solved, the row is b"". Raises Damaged
-        if the answer to another line is found."""
-        none: Row = (0, b"", b"", b"")
+    def chunks(self) -> Iterator[Tuple[Sequence[int], List[bytes], List[bytes]]]:
+        """Yields, in pieces, the numbers, rows and entries or remarks of lines; b"" for what there is not. Raises
+        Damaged if the answer to another line is found."""
+        none = 0, b"", b"", b""
         for at in range(0, self.count, CHUNK):
             ids, numbers = self.ids[at:at + CHUNK], self.numbers[at:at + CHUNK]
             rows = self.store.rows({*ids} - {0})
             keys = [rows[one][1] if one else self.key(line) for line, one in enumerate(ids, at)]
             if b"".join(keys) != self.digests[KEY * at:KEY * (at + CHUNK)]:
                 raise Damaged("the answer to another line")
-            yield [(number, (row, more)) for number, (_, _, row, more, *_) in
-                   zip(numbers, (rows.get(one, none) for one in ids))]
+            found = [rows[one] if one else none for one in ids]
+            yield numbers, [row[2] for row in found], [row[3] for row in found]
 
     def report(self, entries: Optional[List[bytes]]) -> Iterator[bytes]:
         """Yields, in pieces, what ffosolve would print if it solved the whole list at once. Adds the packed `entries`
         of its book."""
         refused = unsolved = 0
         yield b"[1]\n"
-        for chunk in self.chunks():
-            missing = sum(not row for _, (row, _) in chunk)
-            unsolved, refused = unsolved + missing, refused + sum(not more for _, (_, more) in chunk) - missing
+        for numbers, rows, found in self.chunks():
+            unsolved, refused = unsolved + rows.count(b""), refused + found.count(b"")
             if entries is not None:
-                entries += [more for _, (_, more) in chunk if more]
-            yield b"".join([b"%d %b\n" % (number, row or b"unsolved") for number, (row, _) in chunk])
+                entries += filter(None, found)
+            yield b"".join([b"%d %b\n" % (number, row or b"unsolved") for number, row in zip(numbers, rows)])
+        refused -= unsolved
         end = b" unsolved %d" % unsolved if unsolved else b""
         yield b"solved %d refused %d%b\n" % (self.count - refused - unsolved, refused, end)
 
     def scores(self) -> Iterator[bytes]:
         """Yields, in lines, what ffoscores would print. Notes its status. Refuses a list that has changed."""
-        answers = itertools.chain.from_iterable(self.chunks())
-        place, (row, more) = next(answers, (0, (b"", b"")))
+        answers = itertools.chain.from_iterable(zip(*chunk) for chunk in self.chunks())
+        place, row, more = next(answers, (0, b"", b""))
         self.list.seek(0)
         for number, line in enumerate(itertools.islice(self.list, self.size), 1):
             text = without_end(line)
             if number == place:
                 text, self.status = row or b"% unsolved: " + text, self.status or len(more)
-                place, (row, more) = next(answers, (0, (b"", b"")))
+                place, row, more = next(answers, (0, b"", b""))
             yield text + b"\n"
         if os.fstat(self.list.fileno()).st_mtime_ns != self.about.st_mtime_ns:
             raise Refusal(f"{self.name} has changed meanwhile; the same command goes on with what is solved")

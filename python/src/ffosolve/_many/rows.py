@@ -88,15 +88,17 @@ def rows_in(output: bytes, book: bytes, lines: List[Asked]) -> List[Answer]:
     found: List[Answer] = []
     used: Set[bytes] = set()
     for number, (text, squares, side, _) in enumerate(lines, 1):
-        place, _, row = next(rest, b"").partition(b" ") if text else (b"%d" % number, b"", b"refused: ")
-        image = next(filter(entries.__contains__, images_of(squares, side)), b"") if squares else b""
-        entry = b"" if row.startswith(b"refused: ") else entries.get(image, b"")
-        used.add(image if entry else b"")
+        entry, (place, _, row) = b"", next(rest, b"").partition(b" ") if text else (b"%d" % number, b"", b"refused: ")
+        if not row.startswith(b"refused: "):
+            image = next(filter(entries.__contains__, images_of(squares, side)), b"") if squares else b""
+            entry = entries.get(image, b"")
+            used.add(image)
+            if not entry or entry[20:23] != row[:3]:
+                raise ValueError("a row without its entry")
+        if place != b"%d" % number:
+            raise ValueError("a row of another line")
         found.append((row, entry))
-        is_refused = row.startswith(b"refused: ")
-        if place != b"%d" % number or not (is_refused or entry) or entry and entry[20:23] != row[:3]:
-            raise ValueError("a row of another line, or without its entry")
-    if head != b"[1]" or nothing or not end.startswith(b"solved ") or [*rest] or len(used - {b""}) != len(entries):
+    if head != b"[1]" or nothing or not end.startswith(b"solved ") or [*rest] or len(used) != len(entries):
         raise ValueError("another number of rows, or an entry without a row")
     return found
 

@@ -32,9 +32,10 @@ def sum_of(number: int, key: bytes, row: bytes, more: bytes) -> int:
 
 
 def is_whole(row: Row) -> bool:
-    with contextlib.suppress(TypeError):  # a column has no bytes
+    try:
         return bool(row[4] == sum_of(*row[:4]))
-    return False
+    except TypeError:  # a column has no bytes
+        return False
 
 
 class Store:
@@ -131,7 +132,7 @@ class Store:
         with self.checked():
             for some in (ordered[at:at + AT_ONCE] for at in range(0, len(ordered), AT_ONCE)):
                 marks = ",".join("?" * len(some))
-                yield from self.db.execute(f"SELECT {what} FROM answers WHERE {column} IN ({marks})", some)
+                yield from self.db.execute(f"SELECT {what} FROM answers WHERE {column} IN ({marks})", some).fetchall()
 
     def ids_of(self, keys: Collection[bytes]) -> Dict[bytes, int]:
         """Returns {key: id} for those keys that have a row. `rows` checks that they are right."""
@@ -139,10 +140,10 @@ class Store:
 
     def rows(self, ids: Collection[int]) -> Dict[int, Row]:
         """Returns {id: row} for ids from `ids_of`, each with all its columns, read from the table itself."""
-        rows = {row[0]: row for row in self.selected("*", "id", ids)}
-        if len(rows) < len(ids) or not all(map(is_whole, rows.values())):
+        rows = [*self.selected("*", "id", ids)]
+        if len(rows) < len(ids) or not all(map(is_whole, rows)):
             raise Damaged("a row is wrong or missing")
-        return rows
+        return {row[0]: row for row in rows}
 
     def add(self, answers: Iterable[Tuple[bytes, Tuple[bytes, bytes]]]) -> int:
         """Writes each (key, (row, more)) whose key has no row, in one transaction. Returns the first id; `rows` finds
