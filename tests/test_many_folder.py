@@ -245,14 +245,14 @@ def copies(folder, count):
 
 LOCK, FLIPS = folder.LOCK, 40
 PAGE = 4096
-LEAF, INDEX = b"\r", (b"\2", b"\n")  # how a page begins that has rows, and one that has keys alone
+LEAF = b"\r"  # how a page begins that has rows
 
 
 def most_lost(whole, at):
     """Returns how many lines at most may have to be solved again once the byte at that place of a store is wrong."""
     page = whole[at // PAGE * PAGE:][:PAGE]
-    if at < PAGE or page[:1] in INDEX:
-        return 0  # the first page is always the same, and keys are in the table, too
+    if at < PAGE:
+        return 0  # the first page is always the same
     if page[:1] == LEAF and at % PAGE >= int.from_bytes(page[5:7], "big"):
         return 16  # a row, maybe with those that follow it
     return 60
@@ -273,6 +273,7 @@ def test_wrong_bytes_in_the_store_cost_no_more_than_their_rows(case):
     assert found[0] == 59
     for at, count in zip(places, found):
         assert 60 - count <= most_lost(whole, at), at
+    assert sum(60 - count for count in found) < 5 * FLIPS
     assert all_right(case, names, each(case.MANY, names, *EACH_WORDS)) == [60] * FLIPS
 
 
