@@ -198,7 +198,6 @@ def run_of(command: argparse.Namespace, programs: str) -> Run:
 
 def print_cut(run: Run) -> int:
     """Prints how many lines are solved, and the command that solves the others. Returns a status."""
-    run.prepare()
     groups = itertools.groupby(enumerate(run.write_batches()), lambda pair: pair[1] - pair[0])
     ranges = [[number for _, number in group] for _, group in groups]
     words = [f"{one[0]}-{one[-1]}" if one[1:] else str(one[0]) for one in ranges]
@@ -214,8 +213,9 @@ def solve(command: argparse.Namespace, run: Run) -> None:
     if not command.quiet and not command.cut:
         say(f"{run.name}: {counted(run.count, 'line')}, {run.count - run.unsolved} of them solved before; folder "
             f"{shown(run.folder)}")
-    if run.unsolved and not command.cut:
+    if run.unsolved or command.cut:
         run.prepare()
+    if run.unsolved and not command.cut:
         if command.scheduler:
             from .cluster import Cluster
             engine: Engine = Cluster(command.scheduler, run)
