@@ -1,9 +1,7 @@
 """Merges books."""
-import heapq
-import itertools
+import io
 import re
-from operator import itemgetter
-from typing import Any, BinaryIO, Iterable, Iterator, List, Tuple
+from typing import Dict, Iterable, Iterator, Tuple
 
 from .._command_line import MISUSED, Refusal
 from .._obf import BLACK, WHITE
@@ -36,25 +34,23 @@ def entries_of(name: str, lines: Iterable[bytes]) -> Iterator[Tuple[Tuple[int, i
         yield masks, name, number, text
 
 
-def merged(books: Iterable[Tuple[str, BinaryIO]]) -> Iterator[bytes]:
-    """Yields the lines of one book with all positions of `books`, each a name and a file. Refuses two scorings, and
+def merged(books: Iterable[Tuple[str, bytes]]) -> Iterator[bytes]:
+    """Yields the lines of one book with all positions of `books`, each a name and a content. Refuses two scorings, and
     lines that disagree. Raises ValueError where `entries_of` does."""
-    entries: List[Iterator[Any]] = []
+    kept: Dict[Tuple[int, int], Tuple[str, int, bytes]] = {}
     first_name = first_scoring = ""
-    for name, book in books:
-        header = book.readline().decode("latin-1").rstrip()
-        book.seek(0)
+    for name, content in books:
+        lines = [*io.BytesIO(content)]
+        header = lines[0].decode("latin-1").rstrip() if lines else ""
         scoring = re.sub(f"^{BOOK_HEADER}", "", header) if header.startswith("% ffobook ") else "winner"
         first_name, first_scoring = first_name or name, first_scoring or scoring
         if scoring != first_scoring:
             raise Refusal(f"{first_name} has the scoring {first_scoring} and {name} {scoring}: only books of one "
                           "scoring can be merged", MISUSED)
-        entries.append(entries_of(name, book))
-    yield f"{BOOK_HEADER}{first_scoring}\n".encode()
-    for _, (kept, *others) in itertools.groupby(heapq.merge(*entries, key=itemgetter(0)), itemgetter(0)):
-        _, name, number, text = kept
-        for _, other, place, line in others:
+        for masks, _, place, line in entries_of(name, lines):
+            first, number, text = kept.setdefault(masks, (name, place, line))
             if line != text:
-                raise Refusal(f"{name} line {number} and {other} line {place} disagree: {text[:-1].decode()} and "
+                raise Refusal(f"{first} line {number} and {name} line {place} disagree: {text[:-1].decode()} and "
                               f"{line[64:-1].decode().strip()}")
-        yield text
+    yield f"{BOOK_HEADER}{first_scoring}\n".encode()
+    yield from (text for _, (_, _, text) in sorted(kept.items()))

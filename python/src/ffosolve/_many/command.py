@@ -2,7 +2,6 @@
 import argparse
 import contextlib
 import gc
-import io
 import itertools
 import os
 import re
@@ -199,7 +198,6 @@ def run_of(command: argparse.Namespace, programs: str) -> Run:
 
 def print_cut(run: Run) -> int:
     """Prints how many lines are solved, and the command that solves the others. Returns a status."""
-    run.prepare()
     groups = itertools.groupby(enumerate(run.write_batches()), lambda pair: pair[1] - pair[0])
     ranges = [[number for _, number in group] for _, group in groups]
     words = [f"{one[0]}-{one[-1]}" if one[1:] else str(one[0]) for one in ranges]
@@ -215,8 +213,9 @@ def solve(command: argparse.Namespace, run: Run) -> None:
     if not command.quiet and not command.cut:
         say(f"{run.name}: {counted(run.count, 'line')}, {run.count - run.unsolved} of them solved before; folder "
             f"{shown(run.folder)}")
-    if run.unsolved and not command.cut:
+    if run.unsolved or command.cut:
         run.prepare()
+    if run.unsolved and not command.cut:
         if command.scheduler:
             from .cluster import Cluster
             engine: Engine = Cluster(command.scheduler, run)
@@ -251,6 +250,12 @@ def found_results(command: argparse.Namespace, run: Run) -> Tuple[IO[bytes], Lis
     raise Refusal(f"{shown(run.store.name)} is damaged again and again: is its disk sound?")
 
 
+def refuse_unsolved(run: Run) -> None:
+    if run.unsolved:
+        raise Refusal(f"not solved: {run.unsolved} of {counted(run.count, 'line')}. The same command solves only these",
+                      UNREADABLE if run.keys.is_scores else REMARKED)
+
+
 def solve_list(command: argparse.Namespace, programs: str) -> int:
     """Solves a command's list, prints results, writes any --book-out; --cut: only cuts the list. Returns the status."""
     if command.scheduler:
@@ -260,14 +265,14 @@ def solve_list(command: argparse.Namespace, programs: str) -> int:
         report, entries = found_results(command, run)
         if command.cut:
             return print_cut(run)
+        if not command.partial:
+            refuse_unsolved(run)
         print_all(iter(lambda: report.read(1 << 20), b""))
-        if command.book_out and (command.partial or not run.unsolved):
+        if command.book_out:
             header = f"{BOOK_HEADER}{run.task['options']['--scoring']}\n".encode()
             distinct = (unpacked(entry) for entry, _ in itertools.groupby(entries))
             replace(command.book_out, itertools.chain([header], distinct))
-        if run.unsolved:
-            raise Refusal(f"not solved: {run.unsolved} of {counted(run.count, 'line')}. The same command solves only "
-                          "these", UNREADABLE if command.scores else REMARKED)
+        refuse_unsolved(run)
         if command.prune:
             run.prune()
     return run.status
@@ -282,7 +287,7 @@ def merge_books(command: argparse.Namespace, programs: str) -> int:
     program = Path(programs, "ffosolve")
     books = [(shown(name), regular(name).read_bytes()) for name in command.words]
     try:
-        whole = b"".join(merged((name, io.BytesIO(content)) for name, content in books))
+        whole = b"".join(merged(books))
         check_book(program, "the merged book", whole)
     except (ValueError, Refusal):
         for name, content in books:

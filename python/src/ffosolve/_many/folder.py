@@ -231,7 +231,13 @@ class Run:
             found = answers_in(record)
             if [*found[0]] == [self.key(line) for line in batch.lines]:
                 return found
+            self.refuse_change()
         return None
+
+    def refuse_change(self) -> None:
+        """Refuses a list that has been written since it was read."""
+        if os.fstat(self.list.fileno()).st_mtime_ns != self.about.st_mtime_ns:
+            raise Refusal(f"{self.name} has changed meanwhile; the same command goes on with what is solved")
 
     def chunks(self) -> Iterator[Tuple[Sequence[int], List[bytes], List[bytes]]]:
         """Yields, in pieces, the numbers, rows and entries or remarks of lines; b"" for what there is not. Raises
@@ -271,8 +277,7 @@ class Run:
                 text, self.status = row or b"% unsolved: " + text, self.status or len(more)
                 place, row, more = next(answers, (0, b"", b""))
             yield text + b"\n"
-        if os.fstat(self.list.fileno()).st_mtime_ns != self.about.st_mtime_ns:
-            raise Refusal(f"{self.name} has changed meanwhile; the same command goes on with what is solved")
+        self.refuse_change()
 
     def write_batches(self) -> List[int]:
         """Writes solve.py and what it needs to solve the lines that are not solved, in batches. Returns their numbers.

@@ -22,7 +22,7 @@ WALKED, SKIPPED, MOST_SKIPS = 50, 15, 10_000  # of a damaged table: rows that ar
 Row = Tuple[Any, ...]  # id, key, row, more, sum
 
 
-class Damaged(Exception):
+class Damaged(Refusal):
     """The database is damaged, and has to be made anew: see `Store.make_anew`."""
 
 
@@ -68,7 +68,7 @@ class Store:
         except (sqlite3.Error, UnicodeError, OverflowError) as why:
             if re.search("full|I/O|locked", str(why)) or not self.writes:
                 raise Refusal(f"cannot {'write' if self.writes else 'read'} {shown(self.name)}: {why}") from None
-            raise Damaged(str(why)) from None
+            raise Damaged(f"{shown(self.name)} is damaged: {why}") from None
 
     def opened(self, suffix: str = "") -> sqlite3.Connection:
         """Returns an open database. Notes the number of its next row."""
