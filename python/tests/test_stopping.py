@@ -443,7 +443,7 @@ def test_an_ended_process_is_reported_and_the_next_call_starts_another(name, thr
 @on_threads
 @pytest.mark.parametrize("does, timeout, error, why", [
     ("kill -9 $$", None, ChildProcessError, "the process that solved was ended by signal 9"),
-    ("exec sleep 600", 0.3, TimeoutError, "not finished within 0.3 seconds")])
+    ("exec sleep 600", 0.3, TimeoutError, "not finished within 0.3 seconds; positions solved: 0 of 2")])
 def test_a_call_stops_if_its_program_does_not_tell_its_version(does, timeout, error, why, threads, tmp_path):
     library = with_programs(tmp_path, None)
     (tmp_path / "bin/ffosolve").write_text(f"#!/bin/sh\n{does}\n")
