@@ -367,7 +367,7 @@ def test_a_kill_at_any_line_of_the_store_loses_nothing_that_was_stored(case):
 
 def test_a_full_disk_ends_the_run_and_it_goes_on_with_what_was_stored(case):
     """At a limit on the size of files, each write beyond it fails: of a new store, and of one that is made anew."""
-    sizes, limit = range(2048, 24576, 2048), "import resource, signal\nsignal.signal(signal.SIGXFSZ, signal.SIG_IGN)\n"
+    sizes, limit = range(4096, 24576, 4096), "import resource, signal\nsignal.signal(signal.SIGXFSZ, signal.SIG_IGN)\n"
     limit += "resource.setrlimit(resource.RLIMIT_FSIZE, (BYTES, resource.RLIM_INFINITY))\n"
     case.write_list(case.SMALL + positions(60, 2, 4, 9))
     case.many("done", *WORDS[1:])
@@ -378,7 +378,8 @@ def test_a_full_disk_ends_the_run_and_it_goes_on_with_what_was_stored(case):
         names = copies(place, len(sizes))
         for name, size in zip(names, sizes):
             write(f"{name}/prepare.py", limit.replace("BYTES", str(size)))
-        for name, (status, report, told) in zip(names, each(case.ACTS, names, *EACH_WORDS[:3])):
+        brief = case.install("brief", *BRIEF)
+        for name, (status, report, told) in zip(names, each(brief, names, *EACH_WORDS[:3])):
             assert (status, report) in ((0, case.one), (3, b"")), told
             assert status == 0 or re.search(r"^ffosolve-many: cannot write work(/answers)?: .*\n\Z", told, re.M), told
             os.unlink(f"{name}/prepare.py")
