@@ -84,7 +84,8 @@ def rows_in(output: bytes, book: bytes, lines: List[Asked]) -> List[Answer]:
     """Returns the answer of ffosolve to each line. An entry of the book belongs to the lines with one of its images."""
     head, *rows, end, nothing = output.split(b"\n") if output.count(b"\n") > 1 else [b""] * 3
     rest = iter(rows)
-    entries = {entry[:64]: packed(entry) for entry in book.split(b"\n")[1:-1]}
+    listed = book.split(b"\n")[1:-1]
+    entries = dict(zip([entry[:64] for entry in listed], packed(listed)))
     found: List[Answer] = []
     used: Set[bytes] = set()
     for number, (text, squares, side, _) in enumerate(lines, 1):
@@ -103,11 +104,12 @@ def rows_in(output: bytes, book: bytes, lines: List[Asked]) -> List[Answer]:
     return found
 
 
-def packed(entry: bytes) -> bytes:
-    """Returns a line of a book as the masks of X's and of O's squares, 8 bytes each, whose order is that of a book, and
-    its claims."""
-    board = entry[63::-1]
-    return b"".join([int(board.translate(bits), 2).to_bytes(8, "big") for bits in (BLACK, WHITE)]) + entry[67:]
+def packed(entries: List[bytes]) -> List[bytes]:
+    """Returns lines of a book, each as the masks of X's and of O's squares, 8 bytes each, whose order is that of a
+    book, and its claims."""
+    squares = b"".join([entry[63::-1] for entry in entries]) or b"-"  # one number for all is made sooner than many
+    own, other = (int(squares.translate(bits), 2).to_bytes(8 * len(entries), "big") for bits in (BLACK, WHITE))
+    return [own[at:at + 8] + other[at:at + 8] + entry[67:] for at, entry in zip(range(0, len(own), 8), entries)]
 
 
 @functools.lru_cache(maxsize=None)

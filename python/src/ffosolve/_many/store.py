@@ -107,7 +107,10 @@ class Store:
         self.db = self.opened()
 
     def close(self) -> None:
+        """Closes the database, and removes the journal that a killed process may have left: it is of no use now."""
         self.db.close()
+        if self.writes:
+            Path(f"{self.path}-journal").unlink(missing_ok=True)
 
     def walk(self) -> Iterator[List[Row]]:
         """Yields the intact rows. Passes over what can't be read, and never back, as a damaged tree may lead."""
