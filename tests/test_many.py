@@ -153,11 +153,11 @@ def test_a_book_that_cannot_be_written_keeps_its_old_content(case):
 
 
 def test_a_book_that_cannot_be_written_is_refused_before_a_scheduler_is_asked(case):
-    pythons = sys.executable, "/usr/bin/python3"
-    if all(run(python, "-c", "import distributed").returncode for python in pythons):
+    how = {"timeout": 3 * SECONDS}  # for Python to import Dask
+    if run(case.MANY, "--scheduler=none", *WORDS[:2], **how).returncode == 4:
         pytest.skip("distributed is missing (Debian: python3-distributed)")
     for name in ("none/book", "."):
-        case.refused(3, f"cannot write {name}: ", "--scheduler=tcp://127.0.0.1:1", *WORDS[:3], name)
+        case.refused(3, f"cannot write {name}: ", "--scheduler=none", *WORDS[:3], name, **how)
 
 
 def test_progress_rises_in_a_log_and_on_a_terminal(case):
@@ -366,6 +366,8 @@ def test_a_lack_of_memory_is_told_without_a_traceback(case):
         told = ran.stderr.decode()
         assert ran.returncode in (1, 3) and "Traceback" not in told
         assert re.search("^ffosolve-many: .*memory.*\n", told.splitlines(True)[-1])
+    by = case.install("forgetful", ("command", "    run = run_of(command, programs)\n", "    raise MemoryError\n"))
+    case.many(*WORDS, by=by, status=3, message="ffosolve-many: out of memory\n")
 
 
 @pytest.mark.parametrize("name", ["ffosolve-many", "ffosolve-games"])
@@ -558,6 +560,24 @@ def test_a_line_that_has_failed_twice_is_tried_once_more_after_all_others_alone(
     assert capfd.readouterr().err.endswith("ffosolve: not solved: line 1: why\n")
     one.run.look_up()
     assert one.run.unsolved == 1
+
+
+def test_after_ten_lines_that_fail_no_more_are_looked_for(folder, capfd):
+    """Seven others may have been cut with the tenth."""
+    one, sent = work(b"".join(b"FAIL %d\n" % number for number in range(900)) + EASY[:500]), []
+
+    def send(batch, text, threads, failed):
+        sent.append(batch.lines)
+        done, fails = Future(), b"FAIL" in text
+        found = {one.run.key(line): (b"1", b"") for line in batch.lines}, 1
+        done.set_result((batch, None if fails else found, "why" if fails else "", ["h1"]))
+        return done
+
+    one.engine.send = send
+    engine.solve_lines(one.run, one.engine, quiet=True)
+    named = re.findall(r"not solved: (line \d+)( and \d+ others?)?: why\n", capfd.readouterr().err)
+    assert 10 <= sum(not others for _, others in named) <= 17
+    assert len(named) < 60 and len(sent) < 300
 
 
 def test_trouble_is_told_at_once_in_a_log_and_again_after_a_minute(folder, clock, monkeypatch):
