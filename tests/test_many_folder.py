@@ -378,8 +378,7 @@ def test_a_full_disk_ends_the_run_and_it_goes_on_with_what_was_stored(case):
         names = copies(place, len(sizes))
         for name, size in zip(names, sizes):
             write(f"{name}/prepare.py", limit.replace("BYTES", str(size)))
-        brief = case.install("brief", *BRIEF)
-        for name, (status, report, told) in zip(names, each(brief, names, *EACH_WORDS[:3])):
+        for name, (status, report, told) in zip(names, each(case.ACTS, names, *EACH_WORDS[:3])):
             assert (status, report) in ((0, case.one), (3, b"")), told
             assert status == 0 or re.search(r"^ffosolve-many: cannot write work(/answers)?: .*\n\Z", told, re.M), told
             os.unlink(f"{name}/prepare.py")
@@ -536,7 +535,9 @@ def test_files_that_others_may_not_read_stay_so_in_the_store_and_after_cut(case)
     case.many("new", *WORDS[1:], by=watching, message="0o100600\n")
     with open("new/answers", "r+b") as file:
         file.write(b"?")
-    case.many("new", *WORDS[1:], message=LOST.format(60))
+        file.flush()
+        case.many("new", *WORDS[1:], message=LOST.format(60))
+        assert os.fstat(file.fileno()).st_nlink == 0  # another file has taken its place as a whole
     os.chmod("list.obf", 0o644)
     case.many("--prune", "new", *WORDS[1:])
     assert stat.S_IMODE(os.stat("new/answers").st_mode) == 0o600
