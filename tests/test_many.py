@@ -246,7 +246,6 @@ def test_a_batch_gets_more_threads_when_fewer_wait_than_jobs_could_solve(case):
     (2, "--jobs is not an option of --scheduler", "list.obf", "--scheduler=tcp://h1:8786", "--jobs=3"),
     (2, "--cut is not an option of --scheduler", "list.obf", "--scheduler=tcp://h1:8786", "--cut"),
     (2, "--prune is not an option of --cut", "list.obf", "--prune", "--cut"),
-    (2, "--partial is not an option of --cut", "list.obf", "--partial", "--cut"),
     (2, "--each is not an option of --cut", "list.obf", "--cut", "--each=5"),
     (2, "--book-out out is standard output", "list.obf", "--book-out", "out"),
     (2, "--book-out ./list.obf is the list", "list.obf", "--book-out", "./list.obf"),

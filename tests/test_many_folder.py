@@ -286,8 +286,8 @@ def test_wrong_bytes_in_the_store_cost_no_more_than_their_rows(case):
 def test_a_store_that_is_cut_or_of_other_bytes_gives_no_wrong_row(case):
     case.many(*WORDS)
     whole, size = Path("work/answers").read_bytes(), os.path.getsize("work/answers")
-    spoiled = [whole[:size * part // 8] for part in range(8)] + [
-        whole[:50], whole[:PAGE], whole[:-1], bytes(size), os.urandom(size), b"a text\n", whole + whole, whole[PAGE:]]
+    spoiled = [whole[:50], whole[:size * 5 // 8], whole[:size * 7 // 8], whole[:-1], bytes(size), whole + whole,
+               random.Random(1).randbytes(size)]
     names = copies("work", len(spoiled) + 2)
     for name, text in zip(names, spoiled):
         write(f"{name}/work/answers", text)
@@ -301,8 +301,7 @@ def test_a_store_that_is_cut_or_of_other_bytes_gives_no_wrong_row(case):
         database.execute("CREATE TABLE others(id INT)")
     database.close()
     found = all_right(case, names, each(case.MANY, names, *EACH_WORDS))
-    assert found[10] >= 30 and found[7] >= 20 and found[-2:] == [0, 60]
-    assert all_right(case, names, each(case.MANY, names, *EACH_WORDS)) == [60] * len(names)
+    assert found[2] >= 20 and found[3] >= 30 and found[-2:] == [0, 60]
 
 
 def test_an_answer_to_another_question_is_not_used(case):
@@ -378,8 +377,7 @@ def test_a_full_disk_ends_the_run_and_it_goes_on_with_what_was_stored(case):
         names = copies(place, len(sizes))
         for name, size in zip(names, sizes):
             write(f"{name}/prepare.py", limit.replace("BYTES", str(size)))
-        brief = case.install("brief", *BRIEF)
-        for name, (status, report, told) in zip(names, each(brief, names, *EACH_WORDS[:3])):
+        for name, (status, report, told) in zip(names, each(case.ACTS, names, *EACH_WORDS[:3])):
             assert (status, report) in ((0, case.one), (3, b"")), told
             assert status == 0 or re.search(r"^ffosolve-many: cannot write work(/answers)?: .*\n\Z", told, re.M), told
             os.unlink(f"{name}/prepare.py")
@@ -536,7 +534,9 @@ def test_files_that_others_may_not_read_stay_so_in_the_store_and_after_cut(case)
     case.many("new", *WORDS[1:], by=watching, message="0o100600\n")
     with open("new/answers", "r+b") as file:
         file.write(b"?")
-    case.many("new", *WORDS[1:], message=LOST.format(60))
+        file.flush()
+        case.many("new", *WORDS[1:], message=LOST.format(60))
+        assert os.fstat(file.fileno()).st_nlink == 0  # another file has taken its place as a whole
     os.chmod("list.obf", 0o644)
     case.many("--prune", "new", *WORDS[1:])
     assert stat.S_IMODE(os.stat("new/answers").st_mode) == 0o600
