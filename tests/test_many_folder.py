@@ -590,7 +590,8 @@ def test_signals_that_the_caller_ignores_do_not_end_the_run_such_as_that_of_a_te
 def test_control_c_on_a_terminal_is_no_signal_for_the_programs_and_they_end_first_if_memory_is_short(case):
     """Meanwhile, a second command in the folder is refused."""
     ran = at_work(case, 0)
-    case.many(*SIGNALLED, by=case.ACTS, status=3, message="another run works in work\n")
+    case.many(*SIGNALLED, by=case.ACTS, status=3,
+              message="another run works in work: wait for its end, or name another folder\n")
     assert ran.poll() is None
     assert os.getpgid(ran.pid) not in map(os.getpgid, case.programs())
     assert {Path(f"/proc/{number}/oom_score_adj").read_text() for number in case.programs()} == {"1000\n"}
