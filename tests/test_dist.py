@@ -475,8 +475,8 @@ def test_an_empty_debian_upgrades_the_single_package_of_before_and_goes_back(dis
         pytest.skip("a mirror of Debian, or a right that debootstrap needs, is missing")
     for package in packages.values():
         run("dpkg-deb", "-x", package, "one", check=True)
-    fields = f"Package: ffosolve\nVersion: {VERSION}\nArchitecture: amd64\nMaintainer: A <a@b>\nDescription: a\n"
-    provided = ", ".join(f"{name} (= {VERSION})" for name in PACKAGES[1:])
+    fields = "Package: ffosolve\nVersion: 1.1.0\nArchitecture: amd64\nMaintainer: A <a@b>\nDescription: a\n"
+    provided = ", ".join(f"{name} (= 1.1.0)" for name in PACKAGES[1:])
     write("one/DEBIAN/control", f"{fields}Depends: python3\nProvides: {provided}\n")
     run("dpkg-deb", "--root-owner-group", "--build", "one", check=True)
     single = {"ffosolve": folder / "one.deb"}
